@@ -1,0 +1,2 @@
+-- Laws of the definitions, the trials, and the secrecy theorem.
+pub mod Trials

@@ -1,0 +1,141 @@
+-- The checks 1 to 8 of a job's bytes, in order of number. Assumes nothing.
+use Prim.Native.Nat.{ℕ, zero, suc, _+_, _-_, _%_}
+use mathlib.Core.Bool.{Bool, true, false, _&&_, _||_, not, cond}
+use mathlib.Core.Option.{Option, none, some}
+use mathlib.Core.List.{List}
+use lib.ListN.{length}
+use lib.Dec.{leb, ltb, eqb}
+use Rattle.rules.specs.Limits.{maxVariables, maxNodes, maxRecords, maxBytes, trailerSize, variableSize, nodeSize, recordSize, noParent, commandCount, badLength, badOffsets, badCount, badVariable, badParent, badNode, badRecord, badBlock}
+use Rattle.rules.specs.Level.{public, notAbove, isLevel}
+use Rattle.rules.specs.Script.{Row, rowOf}
+use Rattle.rules.specs.Blocks.{blockRule}
+use Rattle.rules.specs.Bytes.{byte, half, full, variablesAt, nodesAt, scriptAt, trailerAt, variableCount, nodeCount, recordCount, variablePlace, nodePlace, recordPlace}
+
+-- 1: not "under 8 or over 23,048 bytes"
+unfoldable pub lengthRule : ℕ → Bool
+lengthRule n = leb trailerSize n && leb n maxBytes
+
+-- from one offset to another stand whole records of a size
+unfoldable pub whole : ℕ → ℕ → ℕ → Bool
+whole size from to = leb from to && eqb ((to - from) % size) 0
+
+-- 2: "0 = variables ≤ nodes ≤ script ≤ trailer = length − 8", and no "part record"
+unfoldable pub offsetRule : List ℕ → Bool
+offsetRule b =
+    eqb (variablesAt b) 0 && eqb (trailerAt b) (length b - trailerSize) && whole variableSize 0 (nodesAt b)
+    && whole nodeSize (nodesAt b) (scriptAt b) && whole recordSize (scriptAt b) (trailerAt b)
+
+-- 3: no "count out of range", of variables, nodes and script records
+unfoldable pub countRule : ℕ → ℕ → ℕ → Bool
+countRule vs ns rs = leb vs maxVariables && leb 1 ns && leb ns maxNodes && leb rs maxRecords
+
+-- 4: no "variable level above 1"
+unfoldable pub variableRule : List ℕ → ℕ → Bool
+variableRule b i = isLevel (byte b (variablePlace i))
+
+module _ (b : List ℕ) (base : ℕ) where
+  -- "0 and 1 parent's index" of node i, in the section that starts at base
+  unfoldable pub parent : ℕ → ℕ
+  parent i = half b (nodePlace base i)
+
+  -- "2 existence"
+  unfoldable pub existence : ℕ → ℕ
+  existence i = byte b (nodePlace base i + 2)
+
+  -- "3 content"
+  unfoldable pub content : ℕ → ℕ
+  content i = byte b (nodePlace base i + 3)
+
+  -- "4 list"
+  unfoldable pub structure : ℕ → ℕ
+  structure i = byte b (nodePlace base i + 4)
+
+  -- 5: "65535 for record 0, the root"; else "A parent comes before its children"
+  unfoldable pub parentRule : ℕ → Bool
+  parentRule i = cond (eqb i 0) (eqb (parent i) noParent) (ltb (parent i) i)
+
+  -- 6: no "level above 1", and "content and list are not below existence"
+  unfoldable pub labelRule : ℕ → Bool
+  labelRule i =
+      isLevel (existence i) && isLevel (content i) && isLevel (structure i) && notAbove (existence i) (content i)
+      && notAbove (existence i) (structure i)
+
+  -- "left means the nearest earlier record with the same parent": the nearest record before i with the parent p
+  unfoldable pub nearest : ℕ → ℕ → Option ℕ
+  nearest p zero = none
+  nearest p (suc i) = cond (eqb (parent i) p) (some i) (nearest p i)
+
+  -- 6: the existence of node i is "not below that of the sibling to its left"
+  unfoldable pub leftRule : ℕ → Option ℕ → Bool
+  leftRule i none = true
+  leftRule i (some j) = notAbove (existence j) (existence i)
+
+  -- 6: "not below its parent's existence, not above its parent's list level", and the rule of its left sibling
+  unfoldable pub childRule : ℕ → Bool
+  childRule i =
+      notAbove (existence (parent i)) (existence i) && notAbove (existence i) (structure (parent i))
+      && leftRule i (nearest (parent i) i)
+
+  -- 6: the rules of one node; "the root has existence 0"
+  unfoldable pub nodeRule : ℕ → Bool
+  nodeRule i = labelRule i && cond (eqb i 0) (notAbove (existence i) public) (childRule i)
+
+-- 7: an operand's kind, and for a variable its index, where there are vars variables
+unfoldable pub operandRule : ℕ → ℕ → ℕ → Bool
+operandRule vars kind n = leb kind 3 && (not (eqb kind 1) || ltb n vars)
+
+module _ (b : List ℕ) (vars : ℕ) where
+  -- 7: the expression of the record at a place: operator, left side and, unless the operator is 0, right side
+  unfoldable pub expressionRule : ℕ → Bool
+  expressionRule at =
+      leb (byte b (at + 2)) 5 && operandRule vars (byte b (at + 3)) (full b (at + 8))
+      && (eqb (byte b (at + 2)) 0 || operandRule vars (byte b (at + 4)) (full b (at + 12)))
+
+  -- 7: the fields that a row names: target, mark ("0 to 3") and expression
+  unfoldable pub fieldsRule : Row → ℕ → Bool
+  fieldsRule r at =
+      (not (r .target) || ltb (byte b (at + 1)) vars) && (not (r .mark) || leb (byte b (at + 1)) 3)
+      && (not (r .expression) || expressionRule at)
+
+  -- 7: no "command above 16", and no "field read is out of range"
+  unfoldable pub recordRule : ℕ → Bool
+  recordRule at = ltb (byte b at) commandCount && fieldsRule (rowOf (byte b at)) at
+
+-- "0 command": that of record i in the section that starts at base
+unfoldable pub code : List ℕ → ℕ → ℕ → ℕ
+code b base i = byte b (recordPlace base i)
+
+-- what the checks say: accepted, or refused with a number and an index
+pub data Checked : Type 0 where
+  accepted : Checked
+  refused : ℕ → ℕ → Checked
+
+-- the first of the n indexes i, i + 1, .. that fails the test, or the one after them
+unfoldable pub firstFault : (ℕ → Bool) → ℕ → ℕ → ℕ
+firstFault good zero i = i
+firstFault good (suc n) i = elim (good i) [ true ↦ firstFault good n (suc i) | false ↦ i ]
+
+-- "For 1, 2, 3, 9, 10 and finished the index is 0"
+unfoldable pub require : ℕ → Bool → Checked → Checked
+require k test next = cond test next (refused k 0)
+
+-- "For 4 to 8 the index is the first faulty record in its section"; behind the last of n stands the index n
+unfoldable pub requireEach : ℕ → (ℕ → Bool) → ℕ → Checked → Checked
+requireEach k good n next = cond (ltb (firstFault good n 0) n) (refused k (firstFault good n 0)) next
+
+-- the checks 4 to 8, of vs variables, ns nodes from tree on and rs script records from script on
+unfoldable pub checkRecords : List ℕ → ℕ → ℕ → ℕ → ℕ → ℕ → Checked
+checkRecords b vs tree ns script rs =
+    requireEach badVariable (variableRule b) vs
+    (requireEach badParent (parentRule b tree) ns
+    (requireEach badNode (nodeRule b tree) ns
+    (requireEach badRecord (λ i. recordRule b vs (recordPlace script i)) rs
+    (requireEach badBlock (blockRule (code b script) rs) (suc rs) accepted))))
+
+-- "Job checks go in order of number."
+unfoldable pub checkBytes : List ℕ → Checked
+checkBytes b =
+    require badLength (lengthRule (length b))
+    (require badOffsets (offsetRule b)
+    (require badCount (countRule (variableCount b) (nodeCount b) (recordCount b))
+    (checkRecords b (variableCount b) (nodesAt b) (nodeCount b) (scriptAt b) (recordCount b))))

@@ -1,0 +1,90 @@
+-- What a reader sees of variables and trees, agreement on it, and the statement of demand 3. Assumes nothing.
+use mathlib.Core.Path.{_≡_}
+use mathlib.Core.Logic.{_⊎_}
+use Prim.Native.Nat.{ℕ}
+use mathlib.Core.Bool.{Bool, cond}
+use mathlib.Core.List.{List, map, IsPrefix}
+use mathlib.Core.Option.{Option, none, some}
+use lib.IntN.{ℤ}
+use Rattle.rules.specs.Level.{Level, public, visible}
+use Rattle.rules.specs.Tree.{Label, Forest, nil, tree, Place, sub}
+use Rattle.rules.specs.Check.{accepted}
+use Rattle.rules.specs.Job.{Variable, variables, jobTree, script}
+use Rattle.rules.specs.Run.{State, Buffers, finished, Ended}
+use Rattle.rules.specs.Outcome.{checkJob, Outcome, rejected, ran, runJob}
+
+-- what a reader sees of a variable: its level, and its value where the level is visible
+pub record SeenVariable : Type 0 where
+  pub level : Level
+  pub value : Option ℤ
+
+-- what a reader sees of a node: "its three levels, and its value where content is" visible
+pub record SeenNode : Type 0 where
+  pub existence : Level
+  pub content : Level
+  pub structure : Level
+  pub value : Option ℤ
+
+module _ (o : Level) where
+  -- a value that the reader o sees where its level is visible
+  unfoldable pub seenValue : Level → ℤ → Option ℤ
+  seenValue l z = cond (visible o l) (some z) none
+
+  -- what the reader o sees of a variable
+  unfoldable pub seenVariable : Variable → SeenVariable
+  seenVariable v = record { level = v .level; value = seenValue (v .level) (v .value) }
+
+  -- what the reader o sees of a node
+  unfoldable pub seenLabel : Label → SeenNode
+  seenLabel l =
+      record { existence = l .existence; content = l .content; structure = l .structure; value = seenValue (l .content) (l .value) }
+
+  -- what the reader o sees of the first node: nothing where there is none, or its existence is not visible
+  unfoldable pub seenNode : Forest → Option SeenNode
+  seenNode nil = none
+  seenNode (tree l c r) = cond (visible o (l .existence)) (some (seenLabel l)) none
+
+  -- "the number and levels of all variables, the values of level 0 variables" are equal
+  unfoldable pub AgreeVariables : List Variable → List Variable → Type 0
+  AgreeVariables vs ws = map seenVariable vs ≡ map seenVariable ws
+
+  -- "matched by the sibling places on the way from the root": at each place both show the same node, or neither shows one
+  unfoldable pub AgreeTrees : Forest → Forest → Type 0
+  AgreeTrees t u = (p : Place) → seenNode (sub p t) ≡ seenNode (sub p u)
+
+  -- "Two jobs or states agree on their public parts where all of these are equal"
+  pub record Agree (vs ws : List Variable) (t u : Forest) : Type 0 where
+    pub variables : AgreeVariables vs ws
+    pub trees : AgreeTrees t u
+
+  -- two jobs with the same script ("alike in command and in every field that is read", which are those that a decoded script holds) that agree on what o sees
+  pub record Alike (a b : List ℕ) : Type 0 where
+    pub script : script a ≡ script b
+    pub parts : Agree (variables a) (variables b) (jobTree a) (jobTree b)
+
+  -- what two states show the reader o in the end: "the lines are equal and the last variables and trees agree on their public parts"
+  pub record Same (s t : State) : Type 0 where
+    pub lines : s .memory .lines ≡ t .memory .lines
+    pub parts : Agree (s .memory .variables) (t .memory .variables) (s .memory .tree) (t .memory .tree)
+
+  -- "the board lines of one run are the beginning of the other's; if both finish," the last states are the same
+  pub record Indistinguishable (e f : Ended) : Type 0 where
+    pub lines : IsPrefix (e .last .memory .lines) (f .last .memory .lines) ⊎ IsPrefix (f .last .memory .lines) (e .last .memory .lines)
+    pub finish : e .ending ≡ finished → f .ending ≡ finished → Same (e .last) (f .last)
+
+  -- both jobs are run, and o cannot tell the runs apart
+  abbrev pub Secret : Outcome → Outcome → Type 0
+  Secret (rejected k i) w = ⊥
+  Secret (ran e) (rejected k i) = ⊥
+  Secret (ran e) (ran f) = Indistinguishable e f
+
+  -- demand 3: "Any two accepted jobs with the same script that agree on their public parts, whatever their house values and house nodes, budgets, buffers"
+  unfoldable pub Noninterference : Type 0
+  Noninterference =
+      (a b : List ℕ) (n m : ℕ) (lent lent′ : Buffers)
+      → checkJob a n lent ≡ accepted → checkJob b m lent′ ≡ accepted → Alike a b
+      → Secret (runJob a n lent) (runJob b m lent′)
+
+-- demand 3 as the paper has it, for the reader who sees what is public
+unfoldable pub Demand3 : Type 0
+Demand3 = Noninterference public

@@ -1,0 +1,265 @@
+-- One run of a script over variables and a tree. Assumes nothing.
+use Prim.Native.Nat.{ℕ, zero, suc, _%_}
+use mathlib.Core.Bool.{Bool, true, false, cond}
+use mathlib.Core.Option.{Option, none, some}
+use mathlib.Core.List.{List, [], _∷_, _++_, tail}
+use lib.ListN.{length, getD, set}
+use lib.IntN.{ℤ, pos}
+use lib.Dec.{leb, ltb, eqb}
+use Rattle.rules.specs.Level.{Level, public, secret, join, notAbove}
+use Rattle.rules.specs.Number.{isZero}
+use Rattle.rules.specs.Tree.{Label, Forest, nil, tree, Side, child, along, Place, root, to, up, label, exists, count, size, sub, change, setValue}
+use Rattle.rules.specs.Tree as Tree
+use Rattle.rules.specs.Script.{Operand, Expression, alone, both, Action, Command, act, apply, fetch, numberAt}
+use Rattle.rules.specs.Blocks.{goesTo}
+use Rattle.rules.specs.Job.{Variable}
+
+-- what a script works on: the variables, the tree, the cursor with its level, and the board's lines so far
+pub record Memory : Type 0 where
+  pub variables : List Variable
+  pub tree : Forest
+  pub cursor : Place
+  pub level : Level
+  pub lines : List ℤ
+
+-- an open block, by its guard's level
+pub record Block : Type 0 where
+  pub guard : Level
+
+-- a run between two steps: at is the record that comes next, blocks are the open ones, innermost first
+pub record State : Type 0 where
+  pub memory : Memory
+  pub blocks : List Block
+  pub at : ℕ
+  pub steps : ℕ
+
+-- how many places the caller lends for nodes, variables and board lines
+pub record Buffers : Type 0 where
+  pub places : ℕ
+  pub variables : ℕ
+  pub lines : ℕ
+
+-- why a run stops
+pub data Stop : Type 0 where
+  flow absent tableFull boardFull spent low : Stop
+
+-- "Ways a job can end": the number of a stop
+unfoldable pub stopNumber : Stop → ℕ
+stopNumber flow = 21
+stopNumber absent = 22
+stopNumber tableFull = 23
+stopNumber boardFull = 24
+stopNumber spent = 25
+stopNumber low = 26
+
+-- what a step gives: something to go on with, or a stop
+pub data Result (A : Type 0) : Type 0 where
+  next : A → Result A
+  stop : Stop → Result A
+
+-- the rest, or the stop k where the test fails
+unfoldable pub need : {A : Type 0} → Stop → Bool → Result A → Result A
+need k true r = r
+need k false r = stop k
+
+-- no variable
+unfoldable pub noVariable : Variable
+noVariable = record { level = public; value = pos 0 }
+
+-- the variable with an index
+unfoldable pub variableAt : List Variable → ℕ → Variable
+variableAt vs i = getD vs i noVariable
+
+-- "The context level joins the guards of all open blocks."
+unfoldable pub context : List Block → Level
+context [] = public
+context (b ∷ bs) = join (b .guard) (context bs)
+
+module _ (m : Memory) where
+  -- the working node, with its children and right siblings
+  unfoldable pub current : Forest
+  current = sub (m .cursor) (m .tree)
+
+  -- the value of an operand
+  unfoldable pub operandValue : Operand → ℤ
+  operandValue (Operand.constant z) = z
+  operandValue (Operand.variable i) = (variableAt (m .variables) i) .value
+  operandValue Operand.value = (label current) .value
+  operandValue Operand.children = pos (count (along child current))
+
+  -- "a constant is 0, a variable its level, value the cursor level with the node's content, children the cursor level with its list level"
+  unfoldable pub operandLevel : Operand → Level
+  operandLevel (Operand.constant z) = public
+  operandLevel (Operand.variable i) = (variableAt (m .variables) i) .level
+  operandLevel Operand.value = join (m .level) ((label current) .content)
+  operandLevel Operand.children = join (m .level) ((label current) .structure)
+
+  -- the value of an expression
+  unfoldable pub value : Expression → ℤ
+  value (alone a) = operandValue a
+  value (both o a b) = apply o (operandValue a) (operandValue b)
+
+  -- E: "the join over the operands read"
+  unfoldable pub levelOf : Expression → Level
+  levelOf (alone a) = operandLevel a
+  levelOf (both o a b) = join (operandLevel a) (operandLevel b)
+
+  -- the memory with other variables
+  unfoldable pub withVariables : List Variable → Memory
+  withVariables vs = record { variables = vs; tree = m .tree; cursor = m .cursor; level = m .level; lines = m .lines }
+
+  -- the memory with another tree
+  unfoldable pub withTree : Forest → Memory
+  withTree t = record { variables = m .variables; tree = t; cursor = m .cursor; level = m .level; lines = m .lines }
+
+  -- the memory with the cursor at another place or level
+  unfoldable pub withCursor : Place → Level → Memory
+  withCursor p l = record { variables = m .variables; tree = m .tree; cursor = p; level = l; lines = m .lines }
+
+  -- the memory with one board line more
+  unfoldable pub withLine : ℤ → Memory
+  withLine z = record { variables = m .variables; tree = m .tree; cursor = m .cursor; level = m .level; lines = m .lines ++ (z ∷ []) }
+
+-- secret where the test holds
+unfoldable pub secretIf : Bool → Level
+secretIf t = cond t secret public
+
+-- the actions, in a context of level pc
+module _ (pc : Level) (m : Memory) where
+  -- C: "context joined with cursor level"
+  unfoldable pub position : Level
+  position = join pc (m .level)
+
+  -- L: "E joined with C"
+  unfoldable pub flowOf : Expression → Level
+  flowOf e = join (levelOf m e) position
+
+  -- 1: "L not above its level", for the variable v of index i
+  unfoldable pub assign : ℕ → Variable → Expression → Result Memory
+  assign i v e =
+      need flow (notAbove (flowOf e) (v .level))
+      (next (withVariables m (set (m .variables) i (record { level = v .level; value = value m e }))))
+
+  -- 6: "L is 0", then 24 where the line buffer, of a capacity, is full
+  unfoldable pub output : ℕ → Expression → Result Memory
+  output capacity e =
+      need flow (notAbove (flowOf e) public)
+      (need boardFull (ltb (length (m .lines)) capacity) (next (withLine m (value m e))))
+
+  -- the rule of 7 to 10 and 16: "context not above cursor level"
+  unfoldable pub moveTo : Place → Level → Result Memory
+  moveTo p l = need flow (notAbove pc (m .level)) (next (withCursor m p l))
+
+  -- 8, 9 and 10: 22 where the node does not exist; "cursor level joins the new node's existence"
+  unfoldable pub goTo : Option Place → Result Memory
+  goTo none = stop absent
+  goTo (some p) =
+      need absent (exists (sub p (m .tree))) (moveTo p (join (m .level) ((label (sub p (m .tree))) .existence)))
+
+  -- "C not above .. the existence of" a node, if there is one
+  unfoldable pub mayTouch : Forest → Bool
+  mayTouch nil = true
+  mayTouch (tree l c r) = notAbove position (l .existence)
+
+  -- "content is L, and 1 if the mark is odd; list is C, and 1 if the mark is 2 or 3"
+  unfoldable pub newLabel : ℕ → Expression → Label
+  newLabel mark e =
+      record {
+        value = value m e;
+        existence = position;
+        content = join (flowOf e) (secretIf (eqb (mark % 2) 1));
+        structure = join position (secretIf (leb 2 mark));
+      }
+
+  -- 11 and 12: a new node at the place p under the parent at q, in a table of places; 22 with no parent, 21, 26, then 23
+  unfoldable pub insertAt : ℕ → Place → Option Place → ℕ → Expression → Result Memory
+  insertAt places p none mark e = stop absent
+  insertAt places p (some q) mark e =
+      need flow (notAbove position ((label (sub q (m .tree))) .structure))
+      (need flow (mayTouch (sub p (m .tree)))
+      (need low (notAbove ((label (current m)) .existence) position)
+      (need tableFull (ltb (size (m .tree)) places) (next (withTree m (change p (Tree.insert (newLabel mark e)) (m .tree)))))))
+
+  -- 13 and 14: 22, then "C not above its existence"
+  unfoldable pub removeAt : Place → Result Memory
+  removeAt p =
+      need absent (exists (sub p (m .tree)))
+      (need flow (mayTouch (sub p (m .tree))) (next (withTree m (change p Tree.remove (m .tree)))))
+
+  -- 15: "L not above its content"
+  unfoldable pub write : Expression → Result Memory
+  write e =
+      need flow (notAbove (flowOf e) ((label (current m)) .content))
+      (next (withTree m (change (m .cursor) (setValue (value m e)) (m .tree))))
+
+-- what an action does; 7 sets the cursor level to the context, 16 (cover) to 1
+unfoldable pub effect : Buffers → Level → Memory → Action → Result Memory
+effect lent pc m Action.skip = next m
+effect lent pc m (Action.assign i e) = assign pc m i (variableAt (m .variables) i) e
+effect lent pc m (Action.output e) = output pc m (lent .lines) e
+effect lent pc m Action.goRoot = moveTo pc m root pc
+effect lent pc m Action.goParent = goTo pc m (up (m .cursor))
+effect lent pc m (Action.go d) = goTo pc m (some (to d (m .cursor)))
+effect lent pc m (Action.insert d mark e) = insertAt pc m (lent .places) (to d (m .cursor)) (up (to d (m .cursor))) mark e
+effect lent pc m (Action.remove d) = removeAt pc m (to d (m .cursor))
+effect lent pc m (Action.write e) = write pc m e
+effect lent pc m Action.raise = moveTo pc m (m .cursor) secret
+
+module _ (s : State) where
+  -- "Each record carried out is one step": the state after it, at record i
+  unfoldable pub stepped : Memory → List Block → ℕ → State
+  stepped m bs i = record { memory = m; blocks = bs; at = i; steps = suc (s .steps) }
+
+  -- on to the next record after an action
+  unfoldable pub onward : Result Memory → Result State
+  onward (next m) = next (stepped m (s .blocks) (suc (s .at)))
+  onward (stop k) = stop k
+
+  -- the blocks with one more, which has the guard e: "push E"
+  unfoldable pub pushed : Expression → List Block
+  pushed e = record { guard = levelOf (s .memory) e } ∷ s .blocks
+
+  -- 2: "push E; zero goes past else, or to end if none", which is the record j
+  unfoldable pub enterIf : ℕ → Expression → State
+  enterIf j e = stepped (s .memory) (pushed e) (cond (isZero (value (s .memory) e)) j (suc (s .at)))
+
+  -- 4: "nonzero: push E; zero: go past end, no push", which is the record j
+  unfoldable pub enterWhile : ℕ → Expression → State
+  enterWhile j e =
+      cond (isZero (value (s .memory) e)) (stepped (s .memory) (s .blocks) j) (stepped (s .memory) (pushed e) (suc (s .at)))
+
+  -- one record carried out, which jumps to j if it jumps; 3: "when reached, go to end"; 5: "pop; of a while: back to it"
+  unfoldable pub carried : Buffers → ℕ → Command → Result State
+  carried lent j (act a) = onward (effect lent (context (s .blocks)) (s .memory) a)
+  carried lent j (Command.if e) = next (enterIf j e)
+  carried lent j (Command.while e) = next (enterWhile j e)
+  carried lent j Command.else = next (stepped (s .memory) (s .blocks) j)
+  carried lent j Command.end = next (stepped (s .memory) (tail (s .blocks)) j)
+
+-- one step: the record that comes next is carried out
+unfoldable pub step : Buffers → List Command → State → Result State
+step lent cs s = carried s lent (goesTo (numberAt cs) (length cs) (s .at)) (fetch cs (s .at))
+
+-- how a run ends
+pub data Ending : Type 0 where
+  finished : Ending
+  stopped : Stop → Ending
+
+-- how a run has ended, and the state that stands then
+pub record Ended : Type 0 where
+  pub ending : Ending
+  pub last : State
+
+-- a run with n steps left of its budget: "At the script's end the run has finished, even with the budget used up. Otherwise, if the steps equal the budget, stop 25."
+unfoldable pub run : Buffers → List Command → ℕ → State → Ended
+run lent cs zero s = record { ending = cond (ltb (s .at) (length cs)) (stopped spent) finished; last = s }
+run lent cs (suc n) s =
+    elim (ltb (s .at) (length cs)) [
+      | false ↦ record { ending = finished; last = s }
+      | true ↦ elim (step lent cs s) [ next s′ ↦ run lent cs n s′ | stop k ↦ record { ending = stopped k; last = s } ]
+    ]
+
+-- "The cursor starts at the root with cursor level 0."
+unfoldable pub start : List Variable → Forest → State
+start vs t =
+    record { memory = record { variables = vs; tree = t; cursor = root; level = public; lines = [] }; blocks = []; at = 0; steps = 0 }

@@ -1,0 +1,139 @@
+-- The script: operands, expressions, commands with their numbers, and the table of seventeen rows. Assumes nothing.
+use Prim.Native.Nat.{ℕ}
+use mathlib.Core.Bool.{Bool, true, false}
+use mathlib.Core.List.{List, [], _∷_}
+use lib.ListN.{getD}
+use lib.IntN.{ℤ}
+use Rattle.rules.specs.Number as Number
+use Rattle.rules.specs.Tree.{Side, child, sibling}
+
+-- "Kinds: 0 constant (the number, signed), 1 variable (the number is its index), 2 value, 3 children."
+pub data Operand : Type 0 where
+  constant : ℤ → Operand
+  variable : ℕ → Operand
+  value children : Operand
+
+-- "1 sum, 2 difference (left minus right), 3 equal, 4 left less than right (each 1 or 0), 5 mean"
+pub data Operator : Type 0 where
+  sum difference equal less mean : Operator
+
+-- "0 left alone (right side ignored)", or an operator with both sides
+pub data Expression : Type 0 where
+  alone : Operand → Expression
+  both : Operator → Operand → Operand → Expression
+
+-- the commands that work on variables, tree, cursor and board; `insert` has the paper's mark, `raise` is its cover
+pub data Action : Type 0 where
+  skip : Action
+  assign : ℕ → Expression → Action
+  output : Expression → Action
+  goRoot goParent : Action
+  go : Side → Action
+  insert : Side → ℕ → Expression → Action
+  remove : Side → Action
+  write : Expression → Action
+  raise : Action
+
+-- the commands: an action, or one of the four that say which record comes next
+pub data Command : Type 0 where
+  act : Action → Command
+  if while : Expression → Command
+  else end : Command
+
+-- what an operator makes of two numbers
+unfoldable pub apply : Operator → ℤ → ℤ → ℤ
+apply sum a b = Number.sum a b
+apply difference a b = Number.difference a b
+apply equal a b = Number.equal a b
+apply less a b = Number.less a b
+apply mean a b = Number.mean a b
+
+-- the commands in the order of their numbers, with a target and an expression
+unfoldable pub commands : ℕ → Expression → List Command
+commands t e =
+    act Action.skip  -- 0
+    ∷ act (Action.assign t e)  -- 1
+    ∷ Command.if e  -- 2
+    ∷ Command.else  -- 3
+    ∷ Command.while e  -- 4
+    ∷ Command.end  -- 5
+    ∷ act (Action.output e)  -- 6
+    ∷ act Action.goRoot  -- 7
+    ∷ act Action.goParent  -- 8 up
+    ∷ act (Action.go child)  -- 9 first child
+    ∷ act (Action.go sibling)  -- 10 right sibling
+    ∷ act (Action.insert child t e)  -- 11 new first child
+    ∷ act (Action.insert sibling t e)  -- 12 new right sibling
+    ∷ act (Action.remove child)  -- 13 remove first child
+    ∷ act (Action.remove sibling)  -- 14 remove right sibling
+    ∷ act (Action.write e)  -- 15
+    ∷ act Action.raise  -- 16 cover
+    ∷ []
+
+-- the number of an action
+unfoldable pub actionNumber : Action → ℕ
+actionNumber Action.skip = 0
+actionNumber (Action.assign t e) = 1
+actionNumber (Action.output e) = 6
+actionNumber Action.goRoot = 7
+actionNumber Action.goParent = 8
+actionNumber (Action.go child) = 9
+actionNumber (Action.go sibling) = 10
+actionNumber (Action.insert child m e) = 11
+actionNumber (Action.insert sibling m e) = 12
+actionNumber (Action.remove child) = 13
+actionNumber (Action.remove sibling) = 14
+actionNumber (Action.write e) = 15
+actionNumber Action.raise = 16
+
+-- the number of a command
+unfoldable pub number : Command → ℕ
+number (act a) = actionNumber a
+number (Command.if e) = 2
+number Command.else = 3
+number (Command.while e) = 4
+number Command.end = 5
+
+-- a row of the table: whether a command reads its target as a variable's index, its target as a mark, its expression
+pub record Row : Type 0 where
+  pub target : Bool
+  pub mark : Bool
+  pub expression : Bool
+
+-- a row by its three fields
+abbrev pub row : Bool → Bool → Bool → Row
+row t m e = record { target = t; mark = m; expression = e }
+
+-- "One fixed table of seventeen rows says which fields each command reads; the others are ignored."
+unfoldable pub rows : List Row
+rows =
+    row false false false  -- 0
+    ∷ row true false true  -- 1
+    ∷ row false false true  -- 2 if
+    ∷ row false false false  -- 3 else
+    ∷ row false false true  -- 4 while
+    ∷ row false false false  -- 5 end
+    ∷ row false false true  -- 6
+    ∷ row false false false  -- 7 root
+    ∷ row false false false  -- 8 up
+    ∷ row false false false  -- 9 first child
+    ∷ row false false false  -- 10 right sibling
+    ∷ row false true true  -- 11 new first child
+    ∷ row false true true  -- 12 new right sibling
+    ∷ row false false false  -- 13 remove first child
+    ∷ row false false false  -- 14 remove right sibling
+    ∷ row false false true  -- 15
+    ∷ row false false false  -- 16 cover
+    ∷ []
+
+-- the row of a command's number
+abbrev pub rowOf : ℕ → Row
+rowOf k = getD rows k (row false false false)
+
+-- the record at an index
+unfoldable pub fetch : List Command → ℕ → Command
+fetch cs i = getD cs i (act Action.skip)
+
+-- the number of the command at an index
+unfoldable pub numberAt : List Command → ℕ → ℕ
+numberAt cs i = number (fetch cs i)

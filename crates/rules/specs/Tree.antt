@@ -1,0 +1,114 @@
+-- The labelled tree, its places, what a command does at a place, and the tree rules. Assumes nothing.
+use mathlib.Core.Path.{_≡_}
+use Prim.Native.Nat.{ℕ, suc, _+_}
+use mathlib.Core.Bool.{Bool, true, false}
+use mathlib.Core.Option.{Option, none, some}
+use lib.IntN.{ℤ, pos}
+use Rattle.rules.specs.Level.{Level, public, notAbove}
+
+-- "A node has a signed 32-bit value, an existence level, a content level and a list level": the last is the structure level, who may know its number of children
+pub record Label : Type 0 where
+  pub value : ℤ
+  pub existence : Level
+  pub content : Level
+  pub structure : Level
+
+-- siblings from left to right: nothing, or a node with its children and the siblings to its right
+pub data Forest : Type 0 where
+  nil : Forest
+  tree : Label → Forest → Forest → Forest
+
+-- the label of no node
+unfoldable pub noLabel : Label
+noLabel = record { value = pos 0; existence = public; content = public; structure = public }
+
+-- the first node's label
+unfoldable pub label : Forest → Label
+label nil = noLabel
+label (tree l c r) = l
+
+-- whether there is a first node
+unfoldable pub exists : Forest → Bool
+exists nil = false
+exists (tree l c r) = true
+
+-- how many siblings
+unfoldable pub count : Forest → ℕ
+count nil = 0
+count (tree l c r) = suc (count r)
+
+-- how many nodes
+unfoldable pub size : Forest → ℕ
+size nil = 0
+size (tree l c r) = suc (size c + size r)
+
+-- from a node to its first child, or to its right sibling
+pub data Side : Type 0 where
+  child sibling : Side
+
+-- what stands on a side of the first node: its children, or its right siblings
+unfoldable pub along : Side → Forest → Forest
+along d nil = nil
+along child (tree l c r) = c
+along sibling (tree l c r) = r
+
+-- a place: the way to it from the root, the last move first
+pub data Place : Type 0 where
+  root : Place
+  to : Side → Place → Place
+
+-- the parent's place
+unfoldable pub up : Place → Option Place
+up root = none
+up (to child p) = some p
+up (to sibling p) = up p
+
+-- the node at a place, with its children and right siblings
+unfoldable pub sub : Place → Forest → Forest
+sub root t = t
+sub (to d p) t = along d (sub p t)
+
+-- the first node with f done on one of its sides
+unfoldable pub onSide : Side → (Forest → Forest) → Forest → Forest
+onSide d f nil = nil
+onSide child f (tree l c r) = tree l (f c) r
+onSide sibling f (tree l c r) = tree l c (f r)
+
+-- the tree with f done at a place
+unfoldable pub change : Place → (Forest → Forest) → Forest → Forest
+change root f t = f t
+change (to d p) f t = change p (onSide d f) t
+
+-- a new node in front of the others
+unfoldable pub insert : Label → Forest → Forest
+insert l t = tree l nil t
+
+-- the first node removed "with its subtree"
+unfoldable pub remove : Forest → Forest
+remove nil = nil
+remove (tree l c r) = r
+
+-- a label with another value
+unfoldable pub withValue : ℤ → Label → Label
+withValue v l = record { value = v; existence = l .existence; content = l .content; structure = l .structure }
+
+-- the first node with another value
+unfoldable pub setValue : ℤ → Forest → Forest
+setValue v nil = nil
+setValue v (tree l c r) = tree (withValue v l) c r
+
+-- the tree rules for a node: hi is its parent's structure level, lo the existence of the sibling to its left, or of its parent where there is none
+pub record Fit (lo hi : Level) (l : Label) : Type 0 where
+  pub above : notAbove lo (l .existence) ≡ true
+  pub under : notAbove (l .existence) hi ≡ true
+  pub content : notAbove (l .existence) (l .content) ≡ true
+  pub structure : notAbove (l .existence) (l .structure) ≡ true
+
+-- the tree rules for siblings and all below them
+abbrev pub Fits : Level → Level → Forest → Type 0
+Fits lo hi nil = Unit {0}
+Fits lo hi (tree l c r) = Fit lo hi l × Fits (l .existence) (l .structure) c × Fits (l .existence) hi r
+
+-- "Every tree, at start and after each step": "the root has existence 0", and each node below it keeps the rules
+abbrev pub TreeRules : Forest → Type 0
+TreeRules t = Fits public public t

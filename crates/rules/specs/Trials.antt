@@ -1,0 +1,176 @@
+-- The paper's twelve trials, as job bytes with what is to come of them. `trials-hold`, in proofs/, says that the rules give it. Assumes nothing.
+use Prim.Native.Nat.{ℕ, _+_, _*_, _%_, _/_}
+use mathlib.Core.List.{List, [], _∷_, _++_, map, flatMap}
+use lib.ListN.{length}
+use lib.IntN.{ℤ, pos, negsuc}
+use Rattle.rules.specs.Limits.{variableSize, nodeSize, recordSize, noParent}
+use Rattle.rules.specs.Level.{Level, public, secret}
+use Rattle.rules.specs.Number.{bits}
+use Rattle.rules.specs.Tree.{Label, Forest, nil, tree}
+use Rattle.rules.specs.Run.{Buffers}
+use Rattle.rules.specs.Outcome.{Outcome, rejected, ran, Answer, answer, boardLines, runJob}
+
+-- the two bytes of a 16-bit number
+unfoldable pub two : ℕ → List ℕ
+two n = n % 256 ∷ n / 256 % 256 ∷ []
+
+-- the four bytes of a signed number
+unfoldable pub four : ℤ → List ℕ
+four z = two (bits z) ++ two (bits z / 65536)
+
+-- a variable's record
+unfoldable pub variable : Level → ℤ → List ℕ
+variable l v = l ∷ 0 ∷ 0 ∷ 0 ∷ four v
+
+-- a node's record
+unfoldable pub node : ℕ → Level → Level → Level → ℤ → List ℕ
+node parent e c s v = two parent ++ (e ∷ c ∷ s ∷ 0 ∷ 0 ∷ 0 ∷ four v)
+
+-- an operand's bytes: kind and number
+pub record Field : Type 0 where
+  pub kind : ℕ
+  pub number : ℤ
+
+-- a constant
+unfoldable pub number : ℤ → Field
+number z = record { kind = 0; number = z }
+
+-- a variable
+unfoldable pub v : ℕ → Field
+v i = record { kind = 1; number = pos i }
+
+-- the working node's value
+unfoldable pub value : Field
+value = record { kind = 2; number = pos 0 }
+
+-- the working node's number of children
+unfoldable pub children : Field
+children = record { kind = 3; number = pos 0 }
+
+-- a script record by command, target, operator and operands
+unfoldable pub both : ℕ → ℕ → ℕ → Field → Field → List ℕ
+both command target operator l r =
+    command ∷ target ∷ operator ∷ l .kind ∷ r .kind ∷ 0 ∷ 0 ∷ 0 ∷ (four (l .number) ++ four (r .number))
+
+-- a script record with one operand
+unfoldable pub one : ℕ → ℕ → Field → List ℕ
+one command target l = both command target 0 l (number (pos 0))
+
+-- a script record that reads its command only
+unfoldable pub bare : ℕ → List ℕ
+bare command = one command 0 (number (pos 0))
+
+-- the bytes of a job's three sections and its trailer
+unfoldable pub job : List (List ℕ) → List (List ℕ) → List (List ℕ) → List ℕ
+job vs ns cs =
+    let nodes = variableSize * length vs in
+    let script = nodes + nodeSize * length ns in
+    flatMap (λ r. r) (vs ++ (ns ++ cs)) ++ (two 0 ++ (two nodes ++ (two script ++ two (script + recordSize * length cs))))
+
+-- "Variable 0 is public, 0; variable 1 is house, h."
+unfoldable pub pair : ℤ → List (List ℕ)
+pair h = variable public (pos 0) ∷ variable secret h ∷ []
+
+-- "Root 10 and child 3, all levels 0."
+unfoldable pub usual : ℤ → List (List ℕ) → List ℕ
+usual h cs = job (pair h) (node noParent public public public (pos 10) ∷ node 0 public public public (pos 3) ∷ []) cs
+
+-- "a childless root of list 1"
+unfoldable pub childless : List (List ℕ) → List ℕ
+childless cs = job (pair (pos 0)) (node noParent public public secret (pos 10) ∷ []) cs
+
+-- buffers with a number of places
+unfoldable pub withPlaces : ℕ → Buffers
+withPlaces n = record { places = n; variables = 64; lines = 256 }
+
+-- "Budget 100 and ample buffers unless said."
+unfoldable pub try : ℤ → List (List ℕ) → Outcome
+try h cs = runJob (usual h cs) 100 (withPlaces 512)
+
+-- what a trial shows: ending, index and steps, the lines, the variables' values, the tree
+pub record Shown : Type 0 where
+  pub ending : ℕ
+  pub index : ℕ
+  pub steps : ℕ
+  pub lines : List ℤ
+  pub values : List ℤ
+  pub tree : Forest
+
+-- a finished run
+unfoldable pub finishes : ℕ → List ℤ → List ℤ → Forest → Shown
+finishes steps lines values t = record { ending = 0; index = 0; steps = steps; lines = lines; values = values; tree = t }
+
+-- a run that the number k stops at a record
+unfoldable pub stops : ℕ → ℕ → ℕ → List ℤ → List ℤ → Forest → Shown
+stops k index steps lines values t = record { ending = k; index = index; steps = steps; lines = lines; values = values; tree = t }
+
+-- what an outcome shows
+unfoldable pub shown : Outcome → Shown
+shown (rejected k i) = stops k i 0 [] [] nil
+shown (ran e) =
+    let a = answer (ran e) in
+    stops (a .ending) (a .index) (a .steps) (boardLines (ran e)) (map (λ w. w .value) (e .last .memory .variables)) (e .last .memory .tree)
+
+-- a label of three levels and a value
+unfoldable pub labelled : Level → Level → Level → ℤ → Label
+labelled e c s z = record { value = z; existence = e; content = c; structure = s }
+
+-- a public node with the siblings to its right
+unfoldable pub leaf : ℤ → Forest → Forest
+leaf z r = tree (labelled public public public z) nil r
+
+-- the root 10 over some children
+unfoldable pub over : Forest → Forest
+over c = tree (labelled public public public (pos 10)) c nil
+
+-- the tree that the trials start from
+unfoldable pub same : Forest
+same = over (leaf (pos 3) nil)
+
+-- the values of variables 0 and 1
+unfoldable pub values : ℤ → ℤ → List ℤ
+values a b = a ∷ b ∷ []
+
+-- a trial: what came, what was to come
+pub record Trial : Type 0 where
+  pub came : Outcome
+  pub due : Shown
+
+-- a trial of an outcome
+unfoldable pub trial : Outcome → Shown → Trial
+trial c d = record { came = c; due = d }
+
+-- "If v1, remove first child, end."
+unfoldable pub guarded : ℕ → List (List ℕ)
+guarded command = one 2 0 (v 1) ∷ bare command ∷ bare 5 ∷ []
+
+-- "Cover, if v1, first child, end, root, print value"
+unfoldable pub wandering : List (List ℕ)
+wandering = bare 16 ∷ (guarded 9 ++ (bare 7 ∷ one 6 0 value ∷ []))
+
+-- "Twelve trials", 4, 6, 8 and 12 in both halves
+unfoldable pub trials : List Trial
+trials =
+    trial (try (pos 0) []) (finishes 0 [] (values (pos 0) (pos 0)) same)  -- 1
+    ∷ trial (try (pos 0) (one 6 0 value ∷ [])) (finishes 1 (pos 10 ∷ []) (values (pos 0) (pos 0)) same)  -- 2
+    ∷ trial (try (pos 7) (one 1 0 (v 1) ∷ [])) (stops 21 0 0 [] (values (pos 0) (pos 7)) same)  -- 3
+    ∷ trial (try (pos 1) (guarded 13)) (stops 21 1 1 [] (values (pos 0) (pos 1)) same)  -- 4, h = 1
+    ∷ trial (try (pos 0) (guarded 13)) (finishes 2 [] (values (pos 0) (pos 0)) same)  -- 4, h = 0
+    ∷ trial (try (pos 1) (guarded 9)) (stops 21 1 1 [] (values (pos 0) (pos 1)) same)  -- 5
+    ∷ trial (try (pos 1) wandering) (finishes 6 (pos 10 ∷ []) (values (pos 0) (pos 1)) same)  -- 6, h = 1
+    ∷ trial (try (pos 0) wandering) (finishes 5 (pos 10 ∷ []) (values (pos 0) (pos 0)) same)  -- 6, h = 0
+    ∷ trial (try (pos 0) (bare 9 ∷ one 12 0 (number (pos 5)) ∷ bare 8 ∷ one 1 0 children ∷ one 6 0 (v 0) ∷ []))
+    (finishes 5 (pos 2 ∷ []) (values (pos 2) (pos 0)) (over (leaf (pos 3) (leaf (pos 5) nil))))  -- 7
+    ∷ trial (try (pos 0) (bare 16 ∷ one 11 0 (number (pos 7)) ∷ [])) (stops 21 1 1 [] (values (pos 0) (pos 0)) same)  -- 8
+    ∷ trial (runJob (childless (bare 16 ∷ one 11 0 (number (pos 7)) ∷ [])) 100 (withPlaces 512))
+    (finishes 2 [] (values (pos 0) (pos 0))
+    (tree (labelled public public secret (pos 10)) (tree (labelled secret secret secret (pos 7)) nil nil) nil))  -- 8, root of list 1
+    ∷ trial (runJob (usual (pos 0) (one 4 0 (number (pos 1)) ∷ bare 5 ∷ [])) 10 (withPlaces 512)) (stops 25 0 10 [] (values (pos 0) (pos 0)) same)  -- 9
+    ∷ trial (runJob (usual (pos 0) (bare 13 ∷ one 11 0 (number (pos 4)) ∷ [])) 100 (withPlaces 2))
+    (finishes 2 [] (values (pos 0) (pos 0)) (over (leaf (pos 4) nil)))  -- 10
+    ∷ trial (runJob (usual (pos 0) (one 6 0 value ∷ one 6 0 value ∷ [])) 1 (withPlaces 512))
+    (stops 25 1 1 (pos 10 ∷ []) (values (pos 0) (pos 0)) same)  -- 11
+    ∷ trial (try (pos 0) (both 6 0 5 (number (negsuc 2)) (number (pos 0)) ∷ [])) (finishes 1 (negsuc 1 ∷ []) (values (pos 0) (pos 0)) same)  -- 12, mean of -3 and 0
+    ∷ trial (try (pos 0) (both 6 0 1 (number (pos 2147483647)) (number (pos 1)) ∷ []))
+    (finishes 1 (negsuc 2147483647 ∷ []) (values (pos 0) (pos 0)) same)  -- 12, 2147483647 plus 1
+    ∷ []
