@@ -1,2 +1,3 @@
 -- Laws of the definitions, the trials, and the secrecy theorem.
+pub mod Tests
 pub mod Trials
