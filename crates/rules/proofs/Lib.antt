@@ -1,3 +1,4 @@
 -- Laws of the definitions, the trials, and the secrecy theorem.
 pub mod Tests
+pub mod Search
 pub mod Trials
