@@ -1,4 +1,5 @@
 -- Laws of the definitions, the trials, and the secrecy theorem.
 pub mod Tests
 pub mod Search
+pub mod Parts
 pub mod Trials

@@ -44,7 +44,8 @@ search f (suc n) i = go (test (f i)) (search f n (suc i))
     go : Test (f i) → Found f n (suc i) (firstFrom f n (suc i)) → Found f (suc n) i (firstFrom f (suc n) i)
     go (holds e) r = rw (first-here f n i e) (record { from = omega arith; to = omega arith; missed = λ k a b. absurd (omega arith); found = λ a. e })
     go (fails e) r =
-        rw (first-next f n i e) (record { from = omega (arith, r .from); to = omega (arith, r .to); missed = λ k a b. past k a b (ℕ-discrete i k); found = λ a. r .found (omega arith) })
+        rw (first-next f n i e)
+        (record { from = omega (arith, r .from); to = omega (arith, r .to); missed = λ k a b. past k a b (ℕ-discrete i k); found = λ a. r .found (omega arith) })
       where
         past : (k : ℕ) → i ≤ k → k < firstFrom f n (suc i) → Dec (i ≡ k) → f k ≡ false
         past k a b (yes q) = rw q at e
