@@ -2,4 +2,5 @@
 pub mod Tests
 pub mod Search
 pub mod Parts
+pub mod Jumps
 pub mod Trials

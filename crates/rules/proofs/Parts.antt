@@ -1,6 +1,6 @@
 -- The open parts of a script: what each of the four kinds of records asks of them and makes of them, so that they fall, each begun after the one
 -- around it. Assumes nothing.
-use mathlib.Core.Path.{_≡_, refl}
+use mathlib.Core.Path.{_≡_, refl, subst}
 use mathlib.Core.Logic.{_⊎_, inl, inr}
 use mathlib.Core.Bool.{Bool, true, false, _||_}
 use mathlib.Core.List.{List, [], _∷_, tail}
@@ -171,6 +171,13 @@ module _ (code : ℕ → ℕ) where
   unfolding parts
   parts-below zero = empty
   parts-below (suc i) = falling i (parts code i) (parts-below i) (kind (code i))
+
+  module _ (i p : ℕ) (ps : List ℕ) (e : parts code i ≡ p ∷ ps) where
+    pub before : p < i
+    before = first (subst (Below i) e (parts-below i))
+
+    pub begun : Begins (code p)
+    begun = known (subst (Below i) e (parts-below i))
 
   module _ (n i : ℕ) where
     pub rule-inside : i < n → blockRule code n i ≡ placed code (code i) (parts code i)
