@@ -1,16 +1,22 @@
 -- The record that closes a part is the one at which the part is innermost: up to there the search for it runs on, since a record closes no part but
--- the innermost. And where each kind of record goes. Assumes nothing.
+-- the innermost; and a part that is no longer open was closed. Then where each kind of record goes. Assumes nothing.
 use mathlib.Core.Path.{_≡_, refl, _∙_, subst}
-use mathlib.Core.Bool.{Bool, true, false, cond, _&&_}
+use mathlib.Core.Bool.{Bool, true, false, cond, _&&_, _||_}
 use mathlib.Core.List.{List, [], _∷_, tail, headD}
 use Prim.Native.Nat.{ℕ, zero, suc, _-_, _≤_, _<_}
 use native.Mathlib.Nat.{le-suc, lt-suc-self, le-of-lt}
+use native.Mathlib.Decide.{ℕ-discrete, decLt}
 use native.Mathlib.Omega.{arith}
 use lib.Dec.{eqb}
 use borrow.Author.Tests.{eq-eqb, ne-eqb}
 use Rattle.rules.specs.Blocks.{closes, headIs, after, parts, closesPart, firstFrom, closer, pastElse, pastEnd, goesTo}
-use Rattle.rules.proofs.Search.{here, further}
-use Rattle.rules.proofs.Parts.{Plain, Kind, opener, divider, ender, other, kind, after-open, after-else, after-end, after-plain, opens-closes, plain-closes, Falls, empty, next, raise, known, Begins, byIf, byElse, byWhile}
+use Rattle.rules.proofs.Search.{here, further, Found, search}
+use Rattle.rules.proofs.Tests.{clash}
+use Rattle.rules.proofs.Parts.{Plain, Kind, opener, divider, ender, other, kind, after-open, after-else, after-end, after-plain, if-opens, while-opens, else-closes, end-closes, opens-closes, plain-closes, Falls, empty, next, raise, known, Begins, byIf, byElse, byWhile}
+
+or-true : (b : Bool) → (b || true) ≡ true
+or-true true = refl
+or-true false = refl
 
 and-false : (b : Bool) → (b && false) ≡ false
 and-false true = refl
@@ -58,6 +64,56 @@ module _ (code : ℕ → ℕ) (n : ℕ) where
   unfolding closesPart headIs
   closed-here i p ps h e k =
       known (subst (Open i i) e (parts-open i (le-of-lt h))) ∙ here (closesPart code p) n i h (rw (k, e, eq-eqb p p refl))
+
+-- a part is among the open ones
+unfoldable pub isIn : ℕ → List ℕ → Bool
+isIn p [] = false
+isIn p (q ∷ ps) = eqb p q || isIn p ps
+
+in-later : (q p : ℕ) (ps : List ℕ) → isIn p ps ≡ true → isIn p (q ∷ ps) ≡ true
+unfolding isIn
+in-later q p ps e = rw (e, or-true (eqb p q))
+
+in-first : (p : ℕ) (ps : List ℕ) → isIn p (p ∷ ps) ≡ true
+unfolding isIn
+in-first p ps = rw (eq-eqb p p refl)
+
+module _ (code : ℕ → ℕ) where
+  -- a part stays open at a record that closes another
+  other-closed : (i p : ℕ) (ps : List ℕ) → parts code i ≡ ps → closes (code i) ≡ true → closesPart code p i ≡ false → isIn p ps ≡ true → isIn p (tail ps) ≡ true
+  unfolding closesPart headIs isIn
+  other-closed i p [] e k f m = clash m refl
+  other-closed i p (q ∷ ps) e k f m = let z : eqb p q ≡ false = rw (k, e) at f in rw z at m
+
+  stays : (i p : ℕ) → isIn p (parts code i) ≡ true → closesPart code p i ≡ false → Kind (code i) → isIn p (after (code i) i (parts code i)) ≡ true
+  stays i p m f (opener k) = rw (after-open (code i) i (parts code i) k) (in-later i p (parts code i) m)
+  stays i p m f (divider k) =
+      rw (after-else (code i) i (parts code i) k) (in-later i p _ (other-closed i p (parts code i) refl (else-closes (code i) k) f m))
+  stays i p m f (ender k) = rw (after-end (code i) i (parts code i) k) (other-closed i p (parts code i) refl (end-closes (code i) k) f m)
+  stays i p m f (other k) = rw (after-plain (code i) i (parts code i) k) m
+
+  starts : (p : ℕ) → Begins (code p) → isIn p (after (code p) p (parts code p)) ≡ true
+  starts p (byIf e) = rw (after-open (code p) p (parts code p) (if-opens (code p) e)) (in-first p _)
+  starts p (byElse e) = rw (after-else (code p) p (parts code p) e) (in-first p _)
+  starts p (byWhile e) = rw (after-open (code p) p (parts code p) (while-opens (code p) e)) (in-first p _)
+
+  remains : (p i : ℕ) → p < i → Begins (code p) → ((j : ℕ) → p < j → j < i → closesPart code p j ≡ false) → isIn p (parts code i) ≡ true
+  unfolding parts
+  remains p zero h b f = absurd (omega arith)
+  remains p (suc i) h b f = go (ℕ-discrete p i) (λ l. remains p i l b (λ j a c. f j a (omega arith)))
+    where
+      go : Dec (p ≡ i) → (p < i → isIn p (parts code i) ≡ true) → isIn p (parts code (suc i)) ≡ true
+      go (yes q) r = rw (← q) (starts p b)
+      go (no q) r = let l : p < i = omega arith in stays i p (r l) (f i l (lt-suc-self i)) (kind (code i))
+
+  -- what began before record i and is not open there is closed before it
+  pub closed : (n i p : ℕ) → p < i → Begins (code p) → isIn p (parts code i) ≡ false → closer code n p < i
+  unfolding closer
+  closed n i p h b m = go (decLt (closer code n p) i)
+    where
+      go : Dec (closer code n p < i) → closer code n p < i
+      go (yes l) = l
+      go (no l) = clash (remains p i h b (λ j a c. search (closesPart code p) (n - suc p) (suc p) .missed j a (omega arith))) m
 
 -- where the records go, by what they are
 module _ (code : ℕ → ℕ) (n : ℕ) where

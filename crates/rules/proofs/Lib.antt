@@ -3,4 +3,5 @@ pub mod Tests
 pub mod Search
 pub mod Parts
 pub mod Jumps
+pub mod SameNumbers
 pub mod Trials
