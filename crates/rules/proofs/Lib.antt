@@ -4,4 +4,5 @@ pub mod Search
 pub mod Parts
 pub mod Jumps
 pub mod SameNumbers
+pub mod Nests
 pub mod Trials
