@@ -1,7 +1,7 @@
 -- The record that closes a part is the one at which the part is innermost: up to there the search for it runs on, since a record closes no part but
 -- the innermost; and a part that is no longer open was closed. Then where each kind of record goes. Assumes nothing.
 use mathlib.Core.Path.{_≡_, refl, _∙_, subst}
-use mathlib.Core.Bool.{Bool, true, false, cond, _&&_, _||_}
+use mathlib.Core.Bool.{Bool, true, false, _&&_, _||_}
 use mathlib.Core.List.{List, [], _∷_, tail, headD}
 use Prim.Native.Nat.{ℕ, zero, suc, _-_, _≤_, _<_}
 use native.Mathlib.Nat.{le-suc, lt-suc-self, le-of-lt}
@@ -10,7 +10,7 @@ use native.Mathlib.Omega.{arith}
 use lib.Dec.{eqb}
 use borrow.Author.Tests.{eq-eqb, ne-eqb}
 use Rattle.rules.specs.Blocks.{closes, headIs, after, parts, closesPart, firstFrom, closer, pastElse, pastEnd, goesTo}
-use Rattle.rules.proofs.Search.{here, further, Found, search}
+use Rattle.rules.proofs.Search.{here, further, search}
 use Rattle.rules.proofs.Tests.{clash}
 use Rattle.rules.proofs.Parts.{Plain, Kind, opener, divider, ender, other, kind, after-open, after-else, after-end, after-plain, if-opens, while-opens, else-closes, end-closes, opens-closes, plain-closes, Falls, empty, next, raise, known, Begins, byIf, byElse, byWhile}
 
@@ -136,6 +136,6 @@ module _ (code : ℕ → ℕ) (n : ℕ) where
     goes-to-end (byElse a) m e b = rw (a, e)
     goes-to-end (byWhile a) m e b = absurd (m a)
 
-  pub goes-back : (i p : ℕ) (ps : List ℕ) → code i ≡ 5 → parts code i ≡ p ∷ ps → goesTo code n i ≡ cond (eqb (code p) 4) p (suc i)
-  unfolding goesTo pastEnd headD
+  pub goes-back : (i p : ℕ) (ps : List ℕ) → code i ≡ 5 → parts code i ≡ p ∷ ps → goesTo code n i ≡ pastEnd code i p
+  unfolding goesTo headD
   goes-back i p ps a e = rw (a, e)

@@ -5,4 +5,6 @@ pub mod Parts
 pub mod Jumps
 pub mod SameNumbers
 pub mod Nests
+pub mod Ends
+pub mod Exits
 pub mod Trials

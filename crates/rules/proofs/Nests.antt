@@ -1,19 +1,18 @@
 -- The open blocks of a script, each by its if or while. In a right script they go together with the open parts, as a part is the first of its block
 -- or, begun by an else, the second: so their number is within bounds, and none is open at the end. Assumes nothing.
 use mathlib.Core.Path.{_≡_, refl, sym, ap, _∙_, subst}
-use mathlib.Core.Bool.{Bool, true, false, cond}
-use mathlib.Core.List.{List, [], _∷_, tail, nil≢cons, Forall₂, Forall₂·nil, Forall₂·cons}
+use mathlib.Core.Bool.{true, cond}
+use mathlib.Core.List.{List, [], _∷_, tail, Forall₂, Forall₂·nil, Forall₂·cons}
 use Prim.Native.Nat.{ℕ, zero, suc, _≤_, _<_}
 use native.Mathlib.Nat.{le-suc, lt-suc-self, le-of-lt}
 use native.Mathlib.Omega.{arith}
-use lib.Dec.{eqb, ltb}
+use lib.Dec.{eqb}
 use lib.ListN.{length}
 use borrow.Author.Tests.{eqb-true, ltb-true, ne-eqb}
 use Rattle.rules.specs.Limits.{maxDepth}
-use Rattle.rules.specs.Blocks.{opens, closes, after, parts, headIsIf, placed, blockRule, closer}
+use Rattle.rules.specs.Blocks.{opens, after, parts, headIsIf, placed, blockRule}
 use Rattle.rules.proofs.Tests.{clash}
-use Rattle.rules.proofs.Parts.{Plain, Kind, opener, divider, ender, other, kind, if-opens, else-closes, plain-opens, after-open, after-else, after-end, after-plain, placed-open, placed-else, placed-end, rule-inside, rule-end, Falls, empty, next, raise, rest, first, known}
-use Rattle.rules.proofs.Jumps.{closed-here}
+use Rattle.rules.proofs.Parts.{Plain, Kind, opener, divider, ender, other, kind, plain-opens, after-open, after-else, after-end, after-plain, placed-open, placed-else, rule-inside, rule-end, Falls, empty, next, raise, rest, first, known}
 
 -- the blocks that are open at record i, each by its if or while, the innermost first
 unfoldable pub nest : (ℕ → ℕ) → ℕ → List ℕ
@@ -70,78 +69,71 @@ module _ (code : ℕ → ℕ) where
   nest-tail i o os e =
       let b : Chain i (o ∷ os) = subst (Chain i) e (nest-chain i) in record { around = known b .1; earlier = first b; opening = known b .0 }
 
-  -- of n records, a part p belongs to the block o: it is its first, or its second after an else
-  pub data Owner (n p o : ℕ) : Type 0 where
-    one : p ≡ o → opens (code o) ≡ true → Owner n p o
-    two : code p ≡ 3 → code o ≡ 2 → closer code n o ≡ p → nest code p ≡ o ∷ nest code o → Owner n p o
+  pub nest-head : (i o : ℕ) (os : List ℕ) → nest code i ≡ o ∷ os → nest code i ≡ o ∷ nest code o
+  nest-head i o os e = e ∙ ap (λ (x : List ℕ). o ∷ x) (nest-tail i o os e .around)
 
-  abbrev pub Pairs : ℕ → List ℕ → List ℕ → Type 0
-  Pairs n = Forall₂ (Owner n)
+  -- a part p belongs to the block o: it is its first, or its second after an else
+  pub data Owner (p o : ℕ) : Type 0 where
+    one : p ≡ o → opens (code o) ≡ true → Owner p o
+    two : code p ≡ 3 → nest code p ≡ o ∷ nest code o → Owner p o
 
-  module _ (n : ℕ) where
-    -- a part that no else began is the first of its block
-    pub is-first : (p o : ℕ) → Owner n p o → (code p ≡ 3 → ⊥) → p ≡ o
-    is-first p o (one e k) d = e
-    is-first p o (two e k c l) d = absurd (d e)
+  abbrev pub Pairs : List ℕ → List ℕ → Type 0
+  Pairs = Forall₂ Owner
 
-    divided : (i : ℕ) {ps os : List ℕ} → i < n → code i ≡ 3 → parts code i ≡ ps → nest code i ≡ os → headIsIf code ps ≡ true → Pairs n ps os → Pairs n (i ∷ tail ps) os
-    unfolding headIsIf
-    divided i h k e d f Forall₂·nil = clash f refl
-    divided i h k e d f (Forall₂·cons {a = p} {b = o} {l₁ = ps} {l₂ = os} w r) =
-        let q : code p ≡ 2 = eqb-true (code p) 2 f in
-        let z : p ≡ o = is-first p o w (λ (x : code p ≡ 3). omega arith) in
-        let c : closer code n p ≡ i = closed-here code n i p ps h e (else-closes (code i) k) in
-        Forall₂·cons (two k (rw z at q) (rw z at c) (d ∙ ap (λ (x : List ℕ). o ∷ x) (nest-tail i o os d .around))) r
+  divided : (i : ℕ) {ps os : List ℕ} → code i ≡ 3 → nest code i ≡ os → headIsIf code ps ≡ true → Pairs ps os → Pairs (i ∷ tail ps) os
+  unfolding headIsIf
+  divided i k e f Forall₂·nil = clash f refl
+  divided i k e f (Forall₂·cons {b = o} {l₂ = os} w r) = Forall₂·cons (two k (nest-head i o os e)) r
 
-    ended : {ps os : List ℕ} → Pairs n ps os → Pairs n (tail ps) (tail os)
-    ended Forall₂·nil = Forall₂·nil
-    ended (Forall₂·cons w r) = r
+  ended : {ps os : List ℕ} → Pairs ps os → Pairs (tail ps) (tail os)
+  ended Forall₂·nil = Forall₂·nil
+  ended (Forall₂·cons w r) = r
 
-    step : (i : ℕ) → i < n → placed code (code i) (parts code i) ≡ true → Pairs n (parts code i) (nest code i) → Kind (code i) → Pairs n (after (code i) i (parts code i)) (nest code (suc i))
-    step i h f w (opener k) = rw (after-open (code i) i (parts code i) k, nest-open i k) (Forall₂·cons (one refl k) w)
-    step i h f w (divider k) =
-        rw (after-else (code i) i (parts code i) k, nest-else i k) (divided i h k refl refl (sym (placed-else code (code i) (parts code i) k) ∙ f) w)
-    step i h f w (ender k) = rw (after-end (code i) i (parts code i) k, nest-end i k) (ended w)
-    step i h f w (other k) = rw (after-plain (code i) i (parts code i) k, nest-plain i k) w
+  step : (i : ℕ) → placed code (code i) (parts code i) ≡ true → Pairs (parts code i) (nest code i) → Kind (code i) → Pairs (after (code i) i (parts code i)) (nest code (suc i))
+  step i f w (opener k) = rw (after-open (code i) i (parts code i) k, nest-open i k) (Forall₂·cons (one refl k) w)
+  step i f w (divider k) =
+      rw (after-else (code i) i (parts code i) k, nest-else i k) (divided i k refl (sym (placed-else code (code i) (parts code i) k) ∙ f) w)
+  step i f w (ender k) = rw (after-end (code i) i (parts code i) k, nest-end i k) (ended w)
+  step i f w (other k) = rw (after-plain (code i) i (parts code i) k, nest-plain i k) w
 
-    pairs-length : {ps os : List ℕ} → Pairs n ps os → length os ≡ length ps
-    pairs-length Forall₂·nil = refl
-    pairs-length (Forall₂·cons w r) = ap suc (pairs-length r)
+  pairs-length : {ps os : List ℕ} → Pairs ps os → length os ≡ length ps
+  pairs-length Forall₂·nil = refl
+  pairs-length (Forall₂·cons w r) = ap suc (pairs-length r)
 
-    -- of a right script
-    module _ (right : (i : ℕ) → i < suc n → blockRule code n i ≡ true) where
-      pub is-placed : (i : ℕ) → i < n → placed code (code i) (parts code i) ≡ true
-      is-placed i h = sym (rule-inside code n i h) ∙ right i (omega arith)
+  -- of a right script
+  module _ (n : ℕ) (right : (i : ℕ) → i < suc n → blockRule code n i ≡ true) where
+    pub is-placed : (i : ℕ) → i < n → placed code (code i) (parts code i) ≡ true
+    is-placed i h = sym (rule-inside code n i h) ∙ right i (omega arith)
 
-      pub pairs : (i : ℕ) → i ≤ n → Pairs n (parts code i) (nest code i)
-      unfolding parts nest
-      pairs zero h = Forall₂·nil
-      pairs (suc i) h = step i h (is-placed i h) (pairs i (le-of-lt h)) (kind (code i))
+    pub pairs : (i : ℕ) → i ≤ n → Pairs (parts code i) (nest code i)
+    unfolding parts nest
+    pairs zero h = Forall₂·nil
+    pairs (suc i) h = step i (is-placed i h) (pairs i (le-of-lt h)) (kind (code i))
 
-      pub nest-depth : (i : ℕ) → i ≤ n → length (nest code i) ≡ length (parts code i)
-      nest-depth i h = pairs-length (pairs i h)
+    pub nest-depth : (i : ℕ) → i ≤ n → length (nest code i) ≡ length (parts code i)
+    nest-depth i h = pairs-length (pairs i h)
 
-      -- no part and no block is open at the end
-      pub parts-done : parts code n ≡ []
-      parts-done =
-          let m : n ≤ n = omega arith in no-length (parts code n) (eqb-true (length (parts code n)) 0 (sym (rule-end code n n m) ∙ right n (lt-suc-self n)))
+    -- no part and no block is open at the end
+    pub parts-done : parts code n ≡ []
+    parts-done =
+        let m : n ≤ n = omega arith in no-length (parts code n) (eqb-true (length (parts code n)) 0 (sym (rule-end code n n m) ∙ right n (lt-suc-self n)))
 
-      pub nest-done : nest code n ≡ []
-      nest-done = no-length (nest code n) (nest-depth n (omega arith) ∙ ap (λ (ps : List ℕ). length ps) parts-done)
+    pub nest-done : nest code n ≡ []
+    nest-done = no-length (nest code n) (nest-depth n (omega arith) ∙ ap (λ (ps : List ℕ). length ps) parts-done)
 
-      -- room for one more block at an if or while
-      pub nest-room : (i : ℕ) → i < n → opens (code i) ≡ true → length (nest code i) < maxDepth
-      nest-room i h k =
-          let l = ltb-true (length (parts code i)) maxDepth (sym (placed-open code (code i) (parts code i) k) ∙ is-placed i h) in
-          let d = nest-depth i (le-of-lt h) in omega arith
+    -- room for one more block at an if or while
+    pub nest-room : (i : ℕ) → i < n → opens (code i) ≡ true → length (nest code i) < maxDepth
+    nest-room i h k =
+        let l = ltb-true (length (parts code i)) maxDepth (sym (placed-open code (code i) (parts code i) k) ∙ is-placed i h) in
+        let d = nest-depth i (le-of-lt h) in omega arith
 
-      pub nest-limit : (i : ℕ) → i ≤ n → length (nest code i) ≤ maxDepth
-      unfolding nest
-      nest-limit zero h = omega arith
-      nest-limit (suc i) h = go (nest-limit i (le-of-lt h)) (kind (code i))
-        where
-          go : length (nest code i) ≤ maxDepth → Kind (code i) → length (nest code (suc i)) ≤ maxDepth
-          go l (opener k) = rw (nest-open i k) (nest-room i h k)
-          go l (divider k) = rw (nest-else i k) l
-          go l (ender k) = let t = tail-length (nest code i) in rw (nest-end i k) (omega arith)
-          go l (other k) = rw (nest-plain i k) l
+    pub nest-limit : (i : ℕ) → i ≤ n → length (nest code i) ≤ maxDepth
+    unfolding nest
+    nest-limit zero h = omega arith
+    nest-limit (suc i) h = go (nest-limit i (le-of-lt h)) (kind (code i))
+      where
+        go : length (nest code i) ≤ maxDepth → Kind (code i) → length (nest code (suc i)) ≤ maxDepth
+        go l (opener k) = rw (nest-open i k) (nest-room i h k)
+        go l (divider k) = rw (nest-else i k) l
+        go l (ender k) = let t = tail-length (nest code i) in rw (nest-end i k) (omega arith)
+        go l (other k) = rw (nest-plain i k) l

@@ -1,8 +1,8 @@
 -- The open parts of a script: what each of the four kinds of records asks of them and makes of them, so that they fall, each begun after the one
 -- around it. Assumes nothing.
-use mathlib.Core.Path.{_≡_, refl, subst}
+use mathlib.Core.Path.{_≡_, subst}
 use mathlib.Core.Logic.{_⊎_, inl, inr}
-use mathlib.Core.Bool.{Bool, true, false, _||_}
+use mathlib.Core.Bool.{true, false, _||_}
 use mathlib.Core.List.{List, [], _∷_, tail}
 use Prim.Native.Nat.{ℕ, zero, suc, _≤_, _<_}
 use native.Mathlib.Nat.{le-suc, lt-suc-self}
@@ -12,7 +12,7 @@ use lib.ListN.{length}
 use borrow.Author.Tests.{ne-eqb, eqb-true, eqb-false, lt-ltb, le-ltb}
 use Rattle.rules.specs.Limits.{maxDepth}
 use Rattle.rules.specs.Blocks.{opens, closes, after, parts, headIsIf, placed, blockRule}
-use Rattle.rules.proofs.Tests.{Test, holds, fails, test, neither}
+use Rattle.rules.proofs.Tests.{Test, holds, fails, test, neither, clash}
 
 -- no if, else, while or end
 pub record Plain (k : ℕ) : Type 0 where
@@ -79,6 +79,9 @@ module _ (k : ℕ) where
       go : (k ≡ 2) ⊎ (k ≡ 4) → closes k ≡ false
       go (inl q) = rw q
       go (inr q) = rw q
+
+  pub not-else : opens k ≡ true → k ≡ 3 → ⊥
+  not-else o e = clash (else-closes e) (opens-closes o)
 
   pub plain-opens : Plain k → opens k ≡ false
   unfolding opens

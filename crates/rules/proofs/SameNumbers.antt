@@ -2,15 +2,15 @@
 -- Assumes nothing.
 use mathlib.Core.Path.{_≡_, refl, sym, ap, _∙_}
 use mathlib.Core.Bool.{false}
-use mathlib.Core.List.{List, [], _∷_, headD}
-use Prim.Native.Nat.{ℕ, zero, suc, _+_, _-_, _≤_, _<_}
+use mathlib.Core.List.{List, headD}
+use Prim.Native.Nat.{ℕ, zero, suc, _-_, _≤_, _<_}
 use native.Mathlib.Nat.{le-of-lt}
 use native.Mathlib.Decide.{ℕ-discrete, decLt}
 use native.Mathlib.Omega.{arith}
 use lib.Dec.{eqb}
 use lib.ListN.{length}
 use borrow.Author.Tests.{ne-eqb}
-use Rattle.rules.specs.Blocks.{parts, headIsIf, placed, blockRule, closesPart, firstFrom, closer, pastElse, pastEnd, goesTo}
+use Rattle.rules.specs.Blocks.{parts, headIsIf, placed, blockRule, closesPart, closer, pastElse, pastEnd, goesTo}
 use Rattle.rules.specs.Check.{firstFault}
 use Rattle.rules.proofs.Search.{first-agree, fault-agree}
 use Rattle.rules.proofs.Parts.{Below, empty, next, parts-below, rule-inside, rule-end}
