@@ -2,4 +2,11 @@
 pub mod Tests
 pub mod Number
 pub mod Machine
+pub mod Search
+pub mod Parts
+pub mod Jumps
+pub mod SameNumbers
+pub mod Nests
+pub mod Ends
+pub mod Exits
 pub mod Trials
