@@ -9,4 +9,9 @@ pub mod SameNumbers
 pub mod Nests
 pub mod Ends
 pub mod Exits
+pub mod Nearest
+pub mod Checks
+pub mod Ranges
+pub mod Decode
+pub mod Accepted
 pub mod Trials
