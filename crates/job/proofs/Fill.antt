@@ -8,11 +8,12 @@ use native.Mathlib.Omega.{arith}
 use native.Mathlib.Numerals.{add-one}
 use lib.Dec.{eqb}
 use lib.ListN.{length, getD, set, length-set}
-use lib.Seq.{getD-set-same, getD-set-other, set-set}
+use lib.Seq.{getD-set-same, getD-set-other}
 use borrow.Author.Tests.{eq-eqb, ne-eqb, eqb-true, eqb-false}
 use Rattle.rules.specs.Blocks.{parts, pastEnd, goesTo}
 use Rattle.rules.proofs.Tests.{Test, holds, fails, test, neither, clash}
-use Rattle.rules.proofs.Parts.{Kind, opener, divider, ender, other, kind, after-open, after-else, after-end, after-plain, else-closes, end-closes, before, begun}
+use Rattle.rules.proofs.Parts.{Kind, opener, divider, ender, other, kind, after-open, after-else, after-end, after-plain}
+use Rattle.rules.proofs.Parts.{else-closes, end-closes, before, begun}
 use Rattle.rules.proofs.Jumps.{isIn, closed-here, goes-plain, goes-past-else, goes-past-end, goes-to-end, goes-back}
 use Rattle.job.specs.Parts.{Known, Kept}
 
@@ -76,12 +77,11 @@ module _ (code : ℕ → ℕ) (n i : ℕ) (js : List ℕ) (h : i < n) (w : Known
     unfolding parts
     ended a = after-end (code i) i (parts code i) a ∙ ap tail e
 
-    pub fill-while : (x : ℕ) → code i ≡ 5 → code o ≡ 4 → Settled (set (set (set js i x) i o) o (i + 1))
+    pub fill-while : code i ≡ 5 → code o ≡ 4 → Settled (set (set js i o) o (i + 1))
     unfolding pastEnd
-    fill-while x a b =
-        rw (set-set js i x o)
-        (closing o (i + 1) os (ended a) (λ k m. m) (λ m. sym (goes-back code n i o os a e ∙ rw b))
-        (add-one i ∙ sym (goes-past-end code n i o b (closed-here code n i o os h e (end-closes (code i) a)))))
+    fill-while a b =
+        closing o (i + 1) os (ended a) (λ k m. m) (λ m. sym (goes-back code n i o os a e ∙ rw b))
+        (add-one i ∙ sym (goes-past-end code n i o b (closed-here code n i o os h e (end-closes (code i) a))))
 
     pub fill-if : code i ≡ 5 → (code o ≡ 4 → ⊥) → Settled (set (set js i (i + 1)) o i)
     unfolding pastEnd

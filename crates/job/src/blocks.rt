@@ -3,8 +3,8 @@
 use crate::records::code_at;
 use rules::limits::MAX_DEPTH;
 ghost use mathlib.Core.Path.{_≡_};
-ghost use Prim.Native.Nat.{suc, _≤_};
-ghost use lib.ListN.{length};
+ghost use Prim.Native.Nat.{suc, _-_, _≤_};
+ghost use lib.ListN.{length, getD};
 ghost use Rattle.rules.specs.Bytes.{recordPlace};
 ghost use Rattle.rules.specs.Blocks.{parts, blockRule};
 ghost use Rattle.rules.specs.Check.{code, firstFault};
@@ -14,6 +14,15 @@ ghost use Rattle.job.specs.Parts.{Spells, placedAt, Stands, Fits};
 pub struct Parts {
     pub at: [u16; MAX_DEPTH],
     pub depth: usize,
+}
+
+// The record that began the innermost part.
+pub fn innermost(p: Parts) -> usize
+    requires { ⌜ (p .depth ≡ 0 → ⊥) × (p .depth ≤ 16) ⌝ }
+    ensures { λ r. ⌜ r ≡ getD (p .at) (p .depth - 1) 0 ⌝ }
+{
+    let depth = p.depth;
+    p.at[depth - 1] as usize
 }
 
 // Check 8, of record i among the parts that are open at it.
@@ -28,8 +37,7 @@ pub fn block_ok(job: &[u8], base: usize, p: Parts, i: usize) -> bool
             if depth == 0 {
                 return false;
             }
-            let o = p.at[depth - 1] as usize;
-            code_at(job, base, o) == 2
+            code_at(job, base, innermost(p)) == 2
         }
         5 => 0 < depth,
         _ => true,

@@ -1,32 +1,41 @@
 // Where the records of an accepted script go if not to the next: an if or a while whose guard is zero, an else, an end.
 use crate::blocks::Parts;
+use crate::blocks::innermost;
 use crate::blocks::parts_after;
 use crate::records::code_at;
 use rules::limits::MAX_DEPTH;
-ghost use Prim.Native.Nat.{suc, _<_};
+ghost use mathlib.Core.Path.{_≡_};
+ghost use Prim.Native.Nat.{suc, _<_, _≤_};
+ghost use lib.ListN.{length, set};
 ghost use Rattle.rules.specs.Check.{code};
 ghost use Rattle.job.specs.Parts.{Fits, Known, Kept, Fillable, Filled};
+
+// Record i goes to `own`, and record o, whose part it closes, to `its`.
+fn close(jumps: &mut [u16], i: usize, own: usize, o: usize, its: usize)
+    requires { ⌜ (i < length (now jumps)) × (o < length (now jumps)) × (own ≤ 1024) × (its ≤ 1024) ⌝ }
+    ensures { λ r. ⌜ now (jumps .exit) ≡ set (set (now (jumps .entry)) i own) o its ⌝ }
+{
+    jumps[i] = own as u16;
+    jumps[o] = its as u16;
+}
 
 // Where record i goes, and where the part that it closes does.
 fn settle(job: &[u8], base: usize, count: usize, p: Parts, i: usize, jumps: &mut [u16])
     requires { ⌜ Fits (now job) base p i × (i < count) × Known (code (now job) base) count i (now jumps) ⌝ }
     ensures { λ r. ⌜ Known (code (now (job .entry)) base) count (suc i) (now (jumps .exit)) × Kept count (now (jumps .entry)) (now (jumps .exit)) ⌝ }
 {
-    let depth = p.depth;
-    let next = (i + 1) as u16;
-    jumps[i] = next;
     let command = code_at(job, base, i);
     if command == 3 {
-        let o = p.at[depth - 1] as usize;
-        jumps[o] = next;
+        close(jumps, i, i + 1, innermost(p), i + 1);
     } else if command == 5 {
-        let o = p.at[depth - 1] as usize;
+        let o = innermost(p);
         if code_at(job, base, o) == 4 {
-            jumps[i] = o as u16;
-            jumps[o] = next;
+            close(jumps, i, o, o, i + 1);
         } else {
-            jumps[o] = i as u16;
+            close(jumps, i, i + 1, o, i);
         }
+    } else {
+        jumps[i] = (i + 1) as u16;
     }
 }
 

@@ -11,7 +11,8 @@ use Rattle.rules.specs.Limits.{badLength, badOffsets, badCount, badVaria
 use Rattle.rules.specs.Bytes.{nodesAt, scriptAt, variableCount, nodeCount, recordCount, recordPlace}
 use Rattle.rules.specs.Script.{number, numberAt}
 use Rattle.rules.specs.Blocks.{blockRule, goesTo}
-use Rattle.rules.specs.Check.{accepted, lengthRule, offsetRule, countRule, variableRule, parent, parentRule, nodeRule, recordRule, code, checkRecords, checkBytes}
+use Rattle.rules.specs.Check.{accepted, lengthRule, offsetRule, countRule, variableRule, parent, parentRule, nodeRule, recordRule, code}
+use Rattle.rules.specs.Check.{checkRecords, checkBytes}
 use Rattle.rules.specs.Job.{script}
 use Rattle.rules.proofs.Parts.{byIf}
 use Rattle.rules.proofs.Jumps.{isIn, closed}

@@ -19,22 +19,23 @@ code-at-requires-2 c κs = omega (arith, before _ _ _ _ (top _ _ (c .before .bef
 returns : tie.Need-returns
 unfolding placedAt headIsIf
 returns c =
-    let a = c .before .before .before .before .args in
-    let f = code (a .job .now) (a .base) in
-    sym (placed-else f _ _ (sym (c .before .before .code-at .ensures) ∙ c .before .match .keys2) ∙ ap (headIsIf f) (bottom _ _ (c .before .before .before .before .pre .spells) (c .if1 .taken)))
+    let f = code (c .before .before .before .before .args .job .now) (c .before .before .before .before .args .base) in
+    let e = sym (c .before .before .code-at .ensures) ∙ c .before .match .keys2 in
+    sym (placed-else f _ _ e ∙ ap (headIsIf f) (bottom _ _ (c .before .before .before .before .pre .spells) (c .if1 .taken)))
 
 returns-2 : tie.Need-returns-2
 unfolding placedAt
 returns-2 c =
-    sym (placed-open _ _ _ (opening (c .before .code-at .ensures) (c .match .keys1)) ∙ ap (λ (n : ℕ). ltb n maxDepth) (depth _ _ (c .before .before .before .pre .spells)))
+    let e = opening (c .before .code-at .ensures) (c .match .keys1) in
+    sym (placed-open _ _ _ e ∙ ap (λ (n : ℕ). ltb n maxDepth) (depth _ _ (c .before .before .before .pre .spells)))
 
 returns-3 : tie.Need-returns-3
 unfolding placedAt headIsIf
 returns-3 c =
-    let a = c .before .before .before .before .before .before .args in
-    let f = code (a .job .now) (a .base) in
-    ap (λ (n : ℕ). eqb n 2) (c .code-at2 .ensures)
-    ∙ sym (placed-else f _ _ (sym (c .before .before .before .before .code-at .ensures) ∙ c .before .before .before .match .keys2) ∙ ap (headIsIf f) (top _ _ (c .before .before .before .before .before .before .pre .spells) (c .before .before .if1 .left)))
+    let f = code (c .before .before .before .before .before .before .args .job .now) (c .before .before .before .before .before .before .args .base) in
+    let e = sym (c .before .before .before .before .code-at .ensures) ∙ c .before .before .before .match .keys2 in
+    rw (c .code-at2 .ensures, c .before .innermost .ensures)
+    (sym (placed-else f _ _ e ∙ ap (headIsIf f) (top _ _ (c .before .before .before .before .before .before .pre .spells) (c .before .before .if1 .left))))
 
 returns-4 : tie.Need-returns-4
 unfolding placedAt
@@ -47,5 +48,4 @@ returns-5 c = let r = c .match .rest in sym (placed-plain _ _ _ (plain (c .befor
 pub block-ok-spec : {M : Type 1} → statement M
 block-ok-spec =
     tie.close (tie.spec
-    (λ c κs. search needs) returns (λ c. search needs) (λ c. search needs) (λ c. search needs) (λ c. search needs)
-    code-at-requires-2 returns-2 returns-3 returns-4 returns-5)
+    (λ c κs. search needs) returns (λ c κs. search needs) code-at-requires-2 returns-2 returns-3 returns-4 returns-5)

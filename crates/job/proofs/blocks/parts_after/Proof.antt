@@ -11,17 +11,20 @@ use Rattle.job.proofs.blocks.parts_after.Tie as tie
 
 array-write-at : tie.Need-array-write-at
 unfolding placedAt
-array-write-at c = room _ _ (c .before .before .before .before .pre .stands .spells) _ _ (c .before .before .before .before .pre .passes) (opening (c .before .code-at .ensures) (c .match .keys1))
+array-write-at c =
+    let r = c .before .before .before .before .pre in room _ _ (r .stands .spells) _ _ (r .passes) (opening (c .before .code-at .ensures) (c .match .keys1))
 
 sub-at : tie.Need-sub-at
 unfolding placedAt
 sub-at c =
-    let n = some-else _ _ (c .before .before .before .before .pre .stands .spells) _ _ (c .before .before .before .before .pre .passes) (sym (c .before .code-at .ensures) ∙ c .match .keys2) in omega arith
+    let r = c .before .before .before .before .pre in
+    let n = some-else _ _ (r .stands .spells) _ _ (r .passes) (sym (c .before .code-at .ensures) ∙ c .match .keys2) in omega arith
 
 sub-t21 : tie.Need-sub-t21
 unfolding placedAt
 sub-t21 c =
-    let n = some-end _ _ (c .before .before .before .before .pre .stands .spells) _ _ (c .before .before .before .before .pre .passes) (sym (c .before .code-at .ensures) ∙ c .match .keys3) in omega arith
+    let r = c .before .before .before .before .pre in
+    let n = some-end _ _ (r .stands .spells) _ _ (r .passes) (sym (c .before .code-at .ensures) ∙ c .match .keys3) in omega arith
 
 returns : tie.Need-returns
 unfolding placedAt parts

@@ -39,11 +39,13 @@ past5 : (c : tie.Else2) → let a = c .before .before .before .before .before .b
 unfolding ruleOf
 past5 c = past4 (c .before .before .before) ∙ through badParent _ _ _ (c .before .before .first-fault2 .ensures) (c .if2 .left)
 
-past6 : (c : tie.Else3) → let a = c .before .before .before .before .before .before .before .before .before .before .args in from4 (a .job .now) (a .l) ≡ from7 (a .job .now) (a .l)
+past6 : (c : tie.Else3) → let a = c .before .before .before .before .before .before .before .before .before .before .args in
+    from4 (a .job .now) (a .l) ≡ from7 (a .job .now) (a .l)
 unfolding ruleOf
 past6 c = past5 (c .before .before .before) ∙ through badNode _ _ _ (c .before .before .first-fault3 .ensures) (c .if3 .left)
 
-past7 : (c : tie.Else4) → let a = c .before .before .before .before .before .before .before .before .before .before .before .before .before .args in from4 (a .job .now) (a .l) ≡ from8 (a .job .now) (a .l)
+past7 : (c : tie.Else4) → let a = c .before .before .before .before .before .before .before .before .before .before .before .before .before .args in
+    from4 (a .job .now) (a .l) ≡ from8 (a .job .now) (a .l)
 unfolding ruleOf
 past7 c = past6 (c .before .before .before) ∙ through badRecord _ _ _ (c .before .before .first-fault4 .ensures) (c .if4 .left)
 
@@ -67,7 +69,8 @@ returns-2 c = sym (ap (answer _) (past4 (c .before .before .before) ∙ stopped 
 first-fault-requires-3 : tie.Need-first-fault-requires-3
 unfolding countOf ruleOf
 first-fault-requires-3 c κs =
-    record { inside = c .before .before .before .before .before .before .before .pre; count = refl; parents = λ e. all-pass _ _ (c .before .before .first-fault2 .ensures) (c .if2 .left) }
+    let p = all-pass _ _ (c .before .before .first-fault2 .ensures) (c .if2 .left) in
+    record { inside = c .before .before .before .before .before .before .before .pre; count = refl; parents = λ e. p }
 
 returns-3 : tie.Need-returns-3
 unfolding ruleOf answer
@@ -75,7 +78,9 @@ returns-3 c = sym (ap (answer _) (past5 (c .before .before .before) ∙ stopped 
 
 first-fault-requires-4 : tie.Need-first-fault-requires-4
 unfolding countOf
-first-fault-requires-4 c κs = record { inside = c .before .before .before .before .before .before .before .before .before .before .pre; count = refl; parents = λ e. absurd (omega arith) }
+first-fault-requires-4 c κs =
+    let p = c .before .before .before .before .before .before .before .before .before .before .pre in
+    record { inside = p; count = refl; parents = λ e. absurd (omega arith) }
 
 returns-4 : tie.Need-returns-4
 unfolding ruleOf answer

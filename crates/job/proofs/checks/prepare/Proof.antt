@@ -23,10 +23,11 @@ returns c =
 fill-requires : tie.Need-fill-requires
 unfolding layoutOf
 fill-requires c κs =
-    let f = told (c .before .before) in
-    let b = c .before .before .before .before .before .before .before .args .job .now in
-    let js = c .before .before .before .before .before .before .before .args .jumps .now in
-    subst (λ (l : Layout). Fillable b (l .script) (l .records) js) (sym (f .1)) (fillable b js (right b (f .0)) (c .before .before .before .before .before .before .before .pre))
+    let d = c .before .before in
+    let b = d .before .before .before .before .before .args .job .now in
+    let js = d .before .before .before .before .before .args .jumps .now in
+    let f = told d in
+    subst (λ (l : Layout). Fillable b (l .script) (l .records) js) (sym (f .1)) (fillable b js (right b (f .0)) (d .before .before .before .before .before .pre))
 
 returns-2 : tie.Need-returns-2
 unfolding layoutOf

@@ -31,7 +31,8 @@ loop-holds c = (
 )
 
 -- each record of a right script fits
-fits : (c : tie.In-loop Inv-loop μ-loop) → let a = c .before .before .before .before .args in Fits (a .job .now) (a .base) (c .before .loop .p) (c .before .loop .i)
+fits : (c : tie.In-loop Inv-loop μ-loop) →
+    let a = c .before .before .before .before .args in Fits (a .job .now) (a .base) (c .before .loop .p) (c .before .loop .i)
 unfolding placedAt
 fits c =
     record {
