@@ -2,3 +2,4 @@
 pub mod Stack
 pub mod Fill
 pub mod Answers
+pub mod Spell

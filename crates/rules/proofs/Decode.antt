@@ -1,5 +1,5 @@
--- The bytes of a record spell the command at its index, and where check 7 passes, its first byte is the command's number: the list of the commands'
--- numbers, computed, is that of the first seventeen numbers. Assumes nothing.
+-- The bytes of a record spell the variable or the command at its index, and where check 7 passes, a record's first byte is its command's number: the
+-- list of the commands' numbers, computed, is that of the first seventeen numbers. Assumes nothing.
 use mathlib.Core.Path.{_≡_, refl, sym, ap, _∙_}
 use mathlib.Core.Bool.{true}
 use mathlib.Core.List.{List}
@@ -8,10 +8,10 @@ use native.Mathlib.Nat.{zero-add}
 use native.Mathlib.Omega.{arith}
 use lib.ListN.{length, getD, List·getD-map}
 use Rattle.rules.specs.Limits.{commandCount}
-use Rattle.rules.specs.Bytes.{byte, scriptAt, recordCount, recordPlace}
+use Rattle.rules.specs.Bytes.{byte, scriptAt, variableCount, recordCount, variablePlace, recordPlace}
 use Rattle.rules.specs.Script.{Expression, Command, act, Action, commands, actionNumber, number, fetch}
 use Rattle.rules.specs.Check.{recordRule}
-use Rattle.rules.specs.Job.{listed, script, scriptOf, commandOf, expressionOf}
+use Rattle.rules.specs.Job.{Variable, listed, variableOf, variables, script, scriptOf, commandOf, expressionOf}
 use Rattle.rules.proofs.Ranges.{record-in}
 
 module _ {A : Type 0} (f : ℕ → A) where
@@ -28,6 +28,14 @@ module _ {A : Type 0} (f : ℕ → A) where
 
   pub listed-from-zero : (d : A) (n k : ℕ) → k < n → getD (listed f n 0) k d ≡ f k
   listed-from-zero d n k h = listed-at d n 0 k h ∙ ap f (zero-add k)
+
+pub variables-length : (b : List ℕ) → length (variables b) ≡ variableCount b
+unfolding variables
+variables-length b = listed-length _ (variableCount b) 0
+
+pub variable-at : (b : List ℕ) (d : Variable) (i : ℕ) → i < variableCount b → getD (variables b) i d ≡ variableOf b (variablePlace i)
+unfolding variables
+variable-at b d i h = listed-from-zero (λ (k : ℕ). variableOf b (variablePlace k)) d (variableCount b) i h
 
 pub script-length : (b : List ℕ) → length (script b) ≡ recordCount b
 unfolding script scriptOf
