@@ -3,8 +3,13 @@ use Prim.Native.Nat.{ℕ, _+_, _*_, _≤_}
 use mathlib.Core.List.{List}
 use lib.ListN.{length}
 use Rattle.rules.specs.Limits.{maxRecords, trailerSize, variableSize, nodeSize, recordSize}
-use Rattle.rules.specs.Bytes.{nodesAt, scriptAt, trailerAt, variableCount, nodeCount, recordCount}
+use Rattle.rules.specs.Bytes.{variablesAt, nodesAt, scriptAt, trailerAt, variableCount, nodeCount, recordCount}
 use Rattle.job.specs.declared.sections.Layout.{Layout}
+use Rattle.job.specs.declared.sections.Offsets.{Offsets}
+
+-- the four offsets of the trailer
+unfoldable pub offsetsOf : List ℕ → Offsets
+offsetsOf b = record { variables = variablesAt b; nodes = nodesAt b; script = scriptAt b; trailer = trailerAt b }
 
 -- the layout that the trailer gives
 unfoldable pub layoutOf : List ℕ → Layout

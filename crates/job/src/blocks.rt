@@ -1,10 +1,15 @@
 // The nesting of blocks: check 8. A block has one part, or two with an else between them: an if, an else and a while begin a part,
 // an else and an end close one. Over the open parts "second else" and "innermost open block is no if" are one test.
+use crate::records::ELSE;
+use crate::records::END;
+use crate::records::IF;
+use crate::records::WHILE;
 use crate::records::code_at;
 use rules::limits::MAX_DEPTH;
 ghost use mathlib.Core.Path.{_≡_};
 ghost use Prim.Native.Nat.{suc, _-_, _≤_};
 ghost use lib.ListN.{length, getD};
+ghost use Rattle.rules.specs.Limits.{maxDepth, maxRecords};
 ghost use Rattle.rules.specs.Bytes.{recordPlace};
 ghost use Rattle.rules.specs.Blocks.{parts, blockRule};
 ghost use Rattle.rules.specs.Check.{code, firstFault};
@@ -18,7 +23,7 @@ pub struct Parts {
 
 // The record that began the innermost part.
 pub fn innermost(p: Parts) -> usize
-    requires { ⌜ (p .depth ≡ 0 → ⊥) × (p .depth ≤ 16) ⌝ }
+    requires { ⌜ (p .depth ≡ 0 → ⊥) × (p .depth ≤ maxDepth) ⌝ }
     ensures { λ r. ⌜ r ≡ getD (p .at) (p .depth - 1) 0 ⌝ }
 {
     let depth = p.depth;
@@ -32,14 +37,14 @@ pub fn block_ok(job: &[u8], base: usize, p: Parts, i: usize) -> bool
 {
     let depth = p.depth;
     match code_at(job, base, i) {
-        2 | 4 => depth < MAX_DEPTH,
-        3 => {
+        IF | WHILE => depth < MAX_DEPTH,
+        ELSE => {
             if depth == 0 {
                 return false;
             }
-            code_at(job, base, innermost(p)) == 2
+            code_at(job, base, innermost(p)) == IF
         }
-        5 => 0 < depth,
+        END => 0 < depth,
         _ => true,
     }
 }
@@ -52,18 +57,18 @@ pub fn parts_after(job: &[u8], base: usize, p: Parts, i: usize) -> Parts
     let depth = p.depth;
     let mut at = p.at;
     match code_at(job, base, i) {
-        2 | 4 => {
+        IF | WHILE => {
             at[depth] = i as u16;
             Parts {
                 at,
                 depth: depth + 1,
             }
         }
-        3 => {
+        ELSE => {
             at[depth - 1] = i as u16;
             Parts { at, depth }
         }
-        5 => Parts {
+        END => Parts {
             at,
             depth: depth - 1,
         },
@@ -73,7 +78,7 @@ pub fn parts_after(job: &[u8], base: usize, p: Parts, i: usize) -> Parts
 
 // The first record that breaks check 8; the count where a block is not closed; one more where there is no fault.
 pub fn first_fault(job: &[u8], base: usize, count: usize) -> usize
-    requires { ⌜ (recordPlace base count ≤ length (now job)) × (count ≤ 1024) ⌝ }
+    requires { ⌜ (recordPlace base count ≤ length (now job)) × (count ≤ maxRecords) ⌝ }
     ensures { λ r. ⌜ r ≡ firstFault (blockRule (code (now (job .entry)) base) count) (suc count) 0 ⌝ }
 {
     let mut p = Parts {

@@ -22,6 +22,7 @@ use rules::limits::RECORD_SIZE;
 ghost use mathlib.Core.Path.{_≡_};
 ghost use Prim.Native.Nat.{_≤_};
 ghost use lib.ListN.{length};
+ghost use Rattle.rules.specs.Limits.{maxRecords};
 ghost use Rattle.rules.specs.Check.{firstFault, checkRecords, checkBytes};
 ghost use Rattle.job.specs.Layout.{layoutOf, Inside};
 ghost use Rattle.job.specs.Answer.{answer, ruleOf, Passable, Scannable, Prepared};
@@ -131,7 +132,7 @@ pub fn check(job: &[u8]) -> Checked
 
 // The checks 1 to 8, and for an accepted job where each record of its script goes. A refused job leaves `jumps` alone.
 pub fn prepare(job: &[u8], jumps: &mut [u16]) -> Checked
-    requires { ⌜ 1024 ≤ length (now jumps) ⌝ }
+    requires { ⌜ maxRecords ≤ length (now jumps) ⌝ }
     ensures { λ r. ⌜ Prepared (now (job .entry)) (now (jumps .entry)) (now (jumps .exit)) r ⌝ }
 {
     let c = check(job);

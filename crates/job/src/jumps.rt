@@ -2,17 +2,21 @@
 use crate::blocks::Parts;
 use crate::blocks::innermost;
 use crate::blocks::parts_after;
+use crate::records::ELSE;
+use crate::records::END;
+use crate::records::WHILE;
 use crate::records::code_at;
 use rules::limits::MAX_DEPTH;
 ghost use mathlib.Core.Path.{_≡_};
 ghost use Prim.Native.Nat.{suc, _<_, _≤_};
 ghost use lib.ListN.{length, set};
+ghost use Rattle.rules.specs.Limits.{maxRecords};
 ghost use Rattle.rules.specs.Check.{code};
 ghost use Rattle.job.specs.Parts.{Fits, Known, Kept, Fillable, Filled};
 
 // Record i goes to `own`, and record o, whose part it closes, to `its`.
 fn close(jumps: &mut [u16], i: usize, own: usize, o: usize, its: usize)
-    requires { ⌜ (i < length (now jumps)) × (o < length (now jumps)) × (own ≤ 1024) × (its ≤ 1024) ⌝ }
+    requires { ⌜ (i < length (now jumps)) × (o < length (now jumps)) × (own ≤ maxRecords) × (its ≤ maxRecords) ⌝ }
     ensures { λ r. ⌜ now (jumps .exit) ≡ set (set (now (jumps .entry)) i own) o its ⌝ }
 {
     jumps[i] = own as u16;
@@ -25,11 +29,11 @@ fn settle(job: &[u8], base: usize, count: usize, p: Parts, i: usize, jumps: &mut
     ensures { λ r. ⌜ Known (code (now (job .entry)) base) count (suc i) (now (jumps .exit)) × Kept count (now (jumps .entry)) (now (jumps .exit)) ⌝ }
 {
     let command = code_at(job, base, i);
-    if command == 3 {
+    if command == ELSE {
         close(jumps, i, i + 1, innermost(p), i + 1);
-    } else if command == 5 {
+    } else if command == END {
         let o = innermost(p);
-        if code_at(job, base, o) == 4 {
+        if code_at(job, base, o) == WHILE {
             close(jumps, i, o, o, i + 1);
         } else {
             close(jumps, i, i + 1, o, i);

@@ -10,13 +10,14 @@ ghost use mathlib.Core.Path.{_≡_};
 ghost use mathlib.Core.Bool.{true};
 ghost use Prim.Native.Nat.{_+_, _<_, _≤_};
 ghost use lib.ListN.{length};
+ghost use Rattle.rules.specs.Limits.{nodeSize};
 ghost use Rattle.rules.specs.Bytes.{nodePlace};
 ghost use Rattle.rules.specs.Check.{parent, parentRule, labelRule, nearest, leftRule, childRule, nodeRule};
 ghost use Rattle.rules.specs.Job.{labelOf};
 ghost use Rattle.job.specs.Fields.{levelsOf};
 
 pub fn parent_at(job: &[u8], base: usize, i: usize) -> usize
-    requires { ⌜ nodePlace base i + 12 ≤ length (now job) ⌝ }
+    requires { ⌜ nodePlace base i + nodeSize ≤ length (now job) ⌝ }
     ensures { λ r. ⌜ (r ≡ parent (now (job .entry)) base i) × (r < 65536) ⌝ }
 {
     half_at(job, base + NODE_SIZE * i)
@@ -30,7 +31,7 @@ pub struct Levels {
 }
 
 pub fn levels_at(job: &[u8], base: usize, i: usize) -> Levels
-    requires { ⌜ nodePlace base i + 12 ≤ length (now job) ⌝ }
+    requires { ⌜ nodePlace base i + nodeSize ≤ length (now job) ⌝ }
     ensures { λ r. ⌜ r ≡ levelsOf (now (job .entry)) base i ⌝ }
 {
     let at = base + NODE_SIZE * i;
@@ -42,7 +43,7 @@ pub fn levels_at(job: &[u8], base: usize, i: usize) -> Levels
 }
 
 pub fn value_at(job: &[u8], base: usize, i: usize) -> i32
-    requires { ⌜ nodePlace base i + 12 ≤ length (now job) ⌝ }
+    requires { ⌜ nodePlace base i + nodeSize ≤ length (now job) ⌝ }
     ensures { λ r. ⌜ r ≡ labelOf (now (job .entry)) base i .value ⌝ }
 {
     signed_at(job, base + NODE_SIZE * i + 8)
@@ -50,7 +51,7 @@ pub fn value_at(job: &[u8], base: usize, i: usize) -> i32
 
 // Check 5, of node i.
 pub fn parent_ok(job: &[u8], base: usize, i: usize) -> bool
-    requires { ⌜ nodePlace base i + 12 ≤ length (now job) ⌝ }
+    requires { ⌜ nodePlace base i + nodeSize ≤ length (now job) ⌝ }
     ensures { λ r. ⌜ r ≡ parentRule (now (job .entry)) base i ⌝ }
 {
     let p = parent_at(job, base, i);
@@ -58,7 +59,7 @@ pub fn parent_ok(job: &[u8], base: usize, i: usize) -> bool
 }
 
 fn label_ok(job: &[u8], base: usize, i: usize) -> bool
-    requires { ⌜ nodePlace base i + 12 ≤ length (now job) ⌝ }
+    requires { ⌜ nodePlace base i + nodeSize ≤ length (now job) ⌝ }
     ensures { λ r. ⌜ r ≡ labelRule (now (job .entry)) base i ⌝ }
 {
     let own = levels_at(job, base, i);
@@ -77,7 +78,7 @@ enum Found {
 
 // Whether node i exists at least where its left sibling does: the nearest earlier record with the same parent.
 fn left_ok(job: &[u8], base: usize, i: usize) -> bool
-    requires { ⌜ nodePlace base i + 12 ≤ length (now job) ⌝ }
+    requires { ⌜ nodePlace base i + nodeSize ≤ length (now job) ⌝ }
     ensures { λ r. ⌜ r ≡ leftRule (now (job .entry)) base i (nearest (now (job .entry)) base (parent (now (job .entry)) base i) i) ⌝ }
 {
     let p = parent_at(job, base, i);
@@ -101,7 +102,7 @@ fn left_ok(job: &[u8], base: usize, i: usize) -> bool
 }
 
 fn child_ok(job: &[u8], base: usize, i: usize) -> bool
-    requires { ⌜ (nodePlace base i + 12 ≤ length (now job)) × (parent (now job) base i < i) ⌝ }
+    requires { ⌜ (nodePlace base i + nodeSize ≤ length (now job)) × (parent (now job) base i < i) ⌝ }
     ensures { λ r. ⌜ r ≡ childRule (now (job .entry)) base i ⌝ }
 {
     let p = parent_at(job, base, i);
@@ -114,7 +115,7 @@ fn child_ok(job: &[u8], base: usize, i: usize) -> bool
 
 // Check 6, of node i, whose parent is right.
 pub fn node_ok(job: &[u8], base: usize, i: usize) -> bool
-    requires { ⌜ (nodePlace base i + 12 ≤ length (now job)) × (parentRule (now job) base i ≡ true) ⌝ }
+    requires { ⌜ (nodePlace base i + nodeSize ≤ length (now job)) × (parentRule (now job) base i ≡ true) ⌝ }
     ensures { λ r. ⌜ r ≡ nodeRule (now (job .entry)) base i ⌝ }
 {
     let own = label_ok(job, base, i);

@@ -7,9 +7,30 @@ use rules::limits::RECORD_SIZE;
 ghost use mathlib.Core.Path.{_≡_};
 ghost use Prim.Native.Nat.{_+_, _≤_};
 ghost use lib.ListN.{length};
+ghost use Rattle.rules.specs.Limits.{recordSize};
 ghost use Rattle.rules.specs.Bytes.{recordPlace};
 ghost use Rattle.rules.specs.Check.{operandRule, expressionRule, recordRule, code};
 ghost use Rattle.job.specs.Fields.{fieldsOf};
+
+// The commands that say which record comes next.
+pub const IF: u8 = 2;
+
+pub const ELSE: u8 = 3;
+
+pub const WHILE: u8 = 4;
+
+pub const END: u8 = 5;
+
+// Operator 0 is the left side alone. The kind of a variable is 1.
+pub const ALONE: u8 = 0;
+
+pub const MAX_OPERATOR: u8 = 5;
+
+pub const VARIABLE: u8 = 1;
+
+pub const MAX_KIND: u8 = 3;
+
+pub const MAX_MARK: usize = 3;
 
 // A record as its bytes have it.
 pub struct Fields {
@@ -23,7 +44,7 @@ pub struct Fields {
 }
 
 pub fn fields_at(job: &[u8], base: usize, i: usize) -> Fields
-    requires { ⌜ recordPlace base i + 16 ≤ length (now job) ⌝ }
+    requires { ⌜ recordPlace base i + recordSize ≤ length (now job) ⌝ }
     ensures { λ r. ⌜ r ≡ fieldsOf (now (job .entry)) (recordPlace base i) ⌝ }
 {
     let at = base + RECORD_SIZE * i;
@@ -40,7 +61,7 @@ pub fn fields_at(job: &[u8], base: usize, i: usize) -> Fields
 
 // The command alone.
 pub fn code_at(job: &[u8], base: usize, i: usize) -> u8
-    requires { ⌜ recordPlace base i + 16 ≤ length (now job) ⌝ }
+    requires { ⌜ recordPlace base i + recordSize ≤ length (now job) ⌝ }
     ensures { λ r. ⌜ r ≡ code (now (job .entry)) base i ⌝ }
 {
     job[base + RECORD_SIZE * i]
@@ -49,22 +70,22 @@ pub fn code_at(job: &[u8], base: usize, i: usize) -> u8
 fn operand_ok(kind: u8, number: u32, variables: usize) -> bool
     ensures { λ r. ⌜ r ≡ operandRule variables kind number ⌝ }
 {
-    (kind <= 3) & (!(kind == 1) | ((number as usize) < variables))
+    (kind <= MAX_KIND) & (!(kind == VARIABLE) | ((number as usize) < variables))
 }
 
 fn expression_ok(job: &[u8], at: usize, variables: usize) -> bool
-    requires { ⌜ at + 16 ≤ length (now job) ⌝ }
+    requires { ⌜ at + recordSize ≤ length (now job) ⌝ }
     ensures { λ r. ⌜ r ≡ expressionRule (now (job .entry)) variables at ⌝ }
 {
     let operator = job[at + 2];
-    (operator <= 5)
+    (operator <= MAX_OPERATOR)
         & operand_ok(job[at + 3], full_at(job, at + 8), variables)
-        & ((operator == 0) | operand_ok(job[at + 4], full_at(job, at + 12), variables))
+        & ((operator == ALONE) | operand_ok(job[at + 4], full_at(job, at + 12), variables))
 }
 
 // Check 7, of the record at a place.
 pub fn record_ok(job: &[u8], at: usize, variables: usize) -> bool
-    requires { ⌜ at + 16 ≤ length (now job) ⌝ }
+    requires { ⌜ at + recordSize ≤ length (now job) ⌝ }
     ensures { λ r. ⌜ r ≡ recordRule (now (job .entry)) variables at ⌝ }
 {
     let command = byte_at(job, at);
@@ -72,7 +93,7 @@ pub fn record_ok(job: &[u8], at: usize, variables: usize) -> bool
         let row = row_of(command);
         let target = byte_at(job, at + 1);
         (!row.target | (target < variables))
-            & (!row.mark | (target <= 3))
+            & (!row.mark | (target <= MAX_MARK))
             & (!row.expression | expression_ok(job, at, variables))
     } else {
         false

@@ -2,6 +2,7 @@
 use rules::limits::COMMANDS;
 ghost use mathlib.Core.Path.{_≡_};
 ghost use Prim.Native.Nat.{_<_};
+ghost use Rattle.rules.specs.Limits.{commandCount};
 ghost use Rattle.rules.specs.Script.{rowOf};
 ghost use Rattle.job.specs.Fields.{rowHeld};
 
@@ -58,7 +59,7 @@ const ROWS: [Row; COMMANDS] = [
 
 // The one reader of the table: a constant is built anew at each use.
 pub fn row_of(command: usize) -> Row
-    requires { ⌜ command < 17 ⌝ }
+    requires { ⌜ command < commandCount ⌝ }
     ensures { λ r. ⌜ r ≡ rowHeld (rowOf command) ⌝ }
 {
     ROWS[command]

@@ -11,8 +11,9 @@ use rules::limits::VARIABLE_SIZE;
 ghost use mathlib.Core.Path.{_≡_};
 ghost use Prim.Native.Nat.{_<_, _≤_};
 ghost use lib.ListN.{length};
+ghost use Rattle.rules.specs.Limits.{trailerSize};
 ghost use Rattle.rules.specs.Check.{lengthRule, whole, offsetRule, countRule};
-ghost use Rattle.job.specs.Layout.{layoutOf, Ordered};
+ghost use Rattle.job.specs.Layout.{offsetsOf, layoutOf, Ordered};
 
 // The number of variables, where the nodes start and how many there are, where the script starts and how many records it has.
 pub struct Layout {
@@ -41,21 +42,38 @@ fn is_whole(size: usize, from: usize, to: usize) -> bool
     }
 }
 
+// The four offsets of the trailer.
+pub struct Offsets {
+    pub variables: usize,
+    pub nodes: usize,
+    pub script: usize,
+    pub trailer: usize,
+}
+
+fn offsets_at(job: &[u8]) -> Offsets
+    requires { ⌜ trailerSize ≤ length (now job) ⌝ }
+    ensures { λ r. ⌜ r ≡ offsetsOf (now (job .entry)) ⌝ }
+{
+    let at = job.len() - TRAILER_SIZE;
+    Offsets {
+        variables: half_at(job, at),
+        nodes: half_at(job, at + 2),
+        script: half_at(job, at + 4),
+        trailer: half_at(job, at + 6),
+    }
+}
+
 // Check 2.
 pub fn offsets_ok(job: &[u8]) -> bool
-    requires { ⌜ 8 ≤ length (now job) ⌝ }
+    requires { ⌜ trailerSize ≤ length (now job) ⌝ }
     ensures { λ r. ⌜ r ≡ offsetRule (now (job .entry)) ⌝ }
 {
-    let trailer = job.len() - TRAILER_SIZE;
-    let variables = half_at(job, trailer);
-    let nodes = half_at(job, trailer + 2);
-    let script = half_at(job, trailer + 4);
-    let end = half_at(job, trailer + 6);
-    (variables == 0)
-        & (end == trailer)
-        & is_whole(VARIABLE_SIZE, 0, nodes)
-        & is_whole(NODE_SIZE, nodes, script)
-        & is_whole(RECORD_SIZE, script, end)
+    let o = offsets_at(job);
+    (o.variables == 0)
+        & (o.trailer == job.len() - TRAILER_SIZE)
+        & is_whole(VARIABLE_SIZE, 0, o.nodes)
+        & is_whole(NODE_SIZE, o.nodes, o.script)
+        & is_whole(RECORD_SIZE, o.script, o.trailer)
 }
 
 // The layout that the trailer gives.
@@ -63,16 +81,13 @@ pub fn layout_of(job: &[u8]) -> Layout
     requires { ⌜ Ordered (now job) ⌝ }
     ensures { λ r. ⌜ r ≡ layoutOf (now (job .entry)) ⌝ }
 {
-    let trailer = job.len() - TRAILER_SIZE;
-    let nodes = half_at(job, trailer + 2);
-    let script = half_at(job, trailer + 4);
-    let end = half_at(job, trailer + 6);
+    let o = offsets_at(job);
     Layout {
-        variables: nodes / VARIABLE_SIZE,
-        tree: nodes,
-        nodes: (script - nodes) / NODE_SIZE,
-        script,
-        records: (end - script) / RECORD_SIZE,
+        variables: o.nodes / VARIABLE_SIZE,
+        tree: o.nodes,
+        nodes: (o.script - o.nodes) / NODE_SIZE,
+        script: o.script,
+        records: (o.trailer - o.script) / RECORD_SIZE,
     }
 }
 

@@ -1,25 +1,21 @@
 -- `layout_of` meets its contract: it is the definition; the offsets do not fall. Assumes nothing.
-use native.Mathlib.Omega.{arith}
-use Rattle.rules.specs.Bytes.{nodesAt, scriptAt, trailerAt, variableCount, nodeCount, recordCount}
-use Rattle.job.specs.Layout.{layoutOf}
+use Rattle.rules.specs.Bytes.{variableCount, nodeCount, recordCount}
+use Rattle.job.specs.Layout.{offsetsOf, layoutOf}
 use borrow.Author.Needs.{needs}
 use Rattle.job.proofs.sections.layout_of.Statement.{statement}
 use Rattle.job.proofs.sections.layout_of.Tie as tie
 
-sub-t7 : tie.Need-sub-t7
-unfolding nodesAt scriptAt
-sub-t7 c = omega arith
+sub-t4 : tie.Need-sub-t4
+unfolding offsetsOf
+sub-t4 c = rw (c .before .before .offsets-at .ensures) (c .before .before .before .before .pre .nodes)
 
-sub-t9 : tie.Need-sub-t9
-unfolding scriptAt trailerAt
-sub-t9 c = omega arith
+sub-t6 : tie.Need-sub-t6
+unfolding offsetsOf
+sub-t6 c = rw (c .before .before .before .offsets-at .ensures) (c .before .before .before .before .before .pre .script)
 
 returns : tie.Need-returns
-unfolding layoutOf nodesAt scriptAt trailerAt variableCount nodeCount recordCount
-returns c = rw (c .half-at3 .ensures .0, c .before .half-at2 .ensures .0, c .before .before .half-at .ensures .0)
+unfolding layoutOf offsetsOf variableCount nodeCount recordCount
+returns c = rw (c .before .before .before .offsets-at .ensures)
 
 pub layout-of-spec : {M : Type 1} → statement M
-layout-of-spec =
-    tie.close (tie.spec
-    (λ c. search needs) (λ c. search needs) (λ c κs. search needs) (λ c. search needs) (λ c κs. search needs)
-    (λ c. search needs) (λ c κs. search needs) sub-t7 sub-t9 returns)
+layout-of-spec = tie.close (tie.spec (λ c κs. search needs) sub-t4 sub-t6 returns)
