@@ -1,3 +1,10 @@
 -- Laws of the definitions, the trials, and the secrecy theorem.
 pub mod Tests
 pub mod Trials
+pub mod Levels
+pub mod Trees
+pub mod Cut
+pub mod Results
+pub mod Sound
+pub mod View
+pub mod Alike
