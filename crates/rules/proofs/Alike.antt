@@ -153,3 +153,16 @@ module _ (o : Level) where
     unfolding levelOf value
     expressions (alone a) = operands a
     expressions (both f a b) = joined (apply f) (operands a) (operands b)
+
+    level-eq : visible o (m₁ .level) ≡ true → m₁ .cursor ≡ m₂ .cursor → m₁ .level ≡ m₂ .level → (x : Operand) → operandLevel m₁ x ≡ operandLevel m₂ x
+    unfolding operandLevel seenVariable
+    level-eq a p l (Operand.constant z) = refl
+    level-eq a p l (Operand.variable i) = ap (λ w. w .level) (variable-eq i)
+    level-eq a p l Operand.value = λ i. join (l i) (content-eq _ _ ((nodes a p) .labels) i)
+    level-eq a p l Operand.children = λ i. join (l i) (structure-eq _ _ ((nodes a p) .labels) i)
+
+    -- under a visible cursor an expression has one level, visible or not
+    pub levels-eq : visible o (m₁ .level) ≡ true → m₁ .cursor ≡ m₂ .cursor → m₁ .level ≡ m₂ .level → (e : Expression) → levelOf m₁ e ≡ levelOf m₂ e
+    unfolding levelOf
+    levels-eq a p l (alone x) = level-eq a p l x
+    levels-eq a p l (both f x y) = λ i. join (level-eq a p l x i) (level-eq a p l y i)

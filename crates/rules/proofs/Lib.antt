@@ -8,3 +8,4 @@ pub mod Results
 pub mod Sound
 pub mod View
 pub mod Alike
+pub mod Lockstep
