@@ -9,3 +9,6 @@ pub mod Sound
 pub mod View
 pub mod Alike
 pub mod Lockstep
+pub mod Runs
+pub mod ByPlace
+pub mod Loaded
