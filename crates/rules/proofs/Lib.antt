@@ -12,3 +12,4 @@ pub mod Lockstep
 pub mod Runs
 pub mod ByPlace
 pub mod Loaded
+pub mod Lines
