@@ -1,5 +1,12 @@
 -- Laws of the definitions, the trials, and the secrecy theorem.
 pub mod Tests
+pub mod Search
+pub mod Parts
+pub mod Jumps
+pub mod SameNumbers
+pub mod Nests
+pub mod Ends
+pub mod Exits
 pub mod Trials
 pub mod Levels
 pub mod Trees
