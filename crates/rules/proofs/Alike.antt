@@ -14,7 +14,7 @@ use Rattle.rules.specs.Job.{Variable}
 use Rattle.rules.specs.Run.{Memory, noVariable, variableAt, current, operandValue, operandLevel, value, levelOf}
 use Rattle.rules.specs.Public.{seenVariable, seenValue}
 use Rattle.rules.proofs.Tests.{Test, holds, fails, test, clash}
-use Rattle.rules.proofs.Levels.{vis-down, vis-left, vis-right, hid-left, hid-right}
+use Rattle.rules.proofs.Lattice.{vis-down, vis-left, vis-right, hid-left, hid-right}
 use Rattle.rules.proofs.Trees.{loAt, hiAt, hiOf}
 use Rattle.rules.proofs.Cut.{mask, cutLabel, cut, cut-sub, count-cut, Heads, seen, hidden, heads}
 use Rattle.rules.proofs.Sound.{Sound, there}

@@ -105,8 +105,8 @@ module _ (o : Level) where
     unfolding AgreeTrees Alike
     cuts-equal h =
         one-forest _ _ (λ p.
-          ap top (cut-sub o p t public public f) ∙ sym (top-seen _) ∙ ap (onOption labelled) (h p) ∙ top-seen _
-          ∙ ap top (sym (cut-sub o p u public public g)))
+        ap top (cut-sub o p t public public f) ∙ sym (top-seen _) ∙ ap (onOption labelled) (h p) ∙ top-seen _
+        ∙ ap top (sym (cut-sub o p u public public g)))
 
     -- and equal cuts agree place by place
     pub places-agree : cut o t ≡ cut o u → AgreeTrees o t u

@@ -6,7 +6,7 @@ use lib.IntN.{ℤ, pos}
 use Rattle.rules.specs.Level.{Level, notAbove, visible}
 use Rattle.rules.specs.Tree.{Label, Forest, nil, tree, Side, child, sibling, along, Place, root, to, sub, label, exists, count, change, onSide, insert, remove, setValue, withValue, Fits}
 use Rattle.rules.proofs.Tests.{Test, holds, fails, test, clash}
-use Rattle.rules.proofs.Levels.{hid-up, vis-down}
+use Rattle.rules.proofs.Lattice.{hid-up, vis-down}
 use Rattle.rules.proofs.Trees.{fits-sub, change-id}
 
 cond-on : (d : Side) (b : Bool) (g : Forest → Forest) (x : Forest) → cond b (onSide d g x) nil ≡ onSide d g (cond b x nil)

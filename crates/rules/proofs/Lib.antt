@@ -1,5 +1,6 @@
 -- Laws of the definitions, the trials, and the secrecy theorem.
 pub mod Tests
+pub mod Trials
 pub mod Search
 pub mod Parts
 pub mod Jumps
@@ -7,8 +8,7 @@ pub mod SameNumbers
 pub mod Nests
 pub mod Ends
 pub mod Exits
-pub mod Trials
-pub mod Levels
+pub mod Lattice
 pub mod Trees
 pub mod Cut
 pub mod Results
@@ -17,6 +17,9 @@ pub mod View
 pub mod Alike
 pub mod Lockstep
 pub mod Runs
+pub mod Lines
 pub mod ByPlace
 pub mod Loaded
-pub mod Lines
+pub mod Control
+pub mod Region
+pub mod Secrecy

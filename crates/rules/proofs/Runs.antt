@@ -64,9 +64,11 @@ module _ (lent : Buffers) (cs : List Command) where
     where
       grown : run lent cs (suc n + k) s ≡ run lent cs (suc (n + k)) s
       grown = ap (λ m. run lent cs m s) (suc-add n k)
+
       after : (s′ : State) → step lent cs s ≡ next s′ → Longer n k s′ → Longer (suc n) k s
       after s′ h (same q) = same (grown ∙ run-next (n + k) s s′ e h ∙ q ∙ sym (run-next n s s′ e h))
       after s′ h (further t p q) = further t (run-next n s s′ e h ∙ p) (grown ∙ run-next (n + k) s s′ e h ∙ q)
+
       pick : (x : Result State) → step lent cs s ≡ x → Longer (suc n) k s
       pick (next s′) h = after s′ h (r s′)
       pick (stop x) h = same (grown ∙ run-stop (n + k) s x e h ∙ sym (run-stop n s x e h))

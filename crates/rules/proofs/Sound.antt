@@ -14,7 +14,7 @@ use Rattle.rules.specs.Script.{Operand, Expression, alone, both, Action}
 use Rattle.rules.specs.Job.{Variable}
 use Rattle.rules.specs.Run.{Memory, Buffers, Stop, Result, need, noVariable, variableAt, current, operandLevel, levelOf, value, withVariables, withTree, withCursor, withLine, secretIf, position, flowOf, assign, output, moveTo, goTo, mayTouch, newLabel, insertAt, removeAt, write, effect}
 use Rattle.rules.proofs.Tests.{clash}
-use Rattle.rules.proofs.Levels.{na-public, na-refl, na-trans, na-left, na-right, level-secret, level-public, secret-level, level-below, level-join}
+use Rattle.rules.proofs.Lattice.{na-public, na-refl, na-trans, na-left, na-right, level-secret, level-public, secret-level, level-below, level-join}
 use Rattle.rules.proofs.Trees.{loAt, hiAt, hiOf, fits-sub, fits-change, fit-first, hi-parent, fits-remove, fits-value, sub-change, exists-sub, on-exists, on-label}
 use Rattle.rules.proofs.Results.{Good, good-need}
 

@@ -7,7 +7,7 @@ use lib.IntN.{ℤ}
 use Rattle.rules.specs.Level.{Level, public, notAbove}
 use Rattle.rules.specs.Tree.{Label, Forest, nil, tree, Side, child, sibling, along, Place, root, to, up, sub, label, exists, change, onSide, remove, setValue, withValue, Levels, Fit, Fits}
 use Rattle.rules.proofs.Tests.{clash}
-use Rattle.rules.proofs.Levels.{na-trans}
+use Rattle.rules.proofs.Lattice.{na-trans}
 
 -- the bounds of what stands on a side of a node, and at a place
 

@@ -14,7 +14,7 @@ use Rattle.rules.specs.Job.{Variable}
 use Rattle.rules.specs.Run.{Memory, Buffers, Result, noVariable, variableAt, current, levelOf, withVariables, withTree, withCursor, position, flowOf, assign, output, moveTo, goTo, mayTouch, newLabel, insertAt, removeAt, write, effect}
 use Rattle.rules.specs.Public.{SeenVariable, seenVariable, seenValue}
 use Rattle.rules.proofs.Tests.{Test, holds, fails, test, clash}
-use Rattle.rules.proofs.Levels.{level-secret, vis-public, vis-down, vis-left, vis-right, hid-up, hid-left, hid-right}
+use Rattle.rules.proofs.Lattice.{level-secret, vis-public, vis-down, vis-left, vis-right, hid-up, hid-left, hid-right}
 use Rattle.rules.proofs.Cut.{cut, cut-kept, cut-hidden, insert-hidden, remove-hidden, set-hidden}
 use Rattle.rules.proofs.Results.{Good, good-need}
 use Rattle.rules.proofs.Sound.{Sound, there}
