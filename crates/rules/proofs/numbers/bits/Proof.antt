@@ -27,18 +27,27 @@ itself {v = pos n} h t = ap pos (omega arith)
 itself {v = negsuc n} h t = absurd (true≢false t)
 
 module _ (c : tie.Then1) where
-  up : kept w64 (kept w32 (c .before .args .v)) +ℤ pos range ≡ pos (bits (c .before .args .v))
+  abbrev v : ℤ
+  v = c .before .args .v
+
+  up : kept w64 (kept w32 v) +ℤ pos range ≡ pos (bits v)
   up =
       let h = c .before .fits .v in
       ap (λ (z : ℤ). z +ℤ pos range) (widened h) ∙ turned h (rw (toZ-ofZ h) at (c .if1 .taken))
 
-  fits : SFits w64 (pos (bits (c .before .args .v)))
-  fits = record { sfits = omega (arith, bits-below (c .before .args .v)) }
+  fits : SFits w64 (pos (bits v))
+  fits = record { sfits = omega (arith, bits-below v) }
 
 same : (c : tie.Else1) → kept w32 (c .before .args .v) ≡ pos (bits (c .before .args .v))
 same c =
     let h = c .before .fits .v in
     toZ-ofZ h ∙ itself h (rw (toZ-ofZ h) at (c .if1 .left))
+
+returns : tie.Need-returns
+returns c = ap natAbs (read-as (up c) (fits c))
+
+returns-2 : tie.Need-returns-2
+returns-2 c = ap natAbs (same c)
 
 cast-result : tie.Need-cast-result
 cast-result c = widens (c .before .fits .v)
@@ -47,16 +56,10 @@ add-result : tie.Need-add-result
 add-result c = fits-as (up c) (fits c)
 
 cast-result-2 : tie.Need-cast-result-2
-cast-result-2 c = unsigned-fits (read-as (up c) (fits c)) (bits-below (c .before .args .v))
+cast-result-2 c = unsigned-fits (read-as (up c) (fits c)) (bits-below (v c))
 
 cast-result-3 : tie.Need-cast-result-3
 cast-result-3 c = unsigned-fits (same c) (bits-below (c .before .args .v))
-
-returns : tie.Need-returns
-returns c = ap natAbs (read-as (up c) (fits c))
-
-returns-2 : tie.Need-returns-2
-returns-2 c = ap natAbs (same c)
 
 pub bits-spec : {M : Type 1} → statement M
 bits-spec = tie.close (tie.spec cast-result add-result cast-result-2 cast-result-3 returns returns-2)

@@ -46,6 +46,15 @@ same c =
     let e = toZ-ofZ (s .fits .z) in
     wrapped (s .args .z) (within (s .args .z) (rw e at (c .before .if1 .left)) (rw e at (c .if2 .left))) refl
 
+returns : tie.Need-returns
+returns c = narrowed (down c) (wrap-fits (c .before .args .z))
+
+returns-2 : tie.Need-returns-2
+returns-2 c = narrowed (up c) (wrap-fits (c .before .before .args .z))
+
+returns-3 : tie.Need-returns-3
+returns-3 c = narrowed (same c) (wrap-fits (c .before .before .args .z))
+
 sub-result : tie.Need-sub-result
 sub-result c = fits-wide (down c) (wrap-fits (c .before .args .z))
 
@@ -60,15 +69,6 @@ cast-result-2 c = narrows (up c) (wrap-fits (c .before .before .args .z))
 
 cast-result-3 : tie.Need-cast-result-3
 cast-result-3 c = narrows (same c) (wrap-fits (c .before .before .args .z))
-
-returns : tie.Need-returns
-returns c = narrowed (down c) (wrap-fits (c .before .args .z))
-
-returns-2 : tie.Need-returns-2
-returns-2 c = narrowed (up c) (wrap-fits (c .before .before .args .z))
-
-returns-3 : tie.Need-returns-3
-returns-3 c = narrowed (same c) (wrap-fits (c .before .before .args .z))
 
 pub wrap-spec : {M : Type 1} → statement M
 wrap-spec = tie.close (tie.spec sub-result cast-result add-result cast-result-2 cast-result-3 returns returns-2 returns-3)
