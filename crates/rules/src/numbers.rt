@@ -39,7 +39,7 @@ pub fn signed(w: u32) -> i32
     wrap(w as i64)
 }
 
-// Sums and differences wrap at 32 bits; 64 hold them exactly.
+// Sums and differences wrap at 32 bits; 64 bits hold them exactly.
 pub fn sum(a: i32, b: i32) -> i32
     ensures { λ r. ⌜ r ≡ sum a b ⌝ }
 {
@@ -78,7 +78,7 @@ fn half(s: i64) -> i64
     if s < 0 { (s + 1) / 2 - 1 } else { s / 2 }
 }
 
-// The mean is rounded down, below zero too, of the exact sum.
+// Rounded down, below zero too, of the exact sum.
 pub fn mean(a: i32, b: i32) -> i32
     ensures { λ r. ⌜ r ≡ mean a b ⌝ }
 {

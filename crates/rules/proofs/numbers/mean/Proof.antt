@@ -22,8 +22,5 @@ cast-result c = narrows (is c) (mean-fits (c .before .fits .a) (c .before .fits 
 add-half : tie.Need-add-half
 add-half c = exact-fits (exact-sum (c .fits .a) (c .fits .b))
 
-half-requires : tie.Need-half-requires
-half-requires c κs = search needs
-
 pub mean-spec : {M : Type 1} → statement M
-mean-spec = tie.close (tie.spec (λ c. widens (c .fits .a)) (λ c. widens (c .fits .b)) add-half half-requires cast-result returns)
+mean-spec = tie.close (tie.spec (λ c. widens (c .fits .a)) (λ c. widens (c .fits .b)) add-half (λ c κs. search needs) cast-result returns)
