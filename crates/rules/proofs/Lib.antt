@@ -1,5 +1,7 @@
 -- Laws of the definitions, the trials, and the secrecy theorem.
 pub mod Tests
+pub mod Number
+pub mod Machine
 pub mod Trials
 pub mod Search
 pub mod Parts
