@@ -10,6 +10,11 @@ pub mod SameNumbers
 pub mod Nests
 pub mod Ends
 pub mod Exits
+pub mod Ranges
+pub mod Checks
+pub mod Decode
+pub mod Nearest
+pub mod Accepted
 pub mod Lattice
 pub mod Trees
 pub mod Cut
@@ -25,3 +30,4 @@ pub mod Loaded
 pub mod Control
 pub mod Region
 pub mod Secrecy
+pub mod Noninterference

@@ -30,7 +30,7 @@ module _ (f g : ℕ → ℕ) (n : ℕ) (same : (j : ℕ) → j < n → f j ≡ g
   unfolding placed
   placed-agree i h = let m : i ≤ n = omega arith in rw (if-agree (parts-below f i) m, same i h, parts-agree i m)
 
-  rule-agree : (i : ℕ) → i ≤ n → blockRule f n i ≡ blockRule g n i
+  pub rule-agree : (i : ℕ) → i ≤ n → blockRule f n i ≡ blockRule g n i
   rule-agree i h = go (decLt i n)
     where
       go : Dec (i < n) → blockRule f n i ≡ blockRule g n i

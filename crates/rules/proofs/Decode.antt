@@ -1,0 +1,47 @@
+-- The bytes of a record spell the command at its index, and where check 7 passes, its first byte is the command's number: the list of the commands'
+-- numbers, computed, is that of the first seventeen numbers. Assumes nothing.
+use mathlib.Core.Path.{_≡_, refl, sym, ap, _∙_}
+use mathlib.Core.Bool.{true}
+use mathlib.Core.List.{List}
+use Prim.Native.Nat.{ℕ, zero, suc, _+_, _<_}
+use native.Mathlib.Nat.{zero-add}
+use native.Mathlib.Omega.{arith}
+use lib.ListN.{length, getD, List·getD-map}
+use Rattle.rules.specs.Limits.{commandCount}
+use Rattle.rules.specs.Bytes.{byte, scriptAt, recordCount, recordPlace}
+use Rattle.rules.specs.Script.{Expression, Command, act, Action, commands, actionNumber, number, fetch}
+use Rattle.rules.specs.Check.{recordRule}
+use Rattle.rules.specs.Job.{listed, script, scriptOf, commandOf, expressionOf}
+use Rattle.rules.proofs.Ranges.{record-in}
+
+module _ {A : Type 0} (f : ℕ → A) where
+  pub listed-length : (n i : ℕ) → length (listed f n i) ≡ n
+  unfolding listed
+  listed-length zero i = refl
+  listed-length (suc n) i = ap suc (listed-length n (suc i))
+
+  pub listed-at : (d : A) (n i k : ℕ) → k < n → getD (listed f n i) k d ≡ f (i + k)
+  unfolding listed
+  listed-at d zero i k h = absurd (omega arith)
+  listed-at d (suc n) i zero h = ap f {x = i} {y = i + 0} (omega arith)
+  listed-at d (suc n) i (suc k) h = listed-at d n (suc i) k (omega arith) ∙ ap f {x = suc i + k} {y = i + suc k} (omega arith)
+
+  pub listed-from-zero : (d : A) (n k : ℕ) → k < n → getD (listed f n 0) k d ≡ f k
+  listed-from-zero d n k h = listed-at d n 0 k h ∙ ap f (zero-add k)
+
+pub script-length : (b : List ℕ) → length (script b) ≡ recordCount b
+unfolding script scriptOf
+script-length b = listed-length _ (recordCount b) 0
+
+-- what a run goes by: record i of the script is what its bytes spell
+pub spelled : (b : List ℕ) (i : ℕ) → i < recordCount b → fetch (script b) i ≡ commandOf b (recordPlace (scriptAt b) i)
+unfolding script scriptOf fetch
+spelled b i h = listed-from-zero (λ (k : ℕ). commandOf b (recordPlace (scriptAt b) k)) (act Action.skip) (recordCount b) i h
+
+numbered : (t : ℕ) (e : Expression) (k : ℕ) → k < commandCount → number (getD (commands t e) k (act Action.skip)) ≡ k
+unfolding commands actionNumber number listed
+numbered t e k h = sym (List·getD-map number (commands t e) k (act Action.skip)) ∙ listed-from-zero (λ (n : ℕ). n) 0 commandCount k h
+
+pub numbered-at : (b : List ℕ) (vars at : ℕ) → recordRule b vars at ≡ true → number (commandOf b at) ≡ byte b at
+unfolding commandOf
+numbered-at b vars at e = numbered (byte b (at + 1)) (expressionOf b at) (byte b at) (record-in b vars at e .command)
