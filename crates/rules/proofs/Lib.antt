@@ -1,8 +1,10 @@
 -- Laws of the definitions, the trials, and the secrecy theorem.
+pub mod Computed
+pub mod Trials
+pub mod Traps
 pub mod Tests
 pub mod Number
 pub mod Machine
-pub mod Trials
 pub mod Search
 pub mod Parts
 pub mod Jumps
@@ -31,3 +33,5 @@ pub mod Control
 pub mod Region
 pub mod Secrecy
 pub mod Noninterference
+pub mod Invariants
+pub mod Witness

@@ -48,7 +48,7 @@ loads b e =
     }
 
 -- an accepted job starts in a valid state
-begin-valid : (b : List ℕ) → Loads b → Valid (script b) (begin b)
+pub begin-valid : (b : List ℕ) → Loads b → Valid (script b) (begin b)
 unfolding begin start context nest current sub jobTree treeOf exists label
 begin-valid b l =
     record {
