@@ -2,6 +2,9 @@
 ghost use mathlib.Core.Path.{_≡_};
 ghost use Rattle.rules.specs.Level.{isLevel, join, notAbove};
 
+// The level of what everybody may know.
+pub const PUBLIC: u8 = 0;
+
 // The highest level.
 pub const SECRET: u8 = 1;
 

@@ -1,3 +1,4 @@
-// The leaf functions of the rules: each is one definition of specs/, as code.
+// The leaf functions of the rules: each is one definition of specs/, as code; and the paper's numbers.
 pub mod levels;
+pub mod limits;
 pub mod numbers;

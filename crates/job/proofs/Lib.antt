@@ -1,0 +1,4 @@
+-- Laws that several proofs cite, and what a caller of this crate goes by.
+pub mod Stack
+pub mod Fill
+pub mod Answers

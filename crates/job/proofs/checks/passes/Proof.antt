@@ -1,0 +1,66 @@
+-- `passes` meets its contract: the number says which rule is tested, and how many records there are. Assumes nothing.
+use mathlib.Core.Path.{_≡_, sym, ap, _∙_}
+use Prim.Native.Nat.{ℕ, _<_}
+use native.Mathlib.Omega.{arith}
+use borrow.Author.Tests.{ne-eqb}
+use Rattle.job.specs.Answer.{ruleOf, countOf}
+use borrow.Author.Needs.{needs}
+use Rattle.job.proofs.checks.passes.Statement.{statement}
+use Rattle.job.proofs.checks.passes.Tie as tie
+
+variable-ok-requires : tie.Need-variable-ok-requires
+unfolding countOf
+variable-ok-requires c κs =
+    let a = c .before .before .args in
+    let h : a .i < a .l .variables = rw (c .match .keys1) at (c .before .before .pre .index) in omega (arith, c .before .before .pre .inside .variables)
+
+parent-ok-requires : tie.Need-parent-ok-requires
+unfolding countOf
+parent-ok-requires c κs =
+    let a = c .before .before .args in
+    let h : a .i < a .l .nodes = rw (c .match .keys2) at (c .before .before .pre .index) in omega (arith, c .before .before .pre .inside .nodes)
+
+node-ok-requires : tie.Need-node-ok-requires
+unfolding countOf
+node-ok-requires c κs =
+    let a = c .before .before .args in
+    let h : a .i < a .l .nodes = rw (c .match .keys3) at (c .before .before .pre .index) in (omega (arith, c .before .before .pre .inside .nodes), c .before .before .pre .parent (c .match .keys3))
+
+-- a record of the script
+among : (c : tie.At-match-rest) → c .before .before .args .i < c .before .before .args .l .records
+unfolding countOf
+among c =
+    let r = c .match .rest in
+    rw (ne-eqb _ 4 (r .0 .0 .1), ne-eqb _ 5 (r .0 .1), ne-eqb _ 6 (r .1)) at (c .before .before .pre .index)
+
+mul-record-ok : tie.Need-mul-record-ok
+mul-record-ok c = omega (arith, among c, c .before .before .pre .inside .records)
+
+add-record-ok : tie.Need-add-record-ok
+add-record-ok c = omega (arith, among (c .before), c .before .before .before .pre .inside .records)
+
+record-ok-requires : tie.Need-record-ok-requires
+record-ok-requires c κs = omega (arith, among (c .before), c .before .before .before .pre .inside .records)
+
+returns : tie.Need-returns
+unfolding ruleOf
+returns c = rw (c .before .match .keys1) (c .variable-ok .ensures)
+
+returns-2 : tie.Need-returns-2
+unfolding ruleOf
+returns-2 c = rw (c .before .match .keys2) (c .parent-ok .ensures)
+
+returns-3 : tie.Need-returns-3
+unfolding ruleOf
+returns-3 c = rw (c .before .match .keys3) (c .node-ok .ensures)
+
+returns-4 : tie.Need-returns-4
+unfolding ruleOf
+returns-4 c =
+    let r = c .before .before .match .rest in rw (ne-eqb _ 4 (r .0 .0 .1), ne-eqb _ 5 (r .0 .1), ne-eqb _ 6 (r .1)) (c .record-ok .ensures)
+
+pub passes-spec : {M : Type 1} → statement M
+passes-spec =
+    tie.close (tie.spec
+    variable-ok-requires parent-ok-requires node-ok-requires mul-record-ok add-record-ok record-ok-requires returns returns-2
+    returns-3 returns-4)

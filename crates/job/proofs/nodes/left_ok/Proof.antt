@@ -1,0 +1,73 @@
+-- `left_ok` meets its contract: what is found below node i is what is found below the node that the search has come to. Assumes nothing.
+use mathlib.Core.Path.{_≡_, refl, sym, ap, _∙_}
+use mathlib.Core.Logic.{⊎-elim}
+use mathlib.Core.Option.{Option, none, some}
+use Prim.Native.Nat.{ℕ, _≤_, _<_}
+use native.Mathlib.Omega.{arith}
+use Rattle.rules.specs.Check.{nearest, leftRule, parent}
+use Rattle.rules.proofs.Nearest.{near-none, near-found, near-passed, near-below}
+use Rattle.job.specs.declared.nodes.Found.{Found}
+use Rattle.job.specs.declared.nodes.Found.the-variants.{At, Nothing}
+use Rattle.job.specs.Fields.{levelsOf}
+use borrow.Author.Needs.{needs}
+use Rattle.job.proofs.nodes.left_ok.Statement.{statement}
+use Rattle.job.proofs.nodes.left_ok.Tie as tie
+
+abbrev Inv-loop : tie.InvT-loop
+Inv-loop job base i p k₀ k = (k ≤ i) × (nearest job base p i ≡ nearest job base p k)
+
+abbrev μ-loop : tie.MeasureT-loop
+μ-loop job base i p k₀ k = k
+
+abbrev found : Found → Option ℕ
+found (At j) = some j
+found Nothing = none
+
+abbrev sought : tie.Joined1 Inv-loop μ-loop → Option ℕ
+sought c = let a = c .before .before .before .before .args in nearest (a .job .now) (a .base) (parent (a .job .now) (a .base) (a .i)) (a .i)
+
+-- what the loop is left with is what is sought
+joined : (c : tie.Joined1 Inv-loop μ-loop) → sought c ≡ found (c .if1 .left)
+joined c =
+    rw (← c .before .before .parent-at .ensures .0)
+    (⊎-elim
+    (λ w. c .before .loop .inv .1 ∙ near-none _ _ _ _ (w .0 .taken) ∙ sym (ap found (w .2)))
+    (λ w. c .before .loop .inv .1 ∙ near-found _ _ _ _ (w .0 .left) (sym (w .1 .ensures .0) ∙ w .2 .taken) ∙ sym (ap found (w .4)))
+    (c .if1 .came))
+
+at : (c : tie.After-left Inv-loop μ-loop) → sought (c .before .before) ≡ some (c .left .given .0 .0)
+at c = joined (c .before .before) ∙ ap found (c .left .given .1)
+
+loop-holds : tie.Need-loop-holds Inv-loop μ-loop
+loop-holds c = (search needs, refl)
+
+loop-again : tie.Need-loop-again Inv-loop μ-loop
+loop-again c = (
+  search needs,
+  c .before .before .before .loop .inv .1
+      ∙ near-passed _ _ _ _ (c .before .before .if1 .left) (λ e. c .if2 .left (c .before .parent-at2 .ensures .0 ∙ e)),
+)
+
+levels-at-requires : tie.Need-levels-at-requires Inv-loop μ-loop
+levels-at-requires c κs = omega (arith, near-below _ _ _ _ (at (c .before)))
+
+returns : tie.Need-returns Inv-loop μ-loop
+unfolding leftRule levelsOf
+returns c =
+    let d = c .before .before .before .before in
+    let a = d .before .before .before .before .before .before .args in
+    rw (c .not-above .ensures, c .before .levels-at2 .ensures, c .before .before .levels-at .ensures)
+    (sym (ap (leftRule (a .job .now) (a .base) (a .i)) (at d)))
+
+returns-2 : tie.Need-returns-2 Inv-loop μ-loop
+unfolding leftRule
+returns-2 c =
+    let a = c .before .before .before .before .before .before .args in
+    sym (ap (leftRule (a .job .now) (a .base) (a .i)) (joined (c .before .before) ∙ ap found (c .enum-told .given .1)))
+
+pub left-ok-spec : {M : Type 1} → statement M
+left-ok-spec =
+    tie.close (tie.spec
+    Inv-loop μ-loop (λ c κs. search needs) loop-holds (λ c. search needs) (λ c κs. search needs) (λ c. search needs)
+    loop-again (λ c. search needs) levels-at-requires (λ c κs. search needs) (λ c κs. search needs) (λ c. search needs)
+    returns returns-2)

@@ -1,0 +1,41 @@
+-- What a node's levels, the table's rows and a script record's fields stand for. Assumes nothing.
+use Prim.Native.Nat.{ℕ, _+_}
+use mathlib.Core.List.{List}
+use lib.ListN.{getD}
+use Rattle.rules.specs.Bytes.{byte, full}
+use Rattle.rules.specs.Script as Script
+use Rattle.rules.specs.Check.{existence, content, structure}
+use Rattle.rules.specs.Job.{operand, expression}
+use Rattle.job.specs.declared.nodes.Levels.{Levels}
+use Rattle.job.specs.declared.rows.Row.{Row}
+use Rattle.job.specs.declared.records.Fields.{Fields}
+
+-- the levels of node i, in the section that starts at base
+unfoldable pub levelsOf : List ℕ → ℕ → ℕ → Levels
+levelsOf b base i = record { existence = existence b base i; content = content b base i; structure = structure b base i }
+
+-- a row of the rules as the program holds it
+unfoldable pub rowHeld : Script.Row → Row
+rowHeld r = record { target = r .target; mark = r .mark; expression = r .expression }
+
+-- the fields of the record at a place
+unfoldable pub fieldsOf : List ℕ → ℕ → Fields
+fieldsOf b at =
+    record {
+      command = byte b at;
+      target = byte b (at + 1);
+      operator = byte b (at + 2);
+      leftkind = byte b (at + 3);
+      rightkind = byte b (at + 4);
+      left = full b (at + 8);
+      right = full b (at + 12);
+    }
+
+-- the expression that fields spell
+unfoldable pub expressionFrom : Fields → Script.Expression
+expressionFrom r = expression (r .operator) (operand (r .leftkind) (r .left)) (operand (r .rightkind) (r .right))
+
+-- the command that fields spell
+unfoldable pub commandFrom : Fields → Script.Command
+commandFrom r =
+    getD (Script.commands (r .target) (expressionFrom r)) (r .command) (Script.act Script.Action.skip)

@@ -1,0 +1,5 @@
+-- What the contracts of this crate cite besides the rules.
+pub mod Layout
+pub mod Fields
+pub mod Parts
+pub mod Answer

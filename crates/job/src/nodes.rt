@@ -1,0 +1,126 @@
+// The nodes, 12 bytes each from `base` on: the checks 5 and 6, and the fields.
+use crate::reads::half_at;
+use crate::reads::signed_at;
+use rules::levels::PUBLIC;
+use rules::levels::is_level;
+use rules::levels::not_above;
+use rules::limits::NO_PARENT;
+use rules::limits::NODE_SIZE;
+ghost use mathlib.Core.Path.{_≡_};
+ghost use mathlib.Core.Bool.{true};
+ghost use Prim.Native.Nat.{_+_, _<_, _≤_};
+ghost use lib.ListN.{length};
+ghost use Rattle.rules.specs.Bytes.{nodePlace};
+ghost use Rattle.rules.specs.Check.{parent, parentRule, labelRule, nearest, leftRule, childRule, nodeRule};
+ghost use Rattle.rules.specs.Job.{labelOf};
+ghost use Rattle.job.specs.Fields.{levelsOf};
+
+pub fn parent_at(job: &[u8], base: usize, i: usize) -> usize
+    requires { ⌜ nodePlace base i + 12 ≤ length (now job) ⌝ }
+    ensures { λ r. ⌜ (r ≡ parent (now (job .entry)) base i) × (r < 65536) ⌝ }
+{
+    half_at(job, base + NODE_SIZE * i)
+}
+
+// The three levels of a node; `structure` is that of its list of children.
+pub struct Levels {
+    pub existence: u8,
+    pub content: u8,
+    pub structure: u8,
+}
+
+pub fn levels_at(job: &[u8], base: usize, i: usize) -> Levels
+    requires { ⌜ nodePlace base i + 12 ≤ length (now job) ⌝ }
+    ensures { λ r. ⌜ r ≡ levelsOf (now (job .entry)) base i ⌝ }
+{
+    let at = base + NODE_SIZE * i;
+    Levels {
+        existence: job[at + 2],
+        content: job[at + 3],
+        structure: job[at + 4],
+    }
+}
+
+pub fn value_at(job: &[u8], base: usize, i: usize) -> i32
+    requires { ⌜ nodePlace base i + 12 ≤ length (now job) ⌝ }
+    ensures { λ r. ⌜ r ≡ labelOf (now (job .entry)) base i .value ⌝ }
+{
+    signed_at(job, base + NODE_SIZE * i + 8)
+}
+
+// Check 5, of node i.
+pub fn parent_ok(job: &[u8], base: usize, i: usize) -> bool
+    requires { ⌜ nodePlace base i + 12 ≤ length (now job) ⌝ }
+    ensures { λ r. ⌜ r ≡ parentRule (now (job .entry)) base i ⌝ }
+{
+    let p = parent_at(job, base, i);
+    if i == 0 { p == NO_PARENT } else { p < i }
+}
+
+fn label_ok(job: &[u8], base: usize, i: usize) -> bool
+    requires { ⌜ nodePlace base i + 12 ≤ length (now job) ⌝ }
+    ensures { λ r. ⌜ r ≡ labelRule (now (job .entry)) base i ⌝ }
+{
+    let own = levels_at(job, base, i);
+    is_level(own.existence)
+        & is_level(own.content)
+        & is_level(own.structure)
+        & not_above(own.existence, own.content)
+        & not_above(own.existence, own.structure)
+}
+
+// What the search for a left sibling comes to.
+enum Found {
+    At(usize),
+    Nothing,
+}
+
+// Whether node i exists at least where its left sibling does: the nearest earlier record with the same parent.
+fn left_ok(job: &[u8], base: usize, i: usize) -> bool
+    requires { ⌜ nodePlace base i + 12 ≤ length (now job) ⌝ }
+    ensures { λ r. ⌜ r ≡ leftRule (now (job .entry)) base i (nearest (now (job .entry)) base (parent (now (job .entry)) base i) i) ⌝ }
+{
+    let p = parent_at(job, base, i);
+    let mut k = i;
+    let left = loop {
+        if k == 0 {
+            break Found::Nothing;
+        }
+        k -= 1;
+        if parent_at(job, base, k) == p {
+            break Found::At(k);
+        }
+    };
+    match left {
+        Found::At(j) => not_above(
+            levels_at(job, base, j).existence,
+            levels_at(job, base, i).existence,
+        ),
+        Found::Nothing => true,
+    }
+}
+
+fn child_ok(job: &[u8], base: usize, i: usize) -> bool
+    requires { ⌜ (nodePlace base i + 12 ≤ length (now job)) × (parent (now job) base i < i) ⌝ }
+    ensures { λ r. ⌜ r ≡ childRule (now (job .entry)) base i ⌝ }
+{
+    let p = parent_at(job, base, i);
+    let own = levels_at(job, base, i);
+    let above = levels_at(job, base, p);
+    not_above(above.existence, own.existence)
+        & not_above(own.existence, above.structure)
+        & left_ok(job, base, i)
+}
+
+// Check 6, of node i, whose parent is right.
+pub fn node_ok(job: &[u8], base: usize, i: usize) -> bool
+    requires { ⌜ (nodePlace base i + 12 ≤ length (now job)) × (parentRule (now job) base i ≡ true) ⌝ }
+    ensures { λ r. ⌜ r ≡ nodeRule (now (job .entry)) base i ⌝ }
+{
+    let own = label_ok(job, base, i);
+    if i == 0 {
+        own & not_above(levels_at(job, base, i).existence, PUBLIC)
+    } else {
+        own & child_ok(job, base, i)
+    }
+}

@@ -1,0 +1,40 @@
+// The paper's numbers, once for every crate: limits, the sizes of records, and the numbers of the ways in which a job is turned back.
+pub const MAX_VARIABLES: usize = 64;
+
+pub const MAX_NODES: usize = 512;
+
+pub const MAX_RECORDS: usize = 1024;
+
+pub const MAX_DEPTH: usize = 16;
+
+pub const MAX_BYTES: usize = 23048;
+
+pub const TRAILER_SIZE: usize = 8;
+
+pub const VARIABLE_SIZE: usize = 8;
+
+pub const NODE_SIZE: usize = 12;
+
+pub const RECORD_SIZE: usize = 16;
+
+// The parent of record 0, the root.
+pub const NO_PARENT: usize = 65535;
+
+// The rows of the table of commands.
+pub const COMMANDS: usize = 17;
+
+pub const BAD_LENGTH: u8 = 1;
+
+pub const BAD_OFFSETS: u8 = 2;
+
+pub const BAD_COUNT: u8 = 3;
+
+pub const BAD_VARIABLE: u8 = 4;
+
+pub const BAD_PARENT: u8 = 5;
+
+pub const BAD_NODE: u8 = 6;
+
+pub const BAD_RECORD: u8 = 7;
+
+pub const BAD_BLOCK: u8 = 8;
