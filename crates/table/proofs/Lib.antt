@@ -11,3 +11,6 @@ pub mod Spares
 pub mod Words
 pub mod Effects
 pub mod Operations
+pub mod Kids
+pub mod Loading
+pub mod Jobs

@@ -39,8 +39,8 @@ unfoldable pub cells : List ℕ → Table
 cells b x = cell (word b x 0) (word b x 1) (word b x 2) (word b x 4) (labelIn (word b x 3) (word b x 5))
 
 -- the label of a value's 32 bits and three levels
-abbrev pub labelOf : ℕ → ℕ → ℕ → ℕ → Label
-labelOf v e c s = record { value = signed v; existence = e; content = c; structure = s }
+abbrev pub labelWith : ℕ → ℕ → ℕ → ℕ → Label
+labelWith v e c s = record { value = signed v; existence = e; content = c; structure = s }
 
 -- the side that the link in word j leads to
 unfoldable pub sideOf : ℕ → Side

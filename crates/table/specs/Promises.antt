@@ -2,10 +2,15 @@
 use mathlib.Core.Path.{_≡_}
 use mathlib.Core.Bool.{Bool, true, false}
 use mathlib.Core.Option.{Option, none, some}
-use Prim.Native.Nat.{ℕ, _<_, _≤_}
+use mathlib.Core.List.{List}
+use Prim.Native.Nat.{ℕ, _+_, _*_, _<_, _≤_}
+use lib.ListN.{length}
 use lib.Dec.{ltb}
-use Rattle.rules.specs.Tree.{Label, Forest, Side, Place, to, up, sub, exists, size, change, insert, remove}
-use Rattle.table.specs.Cells.{Table}
+use Rattle.rules.specs.Limits.{maxNodes, nodeSize}
+use Rattle.rules.specs.Check.{parentRule}
+use Rattle.rules.specs.Job.{treeOf}
+use Rattle.rules.specs.Tree.{Label, Forest, Side, Place, root, to, up, sub, exists, size, change, insert, remove}
+use Rattle.table.specs.Cells.{Table, gone}
 use Rattle.table.specs.Holds.{Holds}
 
 -- P holds of every tree and place that the table holds with the cursor at x
@@ -31,3 +36,16 @@ pub record Added (d : Side) (l : Label) (m m′ : Table) (n used free at : ℕ) 
   pub done : ok ≡ true → Holds m′ n used′ free′ at (change (to d p) (insert l) t) p
   pub stands : ok ≡ true → Holds m′ n used′ free′ x (change (to d p) (insert l) t) (to d p)
   pub vacant : ok ≡ true → (q : Place) → Holds m n used free x t q → ⊥
+
+-- n node records of a job, of which there is one, from base on, and room for as many places
+pub record Loadable (job words : List ℕ) (base n : ℕ) : Type 0 where
+  pub whole : base + nodeSize * n ≤ length job
+  pub long : 8 * n ≤ length words
+  pub some : 1 ≤ n
+  pub few : n ≤ maxNodes
+
+-- in a table of at least n places stands the tree of n node records, if the parent rule holds for each, with the cursor at the root
+unfoldable pub Loaded : List ℕ → ℕ → ℕ → Table → Type 0
+Loaded job base n m =
+    ((i : ℕ) → i < n → parentRule job base i ≡ true) → (places : ℕ) → n ≤ places → places ≤ maxNodes
+    → Holds m places n gone 0 (treeOf job base n) root

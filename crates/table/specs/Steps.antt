@@ -59,3 +59,13 @@ pub data Took (m : Table) (n used free : ℕ) (m′ : Table) (ok : Bool) (x free
   fresh : n ≤ free → used < n → ((y : ℕ) → m′ y ≡ m y) → ok ≡ true → x ≡ used → free′ ≡ free → used′ ≡ used + 1
       → Took m n used free m′ ok x free′ used′
   full : n ≤ free → n ≤ used → ((y : ℕ) → m′ y ≡ m y) → ok ≡ false → free′ ≡ free → used′ ≡ used → Took m n used free m′ ok x free′ used′
+
+-- the first n places have no children
+unfoldable pub Cleared : Table → ℕ → Type 0
+Cleared m n = (x : ℕ) → x < n → (m x .first ≡ gone) × (m x .children ≡ 0)
+
+-- the record x of a job, with the label l, was entered: in front of the children of its parent p, if that comes before it, or else by itself
+pub data Entered (p x : ℕ) (l : Label) (m m′ : Table) : Type 0 where
+  under : (m₁ m₂ : Table) → p < x → Put m m₁ x (cell (m x .first) (m p .first) p (m x .children) l) → Put m₁ m₂ p (withWord 0 x (m₁ p))
+      → Put m₂ m′ p (withWord 4 (oneMore (m₂ p .children)) (m₂ p)) → Entered p x l m m′
+  alone : x ≤ p → Put m m′ x (cell (m x .first) gone gone (m x .children) l) → Entered p x l m m′

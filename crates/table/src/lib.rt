@@ -3,6 +3,7 @@
 mod cells;
 mod levels;
 pub mod node;
+pub mod records;
 pub mod shape;
 mod space;
 pub mod walk;

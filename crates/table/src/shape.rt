@@ -3,7 +3,7 @@ ghost use mathlib.Core.Path.{_≡_};
 ghost use Prim.Native.Nat.{ℕ, _<_};
 ghost use Rattle.rules.specs.Tree.{Forest, Place, to, change};
 ghost use Rattle.rules.specs.Tree as Tree;
-ghost use Rattle.table.specs.Cells.{cells, word, labelOf, sideOf, parentOn, Within};
+ghost use Rattle.table.specs.Cells.{cells, word, labelWith, sideOf, parentOn, Within};
 ghost use Rattle.table.specs.Holds.{Holds};
 ghost use Rattle.table.specs.Promises.{Added};
 ghost use Rattle.table.specs.Steps.{Attached, Detached};
@@ -34,7 +34,7 @@ fn parent_on(words: &[u32], places: u32, at: u32, side: u32) -> u32
 // Links the place y in front of what stands on a side of the node at `at`, under the parent u.
 fn attach(words: &mut [u32], places: u32, at: u32, side: u32, u: u32, y: u32, node: Node)
     requires { ⌜ Within (now words) places at × ((side < 2) × ((u < places) × (y < places))) ⌝ }
-    ensures { λ _. ⌜ Attached side (labelOf (node .value) (node .existence) (node .content) (node .structure))
+    ensures { λ _. ⌜ Attached side (labelWith (node .value) (node .existence) (node .content) (node .structure))
         (cells (now (words .entry))) (cells (now (words .exit))) at u y ⌝ }
 {
     let old = cells::get(words, places, at, side);
@@ -69,7 +69,7 @@ pub fn add(
 ) -> Taken
     requires { ⌜ Within (now words) places at × (side < 2) ⌝ }
     ensures { λ r. ⌜ ((t : Forest) (p : Place) → Holds (cells (now (words .entry))) places used free at t p
-        → Added (sideOf side) (labelOf (node .value) (node .existence) (node .content) (node .structure))
+        → Added (sideOf side) (labelWith (node .value) (node .existence) (node .content) (node .structure))
         (cells (now (words .entry))) (cells (now (words .exit))) places used free at (r .ok) (r .place) (r .free) (r .used) t p) ⌝ }
 {
     let u = parent_on(words, places, at, side);
