@@ -98,10 +98,7 @@ module _ (code : ℕ → ℕ) (n : ℕ) where
 
     -- a part that no if began is closed by an end
     pub by-end : (p : ℕ) → p < n → Begins (code p) → (code p ≡ 2 → ⊥) → code (closer code n p) ≡ 5
-    by-end p h b d = go (closing p h b)
-      where
-        go : Closes (closer code n p) p → code (closer code n p) ≡ 5
-        go m = elim (closes-either _ (m .how)) [ inl e ↦ absurd (d (by-if _ p m e)) | inr e ↦ e ]
+    by-end p h b d = let m = closing p h b in elim (closes-either _ (m .how)) [ inl e ↦ absurd (d (by-if _ p m e)) | inr e ↦ e ]
 
     -- the first part of a block is closed in it
     pub first-inside : (o : ℕ) → o < n → opens (code o) ≡ true → nest code (closer code n o) ≡ o ∷ nest code o
@@ -121,25 +118,22 @@ module _ (code : ℕ → ℕ) (n : ℕ) where
 
     -- its second part ends at the same depth
     second-inside : (p : ℕ) → p < n → code p ≡ 3 → nest code (closer code n p) ≡ nest code p
-    second-inside p h k = go (closing p h (byElse k))
+    second-inside p h k = let m = closing p h (byElse k) in m .inside ∙ own (m .block) (m .owner)
       where
         own : (o : ℕ) → Owner code p o → o ∷ nest code o ≡ nest code p
         own o (one e f) = absurd (not-else (code p) (rw (← e) at f) k)
         own o (two e f) = sym f
 
-        go : Closes (closer code n p) p → nest code (closer code n p) ≡ nest code p
-        go m = m .inside ∙ own (m .block) (m .owner)
-
     -- an if or while has its end
     pub ends : (o : ℕ) → o < n → opens (code o) ≡ true → Ends o (endOf code n o)
-    ends o h k = go (closing o h (opens-begins (code o) k)) (first-inside o h k)
+    ends o h k = go (closes-either _ (m .how))
       where
-        go : Closes (closer code n o) o → nest code (closer code n o) ≡ o ∷ nest code o → Ends o (endOf code n o)
-        go m w = pick (closes-either _ (m .how))
-          where
-            pick : (code (closer code n o) ≡ 3) ⊎ (code (closer code n o) ≡ 5) → Ends o (endOf code n o)
-            pick (inr e) = rw (end-first o _ refl e) (record { range = m .range; isEnd = e; inside = w })
-            pick (inl e) =
-                let r = closing _ (m .range) (byElse e) in
-                let d : code (closer code n (closer code n o)) ≡ 5 = by-end _ (m .range) (byElse e) (λ (x : code (closer code n o) ≡ 2). omega arith) in
-                rw (end-second o _ _ refl e refl) (record { range = r .range; isEnd = d; inside = second-inside _ (m .range) e ∙ w })
+        m : Closes (closer code n o) o
+        m = closing o h (opens-begins (code o) k)
+
+        go : (code (closer code n o) ≡ 3) ⊎ (code (closer code n o) ≡ 5) → Ends o (endOf code n o)
+        go (inr e) = rw (end-first o _ refl e) (record { range = m .range; isEnd = e; inside = first-inside o h k })
+        go (inl e) =
+            let r = closing _ (m .range) (byElse e) in
+            let d : code (closer code n (closer code n o)) ≡ 5 = by-end _ (m .range) (byElse e) (λ (x : code (closer code n o) ≡ 2). omega arith) in
+            rw (end-second o _ _ refl e refl) (record { range = r .range; isEnd = d; inside = second-inside _ (m .range) e ∙ first-inside o h k })

@@ -15,7 +15,7 @@ use Rattle.rules.proofs.Jumps.{closed-here, goes-plain, goes-past-else,
 use Rattle.rules.proofs.Nests.{nest, nest-else, nest-end, nest-tail, Owner, one, two}
 use Rattle.rules.proofs.Ends.{endOf, end-first, end-second, Closes, closing, closed-part, nest-some, by-end, first-inside, else-closer, ends}
 
--- where the block is left: a while at its beginning, with a zero guard, an if behind its end
+-- where the end of the block o goes: of a while back to it, of an if onwards
 unfoldable pub exitOf : (ℕ → ℕ) → ℕ → ℕ → ℕ
 exitOf code n o = cond (eqb (code o) 4) o (suc (endOf code n o))
 
@@ -62,6 +62,9 @@ module _ (code : ℕ → ℕ) (n : ℕ) where
       unfolding exitOf pastEnd
       end-goes = rw end-unique end-target
 
+    pub one-end : (i j o : ℕ) (is js : List ℕ) → i < n → code i ≡ 5 → nest code i ≡ o ∷ is → j < n → code j ≡ 5 → nest code j ≡ o ∷ js → j ≡ i
+    one-end i j o is js h k e l m f = sym (end-unique j o js l m f) ∙ end-unique i o is h k e
+
     -- a while with a zero guard goes behind its end
     pub while-target : (o : ℕ) → o < n → code o ≡ 4 → goesTo code n o ≡ suc (endOf code n o)
     while-target o h e =
@@ -72,7 +75,8 @@ module _ (code : ℕ → ℕ) (n : ℕ) where
     pub else-target : (p o : ℕ) (os : List ℕ) → p < n → code p ≡ 3 → nest code p ≡ o ∷ os → goesTo code n p ≡ endOf code n o
     else-target p o os h k e =
         let d : code (closer code n p) ≡ 5 = by-end code n right p h (byElse k) (λ (x : code p ≡ 2). omega arith) in
-        goes-to-end code n _ p (byElse k) (λ (x : code p ≡ 4). omega arith) refl d ∙ sym (end-second code n o _ p (else-closer code n right p o os h k e .0) k refl)
+        let c : closer code n o ≡ p = else-closer code n right p o os h k e .0 in
+        goes-to-end code n _ p (byElse k) (λ (x : code p ≡ 4). omega arith) refl d ∙ sym (end-second code n o _ p c k refl)
 
     pub if-target : (o : ℕ) → o < n → code o ≡ 2 → IfZero o
     if-target o h e = go (closes-either _ (closing code n right o h (byIf e) .how))

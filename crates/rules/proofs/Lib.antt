@@ -1,4 +1,7 @@
 -- Laws of the definitions, the trials, and the secrecy theorem.
+pub mod Computed
+pub mod Trials
+pub mod Traps
 pub mod Tests
 pub mod Number
 pub mod Machine
@@ -9,9 +12,26 @@ pub mod SameNumbers
 pub mod Nests
 pub mod Ends
 pub mod Exits
-pub mod Nearest
-pub mod Checks
 pub mod Ranges
+pub mod Checks
 pub mod Decode
+pub mod Nearest
 pub mod Accepted
-pub mod Trials
+pub mod Lattice
+pub mod Trees
+pub mod Cut
+pub mod Results
+pub mod Sound
+pub mod View
+pub mod Alike
+pub mod Lockstep
+pub mod Runs
+pub mod Lines
+pub mod ByPlace
+pub mod Loaded
+pub mod Control
+pub mod Region
+pub mod Secrecy
+pub mod Noninterference
+pub mod Invariants
+pub mod Witness

@@ -5,14 +5,14 @@ use Prim.Native.Nat.{ℕ, _<_}
 use native.Mathlib.Omega.{arith}
 use borrow.Author.Tests.{eqb-true, eqb-false}
 use lib.Dec.{T, eqb}
-use lib.IntN.{ℤ, pos, natAbs}
+use lib.IntN.{ℤ, pos, natAbs, _+ℤ_, _-ℤ_}
 use lib.Signed.{mag, nonNeg}
 use mir.Syntax.{Width, w32, w64}
 use mir.Val.{Fits, SFits, toZ, ofZ}
 use mir.Facts.{sfits-widen, toZ-ofZ}
-use Rattle.rules.specs.Number.{range, same}
+use Rattle.rules.specs.Number.{range, wrap, same}
 use Rattle.rules.proofs.Tests.{Test, holds, fails, test}
-use Rattle.rules.proofs.Number.{same-yes, same-no}
+use Rattle.rules.proofs.Number.{wrap-fits, mag-sum, mag-difference, same-yes, same-no}
 
 -- what a local of width w gives back of z
 abbrev pub kept : Width → ℤ → ℤ
@@ -52,19 +52,38 @@ module _ {x r : ℤ} (e : x ≡ r) (h : SFits w32 r) where
 pub unsigned-fits : {x : ℤ} {n : ℕ} → x ≡ pos n → n < range → T (nonNeg x) × Fits w32 (natAbs x)
 unsigned-fits e h = subst (λ (z : ℤ). T (nonNeg z) × Fits w32 (natAbs z)) (sym e) (tt, record { fits = h })
 
--- a sum or a difference of two i32 at 64 bits
-module _ {x y : ℤ} (hx : SFits w32 x) (hy : SFits w32 y) (op : ℤ → ℤ → ℤ) (h : mag (op x y) < range) where
-  operands : op (kept w64 (kept w32 x)) (kept w64 (kept w32 y)) ≡ op x y
-  operands = ap₂ op (widened hx) (widened hy)
+-- an operation on two i32, cast to i64, whose exact result is less than one turn from zero
+pub record Exact (op : ℤ → ℤ → ℤ) (x y : ℤ) : Type 0 where
+  pub left : SFits w32 x
+  pub right : SFits w32 y
+  pub near : mag (op x y) < range
 
-  pub exact-fits : SFits w64 (op (kept w64 (kept w32 x)) (kept w64 (kept w32 y)))
-  exact-fits = fits-as operands (record { sfits = omega arith })
+module _ {x y : ℤ} (hx : SFits w32 x) (hy : SFits w32 y) where
+  pub exact-sum : Exact _+ℤ_ x y
+  exact-sum = record { left = hx; right = hy; near = mag-sum hx hy }
 
-  pub exact : kept w64 (op (kept w64 (kept w32 x)) (kept w64 (kept w32 y))) ≡ op x y
-  exact = read-as operands (record { sfits = omega arith })
+  pub exact-difference : Exact _-ℤ_ x y
+  exact-difference = record { left = hx; right = hy; near = mag-difference hx hy }
 
-  pub exact-near : mag (kept w64 (op (kept w64 (kept w32 x)) (kept w64 (kept w32 y)))) < range
-  exact-near = subst (λ (z : ℤ). mag z < range) (sym exact) h
+module _ {op : ℤ → ℤ → ℤ} {x y : ℤ} (e : Exact op x y) where
+  abbrev result : ℤ
+  result = op (kept w64 (kept w32 x)) (kept w64 (kept w32 y))
+
+  result-is : result ≡ op x y
+  result-is = ap₂ op (widened (e .left)) (widened (e .right))
+
+  pub exact-fits : SFits w64 result
+  exact-fits = fits-as result-is (record { sfits = omega (arith, e .near) })
+
+  pub exact : kept w64 result ≡ op x y
+  exact = read-as result-is (record { sfits = omega (arith, e .near) })
+
+  -- what `wrap` asks, and what it gives
+  pub exact-near : mag (kept w64 result) < range
+  exact-near = subst (λ (z : ℤ). mag z < range) (sym exact) (e .near)
+
+  pub exact-wrapped : {r : ℤ} → r ≡ wrap (kept w64 result) → kept w32 r ≡ wrap (op x y)
+  exact-wrapped g = read-as (g ∙ ap wrap exact) (wrap-fits (op x y))
 
 -- the machine compares the bits
 pub same-bits : {a b : ℤ} → SFits w32 a → SFits w32 b → eqb (ofZ w32 a) (ofZ w32 b) ≡ same a b

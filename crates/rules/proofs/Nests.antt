@@ -89,7 +89,8 @@ module _ (code : ℕ → ℕ) where
   ended Forall₂·nil = Forall₂·nil
   ended (Forall₂·cons w r) = r
 
-  step : (i : ℕ) → placed code (code i) (parts code i) ≡ true → Pairs (parts code i) (nest code i) → Kind (code i) → Pairs (after (code i) i (parts code i)) (nest code (suc i))
+  step : (i : ℕ) → placed code (code i) (parts code i) ≡ true → Pairs (parts code i) (nest code i) → Kind (code i)
+      → Pairs (after (code i) i (parts code i)) (nest code (suc i))
   step i f w (opener k) = rw (after-open (code i) i (parts code i) k, nest-open i k) (Forall₂·cons (one refl k) w)
   step i f w (divider k) =
       rw (after-else (code i) i (parts code i) k, nest-else i k) (divided i k refl (sym (placed-else code (code i) (parts code i) k) ∙ f) w)

@@ -84,7 +84,6 @@ pub difference-fits : (a b : ℤ) → SFits w32 (difference a b)
 unfolding difference
 difference-fits a b = wrap-fits (a -ℤ b)
 
--- the exact sum is less than a turn away: the second number is at most k in size, so that a difference is covered too
 mag-sub : (a b k : ℕ) → a < k → b ≤ k → mag (subℕ a b) < k
 mag-sub a b k h g = by (ltb a b)
   where
@@ -92,23 +91,25 @@ mag-sub a b k h g = by (ltb a b)
     by true = omega arith
     by false = omega arith
 
-pub mag-add : (x y : ℤ) (k : ℕ) → mag x < k → natAbs y ≤ k → mag (x +ℤ y) < k + k
+-- y may be -k or k, so that this serves differences too
+mag-add : (x y : ℤ) (k : ℕ) → mag x < k → natAbs y ≤ k → mag (x +ℤ y) < k + k
 mag-add (pos a) (pos b) k h g = omega arith
 mag-add (pos a) (negsuc b) k h g = omega (arith, mag-sub a (suc b) k h g)
 mag-add (negsuc a) (pos b) k h g = omega (arith, mag-sub b (suc a) (suc k) (omega arith) (omega arith))
 mag-add (negsuc a) (negsuc b) k h g = omega arith
 
-size-neg : (y : ℤ) → natAbs (negℤ y) ≡ natAbs y
-size-neg (pos zero) = refl
-size-neg (pos (suc n)) = refl
-size-neg (negsuc n) = refl
+natAbs-neg : (y : ℤ) → natAbs (negℤ y) ≡ natAbs y
+natAbs-neg (pos zero) = refl
+natAbs-neg (pos (suc n)) = refl
+natAbs-neg (negsuc n) = refl
 
+-- exact results are less than one turn from zero
 module _ {a b : ℤ} (ha : SFits w32 a) (hb : SFits w32 b) where
-  pub exact-sum : mag (a +ℤ b) < range
-  exact-sum = mag-add a b 2147483648 (ha .sfits) (natAbs-le b (hb .sfits))
+  pub mag-sum : mag (a +ℤ b) < range
+  mag-sum = mag-add a b half-range (ha .sfits) (natAbs-le b (hb .sfits))
 
-  pub exact-difference : mag (a -ℤ b) < range
-  exact-difference = mag-add a (negℤ b) 2147483648 (ha .sfits) (rw size-neg (natAbs-le b (hb .sfits)))
+  pub mag-difference : mag (a -ℤ b) < range
+  mag-difference = mag-add a (negℤ b) half-range (ha .sfits) (rw natAbs-neg (natAbs-le b (hb .sfits)))
 
 -- ---- tests
 
@@ -139,10 +140,10 @@ same-no (negsuc a) (negsuc b) n = ne-eqb a b (λ e. n (ap negsuc e))
 
 -- ---- the mean
 
-half-fits : (s : ℤ) (k : ℕ) → mag s < k + k → mag (shrZ s 2) < k
-half-fits (pos a) k h = omega arith
-half-fits (negsuc a) k h = omega arith
+mag-half : (s : ℤ) (k : ℕ) → mag s < k + k → mag (shrZ s 2) < k
+mag-half (pos a) k h = omega arith
+mag-half (negsuc a) k h = omega arith
 
 pub mean-fits : {a b : ℤ} → SFits w32 a → SFits w32 b → SFits w32 (mean a b)
 unfolding mean
-mean-fits {a} {b} ha hb = record { sfits = half-fits (a +ℤ b) 2147483648 (exact-sum ha hb) }
+mean-fits {a} {b} ha hb = record { sfits = mag-half (a +ℤ b) half-range (mag-sum ha hb) }

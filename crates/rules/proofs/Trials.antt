@@ -1,19 +1,9 @@
 -- The twelve trials, from job bytes to outcome, by computation. Assumes nothing.
 use mathlib.Core.Path.{_≡_, refl}
-use mathlib.Core.List.{List, map, flatMap, headD}
-use Rattle.rules.specs.Level
-use Rattle.rules.specs.Number
-use Rattle.rules.specs.Tree
-use Rattle.rules.specs.Script
-use Rattle.rules.specs.Blocks
-use Rattle.rules.specs.Bytes
-use Rattle.rules.specs.Check
-use Rattle.rules.specs.Job
-use Rattle.rules.specs.Run
-use Rattle.rules.specs.Outcome
-use Rattle.rules.specs.Trials
-use Rattle.rules.specs.Trials.{Shown, shown, trials}
+use mathlib.Core.List.{map}
+use Rattle.rules.specs.Trials.{Trial, shown, trials}
+use Rattle.rules.proofs.Computed.{computed}
 
 pub trials-hold : map (λ t. shown (t .came)) trials ≡ map (λ t. t .due) trials
-unfolding flatMap headD Level.public Level.secret Level.isLevel Level.join Level.notAbove Level.visible Number.bits Number.signed Number.wrap Number.sum Number.difference Number.same Number.truth Number.equal Number.less Number.mean Number.isZero Tree.noLabel Tree.label Tree.exists Tree.count Tree.size Tree.along Tree.up Tree.sub Tree.onSide Tree.change Tree.insert Tree.remove Tree.withValue Tree.setValue Script.apply Script.commands Script.actionNumber Script.number Script.rows Script.fetch Script.numberAt Blocks.opens Blocks.closes Blocks.after Blocks.headIs Blocks.firstFrom Blocks.parts Blocks.headIsIf Blocks.placed Blocks.blockRule Blocks.closesPart Blocks.closer Blocks.pastElse Blocks.pastEnd Blocks.goesTo Bytes.half Bytes.full Bytes.variablesAt Bytes.nodesAt Bytes.scriptAt Bytes.trailerAt Bytes.variableCount Bytes.nodeCount Bytes.recordCount Check.lengthRule Check.whole Check.offsetRule Check.countRule Check.variableRule Check.parent Check.existence Check.content Check.structure Check.parentRule Check.labelRule Check.nearest Check.leftRule Check.childRule Check.nodeRule Check.operandRule Check.expressionRule Check.fieldsRule Check.recordRule Check.code Check.firstFault Check.require Check.requireEach Check.checkRecords Check.checkBytes Job.listed Job.variableOf Job.variables Job.labelOf Job.childrenOf Job.treeOf Job.jobTree Job.operand Job.expression Job.expressionOf Job.commandOf Job.scriptOf Job.script Run.stopNumber Run.need Run.noVariable Run.variableAt Run.context Run.current Run.operandValue Run.operandLevel Run.value Run.levelOf Run.withVariables Run.withTree Run.withCursor Run.withLine Run.secretIf Run.position Run.flowOf Run.assign Run.output Run.moveTo Run.goTo Run.mayTouch Run.newLabel Run.insertAt Run.removeAt Run.write Run.effect Run.stepped Run.onward Run.pushed Run.enterIf Run.enterWhile Run.carried Run.step Run.run Run.start Outcome.budgetRule Outcome.bufferRule Outcome.andThen Outcome.checkJob Outcome.begin Outcome.runJob Outcome.endingNumber Outcome.endingIndex Outcome.answer Outcome.boardLines Trials.two Trials.four Trials.variable Trials.node Trials.number Trials.v Trials.value Trials.children Trials.both Trials.one Trials.bare Trials.job Trials.pair Trials.usual Trials.childless Trials.withPlaces Trials.try Trials.finishes Trials.stops shown Trials.labelled Trials.leaf Trials.over Trials.same Trials.values Trials.trial Trials.guarded Trials.wandering trials
+unfolding computed
 trials-hold = refl

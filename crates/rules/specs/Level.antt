@@ -15,10 +15,6 @@ public = 0
 unfoldable pub secret : Level
 secret = 1
 
--- whether a number is a level
-unfoldable pub isLevel : ℕ → Bool
-isLevel n = leb n secret
-
 -- "Joining takes the higher."
 unfoldable pub join : Level → Level → Level
 join a b = max a b
@@ -26,6 +22,10 @@ join a b = max a b
 -- a is not above b
 unfoldable pub notAbove : Level → Level → Bool
 notAbove a b = leb a b
+
+-- whether a number is a level
+unfoldable pub isLevel : ℕ → Bool
+isLevel n = notAbove n secret
 
 -- a reader of level o may know what has level l; the paper's public parts are what the reader of level `public` sees
 unfoldable pub visible : Level → Level → Bool

@@ -226,7 +226,8 @@ module _ (s : State) where
   -- 4: "nonzero: push E; zero: go past end, no push", which is the record j
   unfoldable pub enterWhile : ℕ → Expression → State
   enterWhile j e =
-      cond (isZero (value (s .memory) e)) (stepped (s .memory) (s .blocks) j) (stepped (s .memory) (pushed e) (suc (s .at)))
+      let zero? = isZero (value (s .memory) e) in
+      stepped (s .memory) (cond zero? (s .blocks) (pushed e)) (cond zero? j (suc (s .at)))
 
   -- one record carried out, which jumps to j if it jumps; 3: "when reached, go to end"; 5: "pop; of a while: back to it"
   unfoldable pub carried : Buffers → ℕ → Command → Result State

@@ -4,7 +4,7 @@ use Prim.Native.Nat.{ℕ, suc, _+_}
 use mathlib.Core.Bool.{Bool, true, false}
 use mathlib.Core.Option.{Option, none, some}
 use lib.IntN.{ℤ, pos}
-use Rattle.rules.specs.Level.{Level, public, notAbove}
+use Rattle.rules.specs.Level.{Level, public, notAbove, isLevel}
 
 -- "A node has a signed 32-bit value, an existence level, a content level and a list level": the last is the structure level, who may know its number of children
 pub record Label : Type 0 where
@@ -97,8 +97,15 @@ unfoldable pub setValue : ℤ → Forest → Forest
 setValue v nil = nil
 setValue v (tree l c r) = tree (withValue v l) c r
 
+-- the three levels of a label are levels
+pub record Levels (l : Label) : Type 0 where
+  pub existence : isLevel (l .existence) ≡ true
+  pub content : isLevel (l .content) ≡ true
+  pub structure : isLevel (l .structure) ≡ true
+
 -- the tree rules for a node: hi is its parent's structure level, lo the existence of the sibling to its left, or of its parent where there is none
 pub record Fit (lo hi : Level) (l : Label) : Type 0 where
+  pub levels : Levels l
   pub above : notAbove lo (l .existence) ≡ true
   pub under : notAbove (l .existence) hi ≡ true
   pub content : notAbove (l .existence) (l .content) ≡ true

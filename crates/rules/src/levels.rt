@@ -1,4 +1,4 @@
-// Levels: 0 is public, 1 is the house's.
+// Levels: 0 is public, 1 is the house's. Everything else uses a level only through these names.
 ghost use mathlib.Core.Path.{_≡_};
 ghost use Rattle.rules.specs.Level.{isLevel, join, notAbove};
 

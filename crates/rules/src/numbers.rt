@@ -18,7 +18,7 @@ pub fn bits(v: i32) -> u32
     }
 }
 
-// What the low 32 bits of a number spell, less than one turn out of range.
+// The number that the low 32 bits of `z` spell, which is at most one turn away.
 fn wrap(z: i64) -> i32
     requires { ⌜ mag z < range ⌝ }
     ensures { λ r. ⌜ r ≡ wrap z ⌝ }
@@ -32,13 +32,14 @@ fn wrap(z: i64) -> i32
     }
 }
 
-// 32 bits as a signed number.
+// 32 bits as a signed number: they are the low bits of the number that they spell unsigned.
 pub fn signed(w: u32) -> i32
     ensures { λ r. ⌜ r ≡ signed w ⌝ }
 {
     wrap(w as i64)
 }
 
+// Sums and differences wrap at 32 bits; 64 bits hold them exactly.
 pub fn sum(a: i32, b: i32) -> i32
     ensures { λ r. ⌜ r ≡ sum a b ⌝ }
 {
@@ -51,7 +52,7 @@ pub fn difference(a: i32, b: i32) -> i32
     wrap((a as i64) - (b as i64))
 }
 
-// A test as a number.
+// A test as a number, 1 or 0.
 fn truth(t: bool) -> i32
     ensures { λ r. ⌜ r ≡ truth t ⌝ }
 {
@@ -70,13 +71,14 @@ pub fn less(a: i32, b: i32) -> i32
     truth(a < b)
 }
 
-// Half, rounded down. Division rounds toward zero, so below zero it is of the next number up, and the result one down.
+// Half of a number, rounded down. Division rounds toward zero, so below zero it halves the next number up, and one is taken off.
 fn half(s: i64) -> i64
     ensures { λ r. ⌜ r ≡ shrZ s 2 ⌝ }
 {
     if s < 0 { (s + 1) / 2 - 1 } else { s / 2 }
 }
 
+// Rounded down, below zero too, of the exact sum.
 pub fn mean(a: i32, b: i32) -> i32
     ensures { λ r. ⌜ r ≡ mean a b ⌝ }
 {

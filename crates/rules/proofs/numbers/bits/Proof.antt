@@ -27,36 +27,36 @@ itself {v = pos n} h t = ap pos (omega arith)
 itself {v = negsuc n} h t = absurd (true≢false t)
 
 module _ (c : tie.Then1) where
-  up : kept w64 (kept w32 (c .before .args .v)) +ℤ pos range ≡ pos (bits (c .before .args .v))
+  abbrev v : ℤ
+  v = c .before .args .v
+
+  up : kept w64 (kept w32 v) +ℤ pos range ≡ pos (bits v)
   up =
       let h = c .before .fits .v in
       ap (λ (z : ℤ). z +ℤ pos range) (widened h) ∙ turned h (rw (toZ-ofZ h) at (c .if1 .taken))
 
-  fits : SFits w64 (pos (bits (c .before .args .v)))
-  fits = record { sfits = omega (arith, bits-below (c .before .args .v)) }
+  fits : SFits w64 (pos (bits v))
+  fits = record { sfits = omega (arith, bits-below v) }
 
-same : (c : tie.Else1) → kept w32 (c .before .args .v) ≡ pos (bits (c .before .args .v))
-same c =
+stays : (c : tie.Else1) → kept w32 (c .before .args .v) ≡ pos (bits (c .before .args .v))
+stays c =
     let h = c .before .fits .v in
     toZ-ofZ h ∙ itself h (rw (toZ-ofZ h) at (c .if1 .left))
-
-cast-result : tie.Need-cast-result
-cast-result c = widens (c .before .fits .v)
-
-add-result : tie.Need-add-result
-add-result c = fits-as (up c) (fits c)
-
-cast-result-2 : tie.Need-cast-result-2
-cast-result-2 c = unsigned-fits (read-as (up c) (fits c)) (bits-below (c .before .args .v))
-
-cast-result-3 : tie.Need-cast-result-3
-cast-result-3 c = unsigned-fits (same c) (bits-below (c .before .args .v))
 
 returns : tie.Need-returns
 returns c = ap natAbs (read-as (up c) (fits c))
 
 returns-2 : tie.Need-returns-2
-returns-2 c = ap natAbs (same c)
+returns-2 c = ap natAbs (stays c)
+
+add-result : tie.Need-add-result
+add-result c = fits-as (up c) (fits c)
+
+cast-result-2 : tie.Need-cast-result-2
+cast-result-2 c = unsigned-fits (read-as (up c) (fits c)) (bits-below (v c))
+
+cast-result-3 : tie.Need-cast-result-3
+cast-result-3 c = unsigned-fits (stays c) (bits-below (c .before .args .v))
 
 pub bits-spec : {M : Type 1} → statement M
-bits-spec = tie.close (tie.spec cast-result add-result cast-result-2 cast-result-3 returns returns-2)
+bits-spec = tie.close (tie.spec (λ c. widens (c .before .fits .v)) add-result cast-result-2 cast-result-3 returns returns-2)

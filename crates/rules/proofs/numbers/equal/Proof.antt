@@ -7,9 +7,6 @@ use Rattle.rules.proofs.Machine.{read-as, same-bits}
 use Rattle.rules.proofs.numbers.equal.Statement.{statement}
 use Rattle.rules.proofs.numbers.equal.Tie as tie
 
-truth-requires : tie.Need-truth-requires
-truth-requires c κs = search needs
-
 returns : tie.Need-returns
 unfolding equal
 returns c =
@@ -17,4 +14,4 @@ returns c =
     read-as (c .truth .ensures ∙ ap truth (same-bits (s .fits .a) (s .fits .b))) (equal-fits (s .args .a) (s .args .b))
 
 pub equal-spec : {M : Type 1} → statement M
-equal-spec = tie.close (tie.spec truth-requires returns)
+equal-spec = tie.close (tie.spec (λ c κs. search needs) returns)

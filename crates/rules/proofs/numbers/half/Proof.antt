@@ -72,6 +72,12 @@ half-up c =
     let e = toZ-ofZ (c .before .fits .s) in
     ap (λ (y : ℤ). quotZ y (pos 2)) e ∙ from-zero (c .before .args .s) (rw e at (c .if1 .left))
 
+returns : tie.Need-returns
+returns c = read-as (down c) (half-fits (c .before .fits .s))
+
+returns-2 : tie.Need-returns-2
+returns-2 c = read-as (half-up c) (half-fits (c .before .fits .s))
+
 add-result : tie.Need-add-result
 add-result c = fits-as (up c) (up-fits c)
 
@@ -83,12 +89,6 @@ sub-result c = fits-as (down c) (half-fits (c .before .fits .s))
 
 div-result-2 : tie.Need-div-result-2
 div-result-2 c = (omega arith, fits-as (half-up c) (half-fits (c .before .fits .s)))
-
-returns : tie.Need-returns
-returns c = read-as (down c) (half-fits (c .before .fits .s))
-
-returns-2 : tie.Need-returns-2
-returns-2 c = read-as (half-up c) (half-fits (c .before .fits .s))
 
 pub half-spec : {M : Type 1} → statement M
 half-spec = tie.close (tie.spec add-result div-result sub-result div-result-2 returns returns-2)

@@ -9,9 +9,6 @@ use Rattle.rules.proofs.Machine.{read-as}
 use Rattle.rules.proofs.numbers.less.Statement.{statement}
 use Rattle.rules.proofs.numbers.less.Tie as tie
 
-truth-requires : tie.Need-truth-requires
-truth-requires c κs = search needs
-
 returns : tie.Need-returns
 unfolding less
 returns c =
@@ -19,4 +16,4 @@ returns c =
     read-as (c .truth .ensures ∙ ap truth (ap₂ ltZ (toZ-ofZ (s .fits .a)) (toZ-ofZ (s .fits .b)))) (less-fits (s .args .a) (s .args .b))
 
 pub less-spec : {M : Type 1} → statement M
-less-spec = tie.close (tie.spec truth-requires returns)
+less-spec = tie.close (tie.spec (λ c κs. search needs) returns)

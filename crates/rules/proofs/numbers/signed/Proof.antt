@@ -20,17 +20,17 @@ wrap-pos : (w : ℕ) → w < range → wrap (pos w) ≡ signed w
 unfolding wrap bits
 wrap-pos w h = ap signed (omega arith)
 
-cast-wrap : tie.Need-cast-wrap
-cast-wrap c = omega arith
-
-wrap-requires : tie.Need-wrap-requires
-wrap-requires c κs = rw (wide (c .args .w) (omega arith)) (omega arith)
-
 returns : tie.Need-returns
 returns c =
     let w = c .before .args .w in
     let h : w < range = omega arith in
     read-as (c .wrap .ensures ∙ ap wrap (wide w h) ∙ wrap-pos w h) (signed-fits w h)
+
+cast-wrap : tie.Need-cast-wrap
+cast-wrap c = omega arith
+
+wrap-requires : tie.Need-wrap-requires
+wrap-requires c κs = rw (wide (c .args .w) (omega arith)) (omega arith)
 
 pub signed-spec : {M : Type 1} → statement M
 signed-spec = tie.close (tie.spec cast-wrap wrap-requires returns)

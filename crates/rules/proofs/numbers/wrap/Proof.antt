@@ -32,19 +32,30 @@ down : (c : tie.Then1) → kept w64 (c .before .args .z) -ℤ pos range ≡ wrap
 down c =
     let s = c .before in
     let e = toZ-ofZ (s .fits .z) in
-    ap (λ (z : ℤ). z -ℤ pos range) e ∙ wrapped (s .args .z) (above (s .args .z) (s .pre) (rw e at (c .if1 .taken))) (bits-turn-back (s .args .z))
+    ap (λ (z : ℤ). z -ℤ pos range) e
+    ∙ wrapped (s .args .z) (above (s .args .z) (s .pre) (rw e at (c .if1 .taken))) (bits-turn-back (s .args .z))
 
 up : (c : tie.Then2) → kept w64 (c .before .before .args .z) +ℤ pos range ≡ wrap (c .before .before .args .z)
 up c =
     let s = c .before .before in
     let e = toZ-ofZ (s .fits .z) in
-    ap (λ (z : ℤ). z +ℤ pos range) e ∙ wrapped (s .args .z) (below (s .args .z) (s .pre) (rw e at (c .if2 .taken))) (bits-turn (s .args .z))
+    ap (λ (z : ℤ). z +ℤ pos range) e
+    ∙ wrapped (s .args .z) (below (s .args .z) (s .pre) (rw e at (c .if2 .taken))) (bits-turn (s .args .z))
 
-same : (c : tie.Else2) → c .before .before .args .z ≡ wrap (c .before .before .args .z)
-same c =
+stays : (c : tie.Else2) → c .before .before .args .z ≡ wrap (c .before .before .args .z)
+stays c =
     let s = c .before .before in
     let e = toZ-ofZ (s .fits .z) in
     wrapped (s .args .z) (within (s .args .z) (rw e at (c .before .if1 .left)) (rw e at (c .if2 .left))) refl
+
+returns : tie.Need-returns
+returns c = narrowed (down c) (wrap-fits (c .before .args .z))
+
+returns-2 : tie.Need-returns-2
+returns-2 c = narrowed (up c) (wrap-fits (c .before .before .args .z))
+
+returns-3 : tie.Need-returns-3
+returns-3 c = narrowed (stays c) (wrap-fits (c .before .before .args .z))
 
 sub-result : tie.Need-sub-result
 sub-result c = fits-wide (down c) (wrap-fits (c .before .args .z))
@@ -59,16 +70,7 @@ cast-result-2 : tie.Need-cast-result-2
 cast-result-2 c = narrows (up c) (wrap-fits (c .before .before .args .z))
 
 cast-result-3 : tie.Need-cast-result-3
-cast-result-3 c = narrows (same c) (wrap-fits (c .before .before .args .z))
-
-returns : tie.Need-returns
-returns c = narrowed (down c) (wrap-fits (c .before .args .z))
-
-returns-2 : tie.Need-returns-2
-returns-2 c = narrowed (up c) (wrap-fits (c .before .before .args .z))
-
-returns-3 : tie.Need-returns-3
-returns-3 c = narrowed (same c) (wrap-fits (c .before .before .args .z))
+cast-result-3 c = narrows (stays c) (wrap-fits (c .before .before .args .z))
 
 pub wrap-spec : {M : Type 1} → statement M
 wrap-spec = tie.close (tie.spec sub-result cast-result add-result cast-result-2 cast-result-3 returns returns-2 returns-3)

@@ -1,0 +1,224 @@
+-- Two memories with the same view, in one context that the reader sees: after the same action in both, wherever both go on, the views are
+-- the same again. Where the cursor is seen both do the same to the cut; where it is not, each is confined. Assumes nothing.
+use mathlib.Core.Path.{_≡_, refl, sym, _∙_, ap}
+use Prim.Native.Nat.{ℕ, zero, suc}
+use mathlib.Core.Bool.{Bool, true, false, cond}
+use mathlib.Core.Option.{Option, none, some}
+use mathlib.Core.List.{List, [], _∷_, _++_, map}
+use lib.ListN.{set}
+use lib.IntN.{ℤ, pos}
+use Rattle.rules.specs.Level.{Level, public, secret, join, notAbove, visible}
+use Rattle.rules.specs.Tree as Tree
+use Rattle.rules.specs.Tree.{Label, Forest, Side, Place, root, to, up, sub, label, exists, change, setValue, withValue}
+use Rattle.rules.specs.Script.{Expression, Action}
+use Rattle.rules.specs.Job.{Variable}
+use Rattle.rules.specs.Run.{Memory, Buffers, Stop, absent, Result, variableAt, current, levelOf, value, withVariables, withTree, withCursor, withLine, secretIf, position, flowOf, assign, output, moveTo, goTo, mayTouch, newLabel, insertAt, removeAt, write, effect}
+use Rattle.rules.specs.Public.{seenVariable, seenValue}
+use Rattle.rules.proofs.Tests.{Test, holds, fails, test, clash}
+use Rattle.rules.proofs.Lattice.{level-secret, vis-public, vis-down, vis-both, vis-left, hid-up, hid-right}
+use Rattle.rules.proofs.Cut.{mask, cutLabel, cut, cut-change, insert-seen, remove-seen, set-seen, Heads, seen, hidden, heads}
+use Rattle.rules.proofs.Results.{Good, Good₂, good₂-need, good₂-stop, good₂-of}
+use Rattle.rules.proofs.Sound.{Sound, there}
+use Rattle.rules.proofs.View.{view, seenCursor, Kept, kept-go, kept-insert, kept-remove, kept-write}
+use Rattle.rules.proofs.Alike.{Agrees, agree-value, expressions, levels-eq, existence-eq, content-eq, tree-eq, variables-eq, variable-eq, Cursors, seenBoth, seenNeither, cursors, subs, Nodes, nodes}
+
+map-set : {A B : Type 0} (f : A → B) (xs : List A) (i : ℕ) (x : A) → map f (set xs i x) ≡ set (map f xs) i (f x)
+map-set f [] i x = refl
+map-set f (y ∷ ys) zero x = refl
+map-set f (y ∷ ys) (suc i) x = ap (λ z. f y ∷ z) (map-set f ys i x)
+
+module _ (o : Level) where
+  unfoldable pub SameView : Memory → Memory → Type 0
+  SameView m n = view o m ≡ view o n
+
+  -- one level, and one value where it is visible, look the same
+
+  mask-eq : (l₁ l₂ : Level) (z₁ z₂ : ℤ) → l₁ ≡ l₂ → (visible o l₁ ≡ true → z₁ ≡ z₂) → mask o l₁ z₁ ≡ mask o l₂ z₂
+  unfolding mask
+  mask-eq l₁ l₂ z₁ z₂ l k = pick (test (visible o l₁))
+    where
+      pick : Test (visible o l₁) → mask o l₁ z₁ ≡ mask o l₂ z₂
+      pick (holds e) = rw (← l, k e)
+      pick (fails e) = rw (← l, e)
+
+  variable-same : (w₁ w₂ : Variable) (z₁ z₂ : ℤ) → seenVariable o w₁ ≡ seenVariable o w₂ → (visible o (w₁ .level) ≡ true → z₁ ≡ z₂)
+      → seenVariable o (record { level = w₁ .level; value = z₁ }) ≡ seenVariable o (record { level = w₂ .level; value = z₂ })
+  unfolding seenVariable seenValue
+  variable-same w₁ w₂ z₁ z₂ h k = pick (test (visible o (w₁ .level)))
+    where
+      l : w₁ .level ≡ w₂ .level
+      l = ap (λ w. w .level) h
+
+      pick : Test (visible o (w₁ .level)) → seenVariable o (record { level = w₁ .level; value = z₁ }) ≡ seenVariable o (record { level = w₂ .level; value = z₂ })
+      pick (holds e) = rw (k e, l)
+      pick (fails e) = rw (e, l, rw l at e)
+
+  module _
+      (lent₁ lent₂ : Buffers) (pc : Level) (light : visible o pc ≡ true) (m₁ m₂ : Memory) (s₁ : Sound m₁) (s₂ : Sound m₂) (v : view o m₁ ≡ view o m₂)
+    where
+      -- where the flow is visible, the value is one
+      value-eq : (e : Expression) (l : Level) → notAbove (flowOf pc m₁ e) l ≡ true → visible o l ≡ true → value m₁ e ≡ value m₂ e
+      unfolding flowOf
+      value-eq e l h k = agree-value o (expressions o m₁ m₂ s₁ s₂ v e) (vis-left o _ _ (vis-down o _ _ h k))
+
+      view-tree : (t u : Forest) → cut o t ≡ cut o u → SameView (withTree m₁ t) (withTree m₂ u)
+      unfolding SameView view withTree
+      view-tree t u h = λ i. record { variables = (v i) .variables; tree = h i; cursor = (v i) .cursor; lines = (v i) .lines }
+
+      view-cursor : (p q : Place) (l k : Level) → seenCursor o p l ≡ seenCursor o q k → SameView (withCursor m₁ p l) (withCursor m₂ q k)
+      unfolding SameView view withCursor
+      view-cursor p q l k h = λ i. record { variables = (v i) .variables; tree = (v i) .tree; cursor = h i; lines = (v i) .lines }
+
+      -- by the cursors: seen at one place, or each memory is kept
+      by-cursor : (act : Buffers → Memory → Result Memory)
+          → (visible o (m₁ .level) ≡ true → m₁ .cursor ≡ m₂ .cursor → m₁ .level ≡ m₂ .level → Good₂ SameView (act lent₁ m₁) (act lent₂ m₂))
+          → ((lent : Buffers) (m : Memory) → Sound m → visible o (m .level) ≡ false → Good (Kept o m) (act lent m))
+          → Good₂ SameView (act lent₁ m₁) (act lent₂ m₂)
+      unfolding SameView Kept
+      by-cursor act light dark = pick (cursors o m₁ m₂ s₁ s₂ v)
+        where
+          pick : Cursors o m₁ m₂ s₁ s₂ v → Good₂ SameView (act lent₁ m₁) (act lent₂ m₂)
+          pick (seenBoth e p l) = light e p l
+          pick (seenNeither e f) =
+              good₂-of (Kept o m₁) (Kept o m₂) SameView (λ s t h k. h ∙ v ∙ sym k) (act lent₁ m₁) (act lent₂ m₂) (dark lent₁ m₁ s₁ e) (dark lent₂ m₂ s₂ f)
+
+      -- 1
+      lock-assign : (i : ℕ) (e : Expression)
+          → Good₂ SameView (assign pc m₁ i (variableAt (m₁ .variables) i) e) (assign pc m₂ i (variableAt (m₂ .variables) i) e)
+      unfolding assign SameView view withVariables
+      lock-assign i e =
+          good₂-need SameView _ _ _ _ _ _ λ h _.
+          let w = variable-same _ _ (value m₁ e) (value m₂ e) (variable-eq o m₁ m₂ s₁ s₂ v i) (value-eq e _ h) in
+          let k = map-set (seenVariable o) (m₁ .variables) i _ ∙ (λ j. set (variables-eq o m₁ m₂ s₁ s₂ v j) i (w j)) ∙ sym (map-set (seenVariable o) (m₂ .variables) i _) in
+          λ j. record { variables = k j; tree = (v j) .tree; cursor = (v j) .cursor; lines = (v j) .lines }
+
+      -- 6
+      lock-output : (n₁ n₂ : ℕ) (e : Expression) → Good₂ SameView (output pc m₁ n₁ e) (output pc m₂ n₂ e)
+      unfolding output SameView view withLine
+      lock-output n₁ n₂ e =
+          good₂-need SameView _ _ _ _ _ _ λ h _. good₂-need SameView _ _ _ _ _ _ λ _ _.
+          let z = value-eq e public h (vis-public o) in
+          λ j. record { variables = (v j) .variables; tree = (v j) .tree; cursor = (v j) .cursor; lines = (v j) .lines ++ (z j ∷ []) }
+
+      -- 7
+      lock-root : Good₂ SameView (moveTo pc m₁ root pc) (moveTo pc m₂ root pc)
+      unfolding moveTo
+      lock-root = good₂-need SameView _ _ _ _ _ _ λ _ _. view-cursor _ _ _ _ refl
+
+      -- 16: where the cursor is not seen, neither is the level that it is raised to
+      lock-raise : Good₂ SameView (moveTo pc m₁ (m₁ .cursor) secret) (moveTo pc m₂ (m₂ .cursor) secret)
+      unfolding moveTo seenCursor
+      lock-raise = good₂-need SameView _ _ _ _ _ _ λ _ _. view-cursor _ _ _ _ (pick (cursors o m₁ m₂ s₁ s₂ v))
+        where
+          pick : Cursors o m₁ m₂ s₁ s₂ v → seenCursor o (m₁ .cursor) secret ≡ seenCursor o (m₂ .cursor) secret
+          pick (seenBoth e p l) = ap (λ c. seenCursor o c secret) p
+          pick (seenNeither e f) = rw (hid-up o _ _ (level-secret _ (s₁ .cursor)) e)
+
+      -- 8, 9, 10
+      go-seen : (p q : Option Place) → p ≡ q → m₁ .level ≡ m₂ .level → Good₂ SameView (goTo pc m₁ p) (goTo pc m₂ q)
+      unfolding goTo moveTo seenCursor
+      go-seen none q w l = tt
+      go-seen (some p) none w l = good₂-stop SameView (goTo pc m₁ (some p)) absent
+      go-seen (some p) (some q) w l =
+          good₂-need SameView _ _ _ _ _ _ λ a b. good₂-need SameView _ _ _ _ _ _ λ _ _.
+          view-cursor _ _ _ _ (pick (heads o _ _ a b (subs o m₁ m₂ s₁ s₂ v p ∙ ap (λ x. cut o (sub x (m₂ .tree))) place)))
+        where
+          place : p ≡ q
+          place = cc
+
+          pick : Heads o (sub p (m₁ .tree)) (sub q (m₂ .tree))
+              → seenCursor o p (join (m₁ .level) ((label (sub p (m₁ .tree))) .existence)) ≡ seenCursor o q (join (m₂ .level) ((label (sub q (m₂ .tree))) .existence))
+          pick (seen a h c) = λ i. seenCursor o (place i) (join (l i) (existence-eq o _ _ h i))
+          pick (hidden a b) = rw (hid-right o (m₁ .level) _ a, hid-right o (m₂ .level) _ b)
+
+      -- a place that both find from their cursors
+      lock-go : (f : Place → Option Place) → Good₂ SameView (goTo pc m₁ (f (m₁ .cursor))) (goTo pc m₂ (f (m₂ .cursor)))
+      lock-go f = by-cursor (λ lent m. goTo pc m (f (m .cursor))) (λ e p l. go-seen _ _ (ap f p) l) (λ lent m s e. kept-go o pc m _ (λ _. e))
+
+      -- the same done to the cut at the same place
+      cut-eq : (p q : Place) (f g h k : Forest → Forest) → p ≡ q → h ≡ k → cut o (f (sub p (m₁ .tree))) ≡ h (cut o (sub p (m₁ .tree)))
+          → cut o (g (sub q (m₂ .tree))) ≡ k (cut o (sub q (m₂ .tree))) → cut o (change p f (m₁ .tree)) ≡ cut o (change q g (m₂ .tree))
+      cut-eq p q f g h k w x a b =
+          cut-change o p f h (m₁ .tree) a ∙ (λ i. change (w i) (x i) (tree-eq o m₁ m₂ s₁ s₂ v i)) ∙ sym (cut-change o q g k (m₂ .tree) b)
+
+      position-eq : m₁ .level ≡ m₂ .level → position pc m₁ ≡ position pc m₂
+      unfolding position
+      position-eq l = ap (join pc) l
+
+      position-seen : visible o (m₁ .level) ≡ true → visible o (position pc m₁) ≡ true
+      unfolding position
+      position-seen e = vis-both o _ _ light e
+
+      position-hidden : (m : Memory) → visible o (m .level) ≡ false → visible o (position pc m) ≡ false
+      unfolding position
+      position-hidden m e = hid-right o _ _ e
+
+      -- 11 and 12
+      new-eq : visible o (m₁ .level) ≡ true → m₁ .cursor ≡ m₂ .cursor → m₁ .level ≡ m₂ .level → (mark : ℕ) (e : Expression)
+          → cutLabel o (newLabel pc m₁ mark e) ≡ cutLabel o (newLabel pc m₂ mark e)
+      unfolding cutLabel withValue newLabel flowOf
+      new-eq a p l mark e =
+          let h = position-eq l in
+          let c : join (flowOf pc m₁ e) (secretIf _) ≡ join (flowOf pc m₂ e) (secretIf _) =
+          λ i. join (join (levels-eq o m₁ m₂ s₁ s₂ v a p l e i) (h i)) (secretIf (lib.Dec.eqb (Prim.Native.Nat._%_ mark 2) 1)) in
+          let z = mask-eq _ _ (value m₁ e) (value m₂ e) c
+          (λ q. agree-value o (expressions o m₁ m₂ s₁ s₂ v e) (vis-left o _ _ (vis-left o _ _ q))) in
+          λ i. record { value = z i; existence = h i; content = c i; structure = join (h i) (secretIf (lib.Dec.leb 2 mark)) }
+
+      new-seen : (m : Memory) (mark : ℕ) (e : Expression) → visible o (position pc m) ≡ true → visible o ((newLabel pc m mark e) .existence) ≡ true
+      unfolding newLabel
+      new-seen m mark e h = h
+
+      insert-seen-at : (n₁ n₂ : ℕ) (p q : Place) (c d : Option Place) (mark : ℕ) (e : Expression) → p ≡ q → visible o (m₁ .level) ≡ true
+          → m₁ .cursor ≡ m₂ .cursor → m₁ .level ≡ m₂ .level → Good₂ SameView (insertAt pc m₁ n₁ p c mark e) (insertAt pc m₂ n₂ q d mark e)
+      unfolding insertAt
+      insert-seen-at n₁ n₂ p q none d mark e w a u l = tt
+      insert-seen-at n₁ n₂ p q (some c) none mark e w a u l = good₂-stop SameView (insertAt pc m₁ n₁ p (some c) mark e) absent
+      insert-seen-at n₁ n₂ p q (some c) (some d) mark e w a u l =
+          good₂-need SameView _ _ _ _ _ _ λ _ _. good₂-need SameView _ _ _ _ _ _ λ _ _.
+          good₂-need SameView _ _ _ _ _ _ λ _ _. good₂-need SameView _ _ _ _ _ _ λ _ _.
+          view-tree _ _
+          (cut-eq p q _ _ _ _ w (ap Tree.insert (new-eq a u l mark e)) (insert-seen o _ _ (new-seen m₁ mark e (position-seen a)))
+          (insert-seen o _ _ (new-seen m₂ mark e (rw (← position-eq l) (position-seen a)))))
+
+      lock-insert : (d : Side) (mark : ℕ) (e : Expression) → Good₂ SameView (effect lent₁ pc m₁ (Action.insert d mark e)) (effect lent₂ pc m₂ (Action.insert d mark e))
+      unfolding effect
+      lock-insert d mark e =
+          by-cursor (λ lent m. insertAt pc m (lent .places) (to d (m .cursor)) (up (to d (m .cursor))) mark e)
+          (λ a p l. insert-seen-at _ _ _ _ _ _ mark e (ap (to d) p) a p l) (λ lent m s a. kept-insert o pc m s (position-hidden m a) _ _ _ mark e)
+
+      -- 13 and 14
+      lock-remove : (d : Side) → Good₂ SameView (removeAt pc m₁ (to d (m₁ .cursor))) (removeAt pc m₂ (to d (m₂ .cursor)))
+      unfolding removeAt
+      lock-remove d =
+          by-cursor (λ lent m. removeAt pc m (to d (m .cursor)))
+          (λ a p l.
+          good₂-need SameView _ _ _ _ _ _ λ _ _. good₂-need SameView _ _ _ _ _ _ λ _ _.
+          view-tree _ _
+          (cut-eq _ _ _ _ Tree.remove Tree.remove (ap (to d) p) refl (remove-seen o _ _ _ (there m₁ s₁ (to d (m₁ .cursor)))) (remove-seen o _ _ _ (there m₂ s₂ (to d (m₂ .cursor))))))
+          (λ lent m s a. kept-remove o pc m s (position-hidden m a) _)
+
+      -- 15
+      lock-write : (e : Expression) → Good₂ SameView (write pc m₁ e) (write pc m₂ e)
+      unfolding write current
+      lock-write e =
+          by-cursor (λ lent m. write pc m e)
+          (λ a p l.
+          good₂-need SameView _ _ _ _ _ _ λ h _.
+          let c = content-eq o _ _ ((nodes o m₁ m₂ s₁ s₂ v a p) .labels) in
+          view-tree _ _
+          (cut-eq _ _ _ _ _ _ p (ap setValue (mask-eq _ _ (value m₁ e) (value m₂ e) c (value-eq e _ h))) (set-seen o _ _) (set-seen o _ _)))
+          (λ lent m s a. kept-write o pc m s (position-hidden m a) e)
+
+      pub lockstep : (a : Action) → Good₂ SameView (effect lent₁ pc m₁ a) (effect lent₂ pc m₂ a)
+      unfolding effect SameView
+      lockstep Action.skip = v
+      lockstep (Action.assign i e) = lock-assign i e
+      lockstep (Action.output e) = lock-output _ _ e
+      lockstep Action.goRoot = lock-root
+      lockstep Action.goParent = lock-go up
+      lockstep (Action.go d) = lock-go (λ p. some (to d p))
+      lockstep (Action.insert d mark e) = lock-insert d mark e
+      lockstep (Action.remove d) = lock-remove d
+      lockstep (Action.write e) = lock-write e
+      lockstep Action.raise = lock-raise

@@ -1,0 +1,62 @@
+-- What holds of the results of steps: of one, wherever it goes on, and of two, wherever both go on. Assumes nothing.
+use mathlib.Core.Path.{_≡_, refl}
+use mathlib.Core.Bool.{Bool, true, false, cond}
+use Rattle.rules.specs.Run.{Memory, State, Stop, Result, next, stop, need, stepped, onward}
+
+module _ {A : Type 0} where
+  -- P holds of what a result goes on with
+  abbrev pub Good : (A → Type 0) → Result A → Type 0
+  Good P (next a) = P a
+  Good P (stop k) = Unit {0}
+
+  pub good-need : (P : A → Type 0) (k : Stop) (b : Bool) (r : Result A) → (b ≡ true → Good P r) → Good P (need k b r)
+  unfolding need
+  good-need P k true r h = h refl
+  good-need P k false r h = tt
+
+  pub good-map : (P Q : A → Type 0) → ((a : A) → P a → Q a) → (r : Result A) → Good P r → Good Q r
+  good-map P Q f (next a) h = f a h
+  good-map P Q f (stop k) h = tt
+
+  pub good-next : (P : A → Type 0) (r : Result A) (a : A) → r ≡ next a → Good P r → P a
+  good-next P r a e h = rw e at h
+
+  -- R holds of what two results go on with
+  abbrev pub Good₂ : (A → A → Type 0) → Result A → Result A → Type 0
+  Good₂ R (stop k) q = Unit {0}
+  Good₂ R (next a) (stop k) = Unit {0}
+  Good₂ R (next a) (next b) = R a b
+
+  pub good₂-stop : (R : A → A → Type 0) (r : Result A) (k : Stop) → Good₂ R r (stop k)
+  good₂-stop R (next a) k = tt
+  good₂-stop R (stop j) k = tt
+
+  pub good₂-need : (R : A → A → Type 0) (j k : Stop) (b c : Bool) (r q : Result A) → (b ≡ true → c ≡ true → Good₂ R r q)
+      → Good₂ R (need j b r) (need k c q)
+  unfolding need
+  good₂-need R j k true true r q h = h refl refl
+  good₂-need R j k true false r q h = good₂-stop R r k
+  good₂-need R j k false c r q h = tt
+
+  pub good₂-of : (P Q : A → Type 0) (R : A → A → Type 0) → ((a b : A) → P a → Q b → R a b) → (r q : Result A) → Good P r → Good Q q → Good₂ R r q
+  good₂-of P Q R f (next a) (next b) h k = f a b h k
+  good₂-of P Q R f (next a) (stop k) h l = tt
+  good₂-of P Q R f (stop j) q h l = tt
+
+  pub good₂-next : (R : A → A → Type 0) (r q : Result A) (a b : A) → r ≡ next a → q ≡ next b → Good₂ R r q → R a b
+  good₂-next R r q a b e f h = rw (e, f) at h
+
+-- what holds of the memory after an action holds of the state after it
+pub good-onward : (P : Memory → Type 0) (Q : State → Type 0) (s : State)
+    → ((m : Memory) → P m → Q (stepped s m (s .blocks) (Prim.Native.Nat.suc (s .at)))) → (r : Result Memory) → Good P r → Good Q (onward s r)
+unfolding onward
+good-onward P Q s f (next m) h = f m h
+good-onward P Q s f (stop k) h = tt
+
+pub good₂-onward : (P : Memory → Memory → Type 0) (Q : State → State → Type 0) (s t : State)
+    → ((m n : Memory) → P m n → Q (stepped s m (s .blocks) (Prim.Native.Nat.suc (s .at))) (stepped t n (t .blocks) (Prim.Native.Nat.suc (t .at))))
+    → (r q : Result Memory) → Good₂ P r q → Good₂ Q (onward s r) (onward t q)
+unfolding onward
+good₂-onward P Q s t f (next m) (next n) h = f m n h
+good₂-onward P Q s t f (next m) (stop k) h = tt
+good₂-onward P Q s t f (stop k) q h = tt

@@ -1,0 +1,78 @@
+-- The four laws of a run: its budget is used up, its script is over, it goes on, it stops; and the law that a run with a larger budget goes
+-- on where one with a smaller budget was spent, and is the same otherwise. Nothing else opens `run`. Assumes nothing.
+use mathlib.Core.Path.{_≡_, refl, sym, _∙_, ap}
+use Prim.Native.Nat.{ℕ, zero, suc, _+_}
+use native.Mathlib.Nat.{zero-add, suc-add}
+use mathlib.Core.Bool.{Bool, true, false}
+use mathlib.Core.List.{List}
+use lib.ListN.{length}
+use lib.Dec.{ltb}
+use Rattle.rules.specs.Script.{Command}
+use Rattle.rules.specs.Run.{State, Buffers, Stop, spent, Result, next, stop, finished, stopped, Ended, step, run}
+use Rattle.rules.proofs.Tests.{Test, holds, fails, test}
+
+-- a run that a number ends, in a state
+abbrev pub halted : Stop → State → Ended
+halted k s = record { ending = stopped k; last = s }
+
+module _ (lent : Buffers) (cs : List Command) where
+  -- whether a record comes next
+  abbrev pub more : State → Bool
+  more s = ltb (s .at) (length cs)
+
+  pub run-spent : (s : State) → more s ≡ true → run lent cs zero s ≡ halted spent s
+  unfolding run
+  run-spent s e = rw e
+
+  pub run-over : (n : ℕ) (s : State) → more s ≡ false → run lent cs n s ≡ record { ending = finished; last = s }
+  unfolding run
+  run-over zero s e = rw e
+  run-over (suc n) s e = rw (e, run)
+
+  pub run-next : (n : ℕ) (s s′ : State) → more s ≡ true → step lent cs s ≡ next s′ → run lent cs (suc n) s ≡ run lent cs n s′
+  unfolding run
+  run-next n s s′ e h = rw (e, run, h, run)
+
+  pub run-stop : (n : ℕ) (s : State) (k : Stop) → more s ≡ true → step lent cs s ≡ stop k → run lent cs (suc n) s ≡ halted k s
+  unfolding run
+  run-stop n s k e h = rw (e, run, h, run)
+
+  -- a record that comes next stops the run, or the run goes on
+  pub data Turn (n : ℕ) (s : State) : Type 0 where
+    stops : (k : Stop) → run lent cs (suc n) s ≡ halted k s → Turn n s
+    goes : (s′ : State) → step lent cs s ≡ next s′ → run lent cs (suc n) s ≡ run lent cs n s′ → Turn n s
+
+  pub turn : (n : ℕ) (s : State) → more s ≡ true → Turn n s
+  turn n s e = pick (step lent cs s) refl
+    where
+      pick : (r : Result State) → step lent cs s ≡ r → Turn n s
+      pick (next s′) h = goes s′ h (run-next n s s′ e h)
+      pick (stop k) h = stops k (run-stop n s k e h)
+
+  -- a run with k steps more
+  pub data Longer (n k : ℕ) (s : State) : Type 0 where
+    same : run lent cs (n + k) s ≡ run lent cs n s → Longer n k s
+    further : (s′ : State) → run lent cs n s ≡ halted spent s′ → run lent cs (n + k) s ≡ run lent cs k s′ → Longer n k s
+
+  longer-zero : (k : ℕ) (s : State) → Test (more s) → Longer zero k s
+  longer-zero k s (holds e) = further s (run-spent s e) (ap (λ m. run lent cs m s) (zero-add k))
+  longer-zero k s (fails e) = same (run-over (zero + k) s e ∙ sym (run-over zero s e))
+
+  longer-suc : (n k : ℕ) (s : State) → ((s′ : State) → Longer n k s′) → Test (more s) → Longer (suc n) k s
+  longer-suc n k s r (fails e) = same (run-over (suc n + k) s e ∙ sym (run-over (suc n) s e))
+  longer-suc n k s r (holds e) = pick (step lent cs s) refl
+    where
+      grown : run lent cs (suc n + k) s ≡ run lent cs (suc (n + k)) s
+      grown = ap (λ m. run lent cs m s) (suc-add n k)
+
+      after : (s′ : State) → step lent cs s ≡ next s′ → Longer n k s′ → Longer (suc n) k s
+      after s′ h (same q) = same (grown ∙ run-next (n + k) s s′ e h ∙ q ∙ sym (run-next n s s′ e h))
+      after s′ h (further t p q) = further t (run-next n s s′ e h ∙ p) (grown ∙ run-next (n + k) s s′ e h ∙ q)
+
+      pick : (x : Result State) → step lent cs s ≡ x → Longer (suc n) k s
+      pick (next s′) h = after s′ h (r s′)
+      pick (stop x) h = same (grown ∙ run-stop (n + k) s x e h ∙ sym (run-stop n s x e h))
+
+  pub longer : (n k : ℕ) (s : State) → Longer n k s
+  longer zero k s = longer-zero k s (test _)
+  longer (suc n) k s = longer-suc n k s (λ s′. longer n k s′) (test _)

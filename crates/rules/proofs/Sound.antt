@@ -1,0 +1,225 @@
+-- What every action keeps, in a context that is a level: the tree rules, a cursor on a node whose existence is not above the cursor level,
+-- and that all levels are levels. So stop 26 is never given. Assumes nothing.
+use mathlib.Core.Path.{_≡_, refl, sym, _∙_, ap}
+use Prim.Native.Nat.{ℕ, zero, suc}
+use mathlib.Core.Bool.{Bool, true, false, cond}
+use mathlib.Core.Option.{Option, none, some}
+use mathlib.Core.List.{List, [], _∷_}
+use lib.ListN.{getD, set}
+use lib.IntN.{ℤ}
+use Rattle.rules.specs.Level.{Level, public, secret, join, notAbove, isLevel}
+use Rattle.rules.specs.Tree as Tree
+use Rattle.rules.specs.Tree.{Label, Forest, nil, tree, Side, Place, root, to, up, sub, label, exists, change, onSide, remove, setValue, withValue, Levels, Fit, Fits, TreeRules}
+use Rattle.rules.specs.Script.{Operand, Expression, alone, both, Action}
+use Rattle.rules.specs.Job.{Variable}
+use Rattle.rules.specs.Run.{Memory, Buffers, Stop, Result, need, noVariable, variableAt, current, operandLevel, levelOf, value, withVariables, withTree, withCursor, withLine, secretIf, position, flowOf, assign, output, moveTo, goTo, mayTouch, newLabel, insertAt, removeAt, write, effect}
+use Rattle.rules.proofs.Tests.{clash}
+use Rattle.rules.proofs.Lattice.{na-public, na-refl, na-trans, na-left, na-right, level-secret, level-public, secret-level, level-below, level-join}
+use Rattle.rules.proofs.Trees.{loAt, hiAt, hiOf, fits-sub, fits-change, fit-first, hi-parent, fits-remove, fits-value, sub-change, exists-sub, on-exists, on-label}
+use Rattle.rules.proofs.Results.{Good, good-need}
+
+-- the levels of variables are levels
+abbrev pub AllLevels : List Variable → Type 0
+AllLevels [] = Unit {0}
+AllLevels (v ∷ vs) = (isLevel (v .level) ≡ true) × AllLevels vs
+
+all-at : (vs : List Variable) (i : ℕ) → AllLevels vs → isLevel ((variableAt vs i) .level) ≡ true
+unfolding variableAt noVariable
+all-at [] i h = level-public
+all-at (v ∷ vs) zero h = h .0
+all-at (v ∷ vs) (suc i) h = all-at vs i (h .1)
+
+all-set : (vs : List Variable) (i : ℕ) (w : Variable) → isLevel (w .level) ≡ true → AllLevels vs → AllLevels (set vs i w)
+all-set [] i w e h = tt
+all-set (v ∷ vs) zero w e h = (e, h .1)
+all-set (v ∷ vs) (suc i) w e h = (h .0, all-set vs i w e (h .1))
+
+pub record Sound (m : Memory) : Type 0 where
+  pub rules : TreeRules (m .tree)
+  pub stands : exists (current m) ≡ true
+  pub covered : notAbove ((label (current m)) .existence) (m .level) ≡ true
+  pub cursor : isLevel (m .level) ≡ true
+  pub variables : AllLevels (m .variables)
+
+secret-if : (b : Bool) → isLevel (secretIf b) ≡ true
+unfolding secretIf
+secret-if true = secret-level
+secret-if false = level-public
+
+root-public : (t : Forest) → exists t ≡ true → TreeRules t → notAbove ((label t) .existence) public ≡ true
+root-public t e f = (fit-first _ _ t e f) .under
+
+module _ (m : Memory) (sound : Sound m) where
+  -- the rules at a place
+  pub there : (p : Place) → Fits (loAt public p (m .tree)) (hiAt public p (m .tree)) (sub p (m .tree))
+  there p = fits-sub p (m .tree) public public (sound .rules)
+
+  node-levels : (p : Place) → exists (sub p (m .tree)) ≡ true → Levels (label (sub p (m .tree)))
+  node-levels p e = (fit-first _ _ (sub p (m .tree)) e (there p)) .levels
+
+  here-levels : Levels (label (current m))
+  unfolding current
+  here-levels = node-levels (m .cursor) (sound .stands)
+
+  operand-level : (a : Operand) → isLevel (operandLevel m a) ≡ true
+  unfolding operandLevel
+  operand-level (Operand.constant z) = level-public
+  operand-level (Operand.variable i) = all-at (m .variables) i (sound .variables)
+  operand-level Operand.value = level-join _ _ (sound .cursor) (here-levels .content)
+  operand-level Operand.children = level-join _ _ (sound .cursor) (here-levels .structure)
+
+  -- a guard is a level
+  pub expression-level : (e : Expression) → isLevel (levelOf m e) ≡ true
+  unfolding levelOf
+  expression-level (alone a) = operand-level a
+  expression-level (both f a b) = level-join _ _ (operand-level a) (operand-level b)
+
+  -- the memory with the cursor elsewhere
+  moved : (p : Place) (l : Level) → exists (sub p (m .tree)) ≡ true → notAbove ((label (sub p (m .tree))) .existence) l ≡ true → isLevel l ≡ true
+      → Sound (withCursor m p l)
+  unfolding withCursor current
+  moved p l e h k = record { rules = sound .rules; stands = e; covered = h; cursor = k; variables = sound .variables }
+
+  -- the memory with a tree in which the working node is still there
+  changed : (g : Forest → Forest) → ((x : Forest) → exists (g x) ≡ exists x) → ((x : Forest) → (label (g x)) .existence ≡ (label x) .existence)
+      → TreeRules (change (m .cursor) g (m .tree)) → Sound (withTree m (change (m .cursor) g (m .tree)))
+  unfolding withTree current
+  changed g h k f =
+      let e = sub-change (m .cursor) g (m .tree) (sound .stands) in
+      record {
+        rules = f;
+        stands = rw e (h _ ∙ sound .stands);
+        covered = rw (e, k) (sound .covered);
+        cursor = sound .cursor;
+        variables = sound .variables;
+      }
+
+  -- a change beside the working node
+  beside : (d : Side) (f : Forest → Forest)
+      → Fits ((label (current m)) .existence) (hiAt public (to d (m .cursor)) (m .tree)) (f (sub (to d (m .cursor)) (m .tree)))
+      → Sound (withTree m (change (to d (m .cursor)) f (m .tree)))
+  unfolding current change loAt
+  beside d f k =
+      changed (onSide d f) (on-exists d f) (λ x. ap (λ l. l .existence) (on-label d f x))
+      (fits-change (to d (m .cursor)) f (m .tree) public public (sound .rules) k)
+
+  pub fits-beside : (d : Side) → Fits ((label (current m)) .existence) (hiAt public (to d (m .cursor)) (m .tree)) (sub (to d (m .cursor)) (m .tree))
+  unfolding current loAt
+  fits-beside d = there (to d (m .cursor))
+
+  set-exists : (v : ℤ) (x : Forest) → exists (setValue v x) ≡ exists x
+  unfolding exists setValue
+  set-exists v nil = refl
+  set-exists v (tree l c r) = refl
+
+  set-existence : (v : ℤ) (x : Forest) → (label (setValue v x)) .existence ≡ (label x) .existence
+  unfolding label setValue withValue
+  set-existence v nil = refl
+  set-existence v (tree l c r) = refl
+
+  module _ (pc : Level) (known : isLevel pc ≡ true) where
+    position-level : isLevel (position pc m) ≡ true
+    unfolding position
+    position-level = level-join _ _ known (sound .cursor)
+
+    -- what stands behind a new node keeps the rules
+    behind : (lo hi : Level) (x : Forest) → mayTouch pc m x ≡ true → Fits lo hi x → Fits (position pc m) hi x
+    unfolding mayTouch
+    behind lo hi nil h k = tt
+    behind lo hi (tree l c r) h k =
+        let f = k .0 in
+        (record { levels = f .levels; above = h; under = f .under; content = f .content; structure = f .structure }, k .1, k .2)
+
+    new-fits : (lo hi : Level) (mark : ℕ) (e : Expression) (x : Forest) → notAbove lo (position pc m) ≡ true → notAbove (position pc m) hi ≡ true
+        → mayTouch pc m x ≡ true → Fits lo hi x → Fits lo hi (Tree.insert (newLabel pc m mark e) x)
+    unfolding Tree.insert newLabel flowOf
+    new-fits lo hi mark e x a u h k = (
+      record {
+        levels =
+            record {
+              existence = position-level;
+              content = level-join _ _ (level-join _ _ (expression-level e) position-level) (secret-if _);
+              structure = level-join _ _ position-level (secret-if _);
+            };
+        above = a;
+        under = u;
+        content = na-trans _ _ _ (na-right _ _) (na-left _ _);
+        structure = na-left _ _;
+      },
+      tt,
+      behind lo hi x h k,
+    )
+
+    insert-sound : (d : Side) (places mark : ℕ) (e : Expression) (q : Option Place) → up (to d (m .cursor)) ≡ q
+        → Good Sound (insertAt pc m places (to d (m .cursor)) q mark e)
+    unfolding insertAt
+    insert-sound d places mark e none w = tt
+    insert-sound d places mark e (some q) w =
+        good-need Sound _ _ _ λ u. good-need Sound _ _ _ λ h. good-need Sound _ _ _ λ a. good-need Sound _ _ _ λ _.
+        beside d _ (new-fits _ _ mark e _ a (rw (hi-parent (to d (m .cursor)) q (m .tree) public w) u) h (fits-beside d))
+
+    remove-sound : (d : Side) → Good Sound (removeAt pc m (to d (m .cursor)))
+    unfolding removeAt
+    remove-sound d = good-need Sound _ _ _ λ _. good-need Sound _ _ _ λ _. beside d remove (fits-remove _ _ _ (fits-beside d))
+
+    write-sound : (e : Expression) → Good Sound (write pc m e)
+    unfolding write
+    write-sound e =
+        good-need Sound _ _ _ λ _.
+        changed (setValue (value m e)) (set-exists _) (set-existence _)
+        (fits-change (m .cursor) _ (m .tree) public public (sound .rules) (fits-value _ _ _ _ (there (m .cursor))))
+
+    assign-sound : (i : ℕ) (e : Expression) → Good Sound (assign pc m i (variableAt (m .variables) i) e)
+    unfolding assign withVariables current
+    assign-sound i e =
+        good-need Sound _ _ _ λ _.
+        record {
+          rules = sound .rules;
+          stands = sound .stands;
+          covered = sound .covered;
+          cursor = sound .cursor;
+          variables = all-set (m .variables) i _ (all-at (m .variables) i (sound .variables)) (sound .variables);
+        }
+
+    output-sound : (capacity : ℕ) (e : Expression) → Good Sound (output pc m capacity e)
+    unfolding output withLine current
+    output-sound capacity e =
+        good-need Sound _ _ _ λ _. good-need Sound _ _ _ λ _.
+        record { rules = sound .rules; stands = sound .stands; covered = sound .covered; cursor = sound .cursor; variables = sound .variables }
+
+    go-sound : (q : Option Place) → Good Sound (goTo pc m q)
+    unfolding goTo moveTo
+    go-sound none = tt
+    go-sound (some p) =
+        good-need Sound _ _ _ λ e. good-need Sound _ _ _ λ _.
+        moved p _ e (na-right _ _) (level-join _ _ (sound .cursor) ((node-levels p e) .existence))
+
+    root-sound : Good Sound (moveTo pc m root pc)
+    unfolding moveTo sub current
+    root-sound =
+        let e = exists-sub (m .cursor) (m .tree) (sound .stands) in
+        good-need Sound _ _ _ λ _. moved root pc e (na-trans _ _ _ (root-public (m .tree) e (sound .rules)) (na-public pc)) known
+
+    raise-sound : Good Sound (moveTo pc m (m .cursor) secret)
+    unfolding moveTo current
+    raise-sound =
+        good-need Sound _ _ _ λ _.
+        moved (m .cursor) secret (sound .stands) (na-trans _ _ _ (sound .covered) (level-secret _ (sound .cursor))) secret-level
+
+    pub effect-sound : (lent : Buffers) (a : Action) → Good Sound (effect lent pc m a)
+    unfolding effect
+    effect-sound lent Action.skip = sound
+    effect-sound lent (Action.assign i e) = assign-sound i e
+    effect-sound lent (Action.output e) = output-sound _ e
+    effect-sound lent Action.goRoot = root-sound
+    effect-sound lent Action.goParent = go-sound _
+    effect-sound lent (Action.go d) = go-sound _
+    effect-sound lent (Action.insert d mark e) = insert-sound d _ mark e _ refl
+    effect-sound lent (Action.remove d) = remove-sound d
+    effect-sound lent (Action.write e) = write-sound e
+    effect-sound lent Action.raise = raise-sound
+
+    -- the test of stop 26 never fails
+    pub never-low : notAbove ((label (current m)) .existence) (position pc m) ≡ true
+    unfolding position
+    never-low = na-trans _ _ _ (sound .covered) (na-right _ _)

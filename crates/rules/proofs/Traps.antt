@@ -1,0 +1,90 @@
+-- Nine ways to leak, each as two jobs that differ in what the house owns, with what the rules give. By computation. Where a rule is loosened,
+-- both runs of its pair finish and their boards differ. Assumes nothing.
+use mathlib.Core.Path.{_≡_, refl}
+use Prim.Native.Nat.{ℕ}
+use mathlib.Core.List.{List, [], _∷_, _++_, map}
+use lib.IntN.{ℤ, pos}
+use Rattle.rules.specs.Limits.{noParent}
+use Rattle.rules.specs.Level.{public, secret}
+use Rattle.rules.specs.Outcome.{Outcome, Answer, answer, boardLines, runJob}
+use Rattle.rules.specs.Trials.{job, pair, node, one, both, bare, v, number, value, children, withPlaces, usual, guarded}
+use Rattle.rules.proofs.Computed.{computed}
+
+-- ending, index and lines
+pub record Seen : Type 0 where
+  pub ending : ℕ
+  pub index : ℕ
+  pub lines : List ℤ
+
+pub seen : Outcome → Seen
+seen w = record { ending = (answer w) .ending; index = (answer w) .index; lines = boardLines w }
+
+done : List ℤ → Seen
+done ls = record { ending = 0; index = 0; lines = ls }
+
+-- stopped by a rule
+blocked : ℕ → Seen
+blocked i = record { ending = 21; index = i; lines = [] }
+
+pub record Trap : Type 0 where
+  pub came : List Outcome
+  pub due : List Seen
+
+play : List ℕ → Outcome
+play b = runJob b 100 (withPlaces 512)
+
+-- house variable 1 and 0, over the usual tree
+by-value : List (List ℕ) → Seen → Seen → Trap
+by-value cs a b = record { came = play (usual (pos 1) cs) ∷ play (usual (pos 0) cs) ∷ []; due = a ∷ b ∷ [] }
+
+-- the same over a root that hides its number of children
+over-hidden : List (List ℕ) → List (List ℕ) → Seen → Seen → Trap
+over-hidden below cs a b =
+    let nodes = node noParent public public secret (pos 10) ∷ below in
+    record { came = play (job (pair (pos 1)) nodes cs) ∷ play (job (pair (pos 0)) nodes cs) ∷ []; due = a ∷ b ∷ [] }
+
+-- if the value here is z, v0 := 1, end, root, print v0
+tell : ℤ → List (List ℕ)
+tell z = both 2 0 3 value (number z) ∷ one 1 0 (number (pos 1)) ∷ bare 5 ∷ bare 7 ∷ one 6 0 (v 0) ∷ []
+
+-- v0 := children, print v0
+tell-children : List (List ℕ)
+tell-children = one 1 0 children ∷ one 6 0 (v 0) ∷ []
+
+pub traps : List Trap
+traps =
+    -- a move under a house guard: the run that skips it stays public
+    by-value (guarded 9 ++ tell (pos 10)) (blocked 1) (done (pos 1 ∷ []))
+    -- children, with a house child in the first job only: if children, else, v0 := 1, end, print v0
+    ∷ (let cs = one 2 0 children ∷ bare 3 ∷ one 1 0 (number (pos 1)) ∷ bare 5 ∷ one 6 0 (v 0) ∷ [] in
+    let root = node noParent public public secret (pos 10) in
+    record {
+      came = play (job (pair (pos 0)) (root ∷ node 0 secret secret secret (pos 3) ∷ []) cs) ∷ play (job (pair (pos 0)) (root ∷ []) cs) ∷ [];
+      due = done (pos 0 ∷ []) ∷ blocked 2 ∷ [];
+    })
+    -- root under a house guard: cover, first child, if v1, root, end
+    ∷ by-value (bare 16 ∷ bare 9 ∷ (guarded 7 ++ tell (pos 10))) (blocked 6) (done (pos 0 ∷ []))
+    -- the guard at else: if v1, else, v0 := 1, end, print v0
+    ∷ by-value (one 2 0 (v 1) ∷ bare 3 ∷ one 1 0 (number (pos 1)) ∷ bare 5 ∷ one 6 0 (v 0) ∷ []) (done (pos 0 ∷ [])) (blocked 2)
+    -- a line under a house guard: if v1, print 5, end, print 6
+    ∷ by-value (one 2 0 (v 1) ∷ one 6 0 (number (pos 5)) ∷ bare 5 ∷ one 6 0 (number (pos 6)) ∷ []) (blocked 1) (done (pos 6 ∷ []))
+    -- a new child where children are counted in public: cover, if v1, new first child, end, root
+    ∷ record {
+      came =
+          (let cs = bare 16 ∷ one 2 0 (v 1) ∷ one 11 0 (number (pos 7)) ∷ bare 5 ∷ bare 7 ∷ tell-children in
+          let root = node noParent public public public (pos 10) ∷ [] in
+          play (job (pair (pos 1)) root cs) ∷ play (job (pair (pos 0)) root cs) ∷ []);
+      due = blocked 2 ∷ done (pos 0 ∷ []) ∷ [];
+    }
+    -- a new child in front of a public one: the same, then first child
+    ∷ over-hidden (node 0 public public public (pos 3) ∷ [])
+    (bare 16 ∷ one 2 0 (v 1) ∷ one 11 0 (number (pos 7)) ∷ bare 5 ∷ bare 7 ∷ bare 9 ∷ tell (pos 3)) (blocked 2) (done (pos 1 ∷ []))
+    -- an assignment under a house guard: if v1, v0 := 1, end, print v0
+    ∷ by-value (one 2 0 (v 1) ∷ one 1 0 (number (pos 1)) ∷ bare 5 ∷ one 6 0 (v 0) ∷ []) (blocked 1) (done (pos 0 ∷ []))
+    -- a removal under a house guard: if v1, remove first child, end
+    ∷ by-value (guarded 13 ++ tell-children) (blocked 1) (done (pos 1 ∷ []))
+    ∷ []
+
+pub traps-hold : map (λ t. map seen (t .came)) traps ≡ map (λ t. t .due) traps
+unfolding computed seen done blocked play by-value over-hidden tell tell-children traps
+traps-hold = refl

@@ -1,0 +1,147 @@
+-- What a reader sees of a memory, and confinement: an action whose context the reader does not see changes nothing of it. Assumes nothing.
+use mathlib.Core.Path.{_≡_, refl, sym, _∙_, ap}
+use Prim.Native.Nat.{ℕ, zero, suc}
+use mathlib.Core.Bool.{Bool, true, false, cond}
+use mathlib.Core.Option.{Option, none, some}
+use mathlib.Core.List.{List, [], _∷_, map}
+use lib.ListN.{getD, set}
+use lib.IntN.{ℤ}
+use Rattle.rules.specs.Level.{Level, public, secret, join, notAbove, visible}
+use Rattle.rules.specs.Tree as Tree
+use Rattle.rules.specs.Tree.{Forest, nil, tree, Place, sub, label, exists, change}
+use Rattle.rules.specs.Script.{Expression, Action}
+use Rattle.rules.specs.Job.{Variable}
+use Rattle.rules.specs.Run.{Memory, Buffers, Result, noVariable, variableAt, current, levelOf, withVariables, withTree, withCursor, position, flowOf, assign, output, moveTo, goTo, mayTouch, newLabel, insertAt, removeAt, write, effect}
+use Rattle.rules.specs.Public.{SeenVariable, seenVariable, seenValue}
+use Rattle.rules.proofs.Tests.{Test, holds, fails, test, clash}
+use Rattle.rules.proofs.Lattice.{level-secret, vis-public, vis-down, vis-left, vis-right, hid-up, hid-left, hid-right}
+use Rattle.rules.proofs.Cut.{cut, cut-kept, cut-hidden, insert-hidden, remove-hidden, set-hidden}
+use Rattle.rules.proofs.Results.{Good, good-need}
+use Rattle.rules.proofs.Sound.{Sound, there}
+
+pub record Cursor : Type 0 where
+  pub place : Place
+  pub level : Level
+
+pub record View : Type 0 where
+  pub variables : List SeenVariable
+  pub tree : Forest
+  pub cursor : Option Cursor
+  pub lines : List ℤ
+
+-- an element that looks the same, in place of another
+map-set : {A B : Type 0} (f : A → B) (xs : List A) (i : ℕ) (x d : A) → f x ≡ f (getD xs i d) → map f (set xs i x) ≡ map f xs
+map-set f [] i x d h = refl
+map-set f (y ∷ ys) zero x d h = ap (λ z. z ∷ map f ys) h
+map-set f (y ∷ ys) (suc i) x d h = ap (λ z. f y ∷ z) (map-set f ys i x d h)
+
+module _ (o : Level) where
+  -- the cursor, where its level is visible
+  unfoldable pub seenCursor : Place → Level → Option Cursor
+  seenCursor p l = cond (visible o l) (some (record { place = p; level = l })) none
+
+  unfoldable pub view : Memory → View
+  view m =
+      record { variables = map (seenVariable o) (m .variables); tree = cut o (m .tree); cursor = seenCursor (m .cursor) (m .level); lines = m .lines }
+
+  -- a memory that looks as m does
+  unfoldable pub Kept : Memory → Memory → Type 0
+  Kept m m′ = view m′ ≡ view m
+
+  kept-tree : (m : Memory) (t : Forest) → cut o t ≡ cut o (m .tree) → Kept m (withTree m t)
+  unfolding Kept view withTree
+  kept-tree m t h = rw h
+
+  -- the cursor moves, unseen before and after
+  pub kept-cursor : (m : Memory) (p : Place) (l : Level) → visible o (m .level) ≡ false → visible o l ≡ false → Kept m (withCursor m p l)
+  unfolding Kept view withCursor seenCursor
+  kept-cursor m p l e h = rw (e, h)
+
+  hidden-variable : (v : Variable) (z : ℤ) → visible o (v .level) ≡ false → seenVariable o (record { level = v .level; value = z }) ≡ seenVariable o v
+  unfolding seenVariable seenValue
+  hidden-variable v z e = rw e
+
+  -- actions on the tree from a position that is not seen
+  module _ (pc : Level) (m : Memory) (sound : Sound m) (dark : visible o (position pc m) ≡ false) where
+    touched : (x : Forest) → exists x ≡ true → mayTouch pc m x ≡ true → visible o ((label x) .existence) ≡ false
+    unfolding mayTouch label exists
+    touched nil e h = clash e refl
+    touched (tree l c r) e h = hid-up o _ _ h dark
+
+    cut-touched : (x : Forest) → mayTouch pc m x ≡ true → cut o x ≡ nil
+    unfolding mayTouch cut
+    cut-touched nil h = refl
+    cut-touched (tree l c r) h = rw (hid-up o _ _ h dark)
+
+    new-hidden : (mark : ℕ) (e : Expression) → visible o ((newLabel pc m mark e) .existence) ≡ false
+    unfolding newLabel
+    new-hidden mark e = dark
+
+    flow-hidden : (e : Expression) → visible o (flowOf pc m e) ≡ false
+    unfolding flowOf
+    flow-hidden e = hid-right o _ _ dark
+
+    pub kept-insert : (places : ℕ) (p : Place) (q : Option Place) (mark : ℕ) (e : Expression) → Good (Kept m) (insertAt pc m places p q mark e)
+    unfolding insertAt
+    kept-insert places p none mark e = tt
+    kept-insert places p (some q) mark e =
+        good-need (Kept m) _ _ _ λ _. good-need (Kept m) _ _ _ λ h. good-need (Kept m) _ _ _ λ _. good-need (Kept m) _ _ _ λ _.
+        kept-tree m _ (cut-kept o p _ (m .tree) (insert-hidden o _ _ (new-hidden mark e) (cut-touched _ h)))
+
+    pub kept-remove : (p : Place) → Good (Kept m) (removeAt pc m p)
+    unfolding removeAt
+    kept-remove p =
+        good-need (Kept m) _ _ _ λ e. good-need (Kept m) _ _ _ λ h.
+        kept-tree m _ (cut-kept o p _ (m .tree) (remove-hidden o _ _ _ (there m sound p) (touched _ e h)))
+
+    pub kept-write : (e : Expression) → Good (Kept m) (write pc m e)
+    unfolding write current
+    kept-write e =
+        good-need (Kept m) _ _ _ λ h.
+        kept-tree m _ (cut-kept o (m .cursor) _ (m .tree) (set-hidden o _ _ (hid-up o _ _ h (flow-hidden e))))
+
+    kept-assign : (i : ℕ) (e : Expression) → Good (Kept m) (assign pc m i (variableAt (m .variables) i) e)
+    unfolding assign variableAt Kept view withVariables
+    kept-assign i e =
+        good-need (Kept m) _ _ _ λ h.
+        let k = map-set (seenVariable o) (m .variables) i _ noVariable (hidden-variable _ _ (hid-up o _ _ h (flow-hidden e))) in
+        λ j. record { variables = k j; tree = (view m) .tree; cursor = (view m) .cursor; lines = m .lines }
+
+    kept-output : (capacity : ℕ) (e : Expression) → Good (Kept m) (output pc m capacity e)
+    unfolding output
+    kept-output capacity e = good-need (Kept m) _ _ _ λ h. clash (vis-down o _ _ h (vis-public o)) (flow-hidden e)
+
+  -- moves, where the rule lets through only what is not seen
+
+  pub kept-move : (pc : Level) (m : Memory) (p : Place) (l : Level)
+      → (notAbove pc (m .level) ≡ true → (visible o (m .level) ≡ false) × (visible o l ≡ false)) → Good (Kept m) (moveTo pc m p l)
+  unfolding moveTo
+  kept-move pc m p l k = good-need (Kept m) _ _ _ λ h. kept-cursor m p l (k h .0) (k h .1)
+
+  pub kept-go : (pc : Level) (m : Memory) (q : Option Place) → (notAbove pc (m .level) ≡ true → visible o (m .level) ≡ false)
+      → Good (Kept m) (goTo pc m q)
+  unfolding goTo
+  kept-go pc m none k = tt
+  kept-go pc m (some p) k = good-need (Kept m) _ _ _ λ _. kept-move pc m p _ (λ h. (k h, hid-left o _ _ (k h)))
+
+  module _ (pc : Level) (m : Memory) (sound : Sound m) (dark : visible o pc ≡ false) where
+    below : visible o (position pc m) ≡ false
+    unfolding position
+    below = hid-left o _ _ dark
+
+    level-hidden : notAbove pc (m .level) ≡ true → visible o (m .level) ≡ false
+    level-hidden h = hid-up o _ _ h dark
+
+    -- confinement
+    pub confined : (lent : Buffers) (a : Action) → Good (Kept m) (effect lent pc m a)
+    unfolding effect Kept
+    confined lent Action.skip = refl
+    confined lent (Action.assign i e) = kept-assign pc m sound below i e
+    confined lent (Action.output e) = kept-output pc m sound below _ e
+    confined lent Action.goRoot = kept-move pc m _ _ (λ h. (level-hidden h, dark))
+    confined lent Action.goParent = kept-go pc m _ level-hidden
+    confined lent (Action.go d) = kept-go pc m _ level-hidden
+    confined lent (Action.insert d mark e) = kept-insert pc m sound below _ _ _ mark e
+    confined lent (Action.remove d) = kept-remove pc m sound below _
+    confined lent (Action.write e) = kept-write pc m sound below e
+    confined lent Action.raise = kept-move pc m _ _ (λ h. (level-hidden h, hid-up o _ _ (level-secret _ (sound .cursor)) (level-hidden h)))

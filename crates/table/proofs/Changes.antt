@@ -1,0 +1,140 @@
+-- A node comes, goes or gets another value at the end of a way. Each is a few stores, one cell at a time: the link to the forest, the cells of the
+-- node itself, and the parent's count; all other cells of the tree and of the free places stay. Assumes nothing.
+use mathlib.Core.Path.{_≡_, refl, sym, ap, subst, _∙_}
+use Prim.Native.Nat.{ℕ, suc, _+_, _-_, _<_, _≤_}
+use native.Mathlib.Omega.{arith}
+use native.Mathlib.Nat.{le-refl}
+use lib.IntN.{ℤ}
+use Rattle.rules.specs.Tree.{Label, noLabel, Forest, tree, Side, child, sibling, count, change, insert, remove, withValue, setValue}
+use Rattle.table.specs.Cells.{Cell, cell, Table, gone}
+use Rattle.table.specs.Holds.{Placed, empty, node, erase, head, Stored, Spare, more, top, Free, hit, times, spareTimes}
+use Rattle.table.specs.Steps.{Put}
+use Rattle.table.proofs.Counting.{hit-same, differ}
+use Rattle.table.proofs.Frames.{stored, linked, freed, still-linked}
+use Rattle.table.proofs.Ways.{Way, home, step, plug, pathOf, parentOf, wayTimes, Above, plug-change}
+use Rattle.table.proofs.Focus.{Focus}
+use Rattle.table.proofs.Links.{withLink, withCount, same-above, parent-there, relink, recount}
+
+-- a cell with another parent word, or another value
+abbrev pub withParent : ℕ → Cell → Cell
+withParent v a = cell (a .first) (a .right) v (a .children) (a .label)
+
+abbrev pub withNumber : ℤ → Cell → Cell
+withNumber v a = cell (a .first) (a .right) (a .parent) (a .children) (withValue v (a .label))
+
+-- a place that is handed out
+abbrev pub loose : ℕ → Placed
+loose x = node x noLabel empty empty
+
+module _ {n used free : ℕ} {t : Forest} {s : Spare} where
+  -- the loose place x becomes the first node at the end of the way
+  pub grow : {m m₁ m₂ m₃ : Table} {d : Side} {c x : ℕ} {a : Label} {o f : Placed} {k : Way} (l : Label)
+      → Focus m n used free t (loose x) (step d c a o k) f s → x < used → (parentOf (step d c a o k) ≡ gone → ⊥)
+      → Put m m₁ x (cell gone (head f) (parentOf (step d c a o k)) 0 l) → Put m₁ m₂ c (withLink d x (m₁ c))
+      → Put m₂ m₃ (parentOf (step d c a o k)) (withCount (suc (m₂ (parentOf (step d c a o k)) .children)) (m₂ (parentOf (step d c a o k))))
+      → Focus m₃ n used free (change (pathOf (step d c a o k)) (insert l) t) empty (step d c a o k) (node x l empty f) s
+  unfolding count insert
+  grow {m} {m₁} {m₂} {m₃} {d} {c} {x} {a} {o} {f} {k} l h lt ne p₁ p₂ p₃ =
+      let K = step d c a o k in
+      let u = parentOf K in
+      let j = count (erase f) in
+      let onWay : (y : ℕ) → wayTimes y K ≤ 1 = λ y. omega (arith, h .once y) in
+      let cK : 0 < wayTimes c K = omega (arith, hit-same c) in
+      let uK = parent-there m used (head f) j K (h .above) ne in
+      let xx : 0 < hit x x = omega (arith, hit-same x) in
+      let notX : (y : ℕ) → 0 < times y f + wayTimes y K + spareTimes y s → y ≡ x → ⊥ =
+      λ y q. differ (λ y. times y f + wayTimes y K + spareTimes y s) (λ y. hit y x) (λ y. omega (arith, h .once y)) q xx in
+      let notWay : (y z : ℕ) → 0 < hit y x + times y f + spareTimes y s → 0 < wayTimes z K → y ≡ z → ⊥ =
+      λ y z. differ (λ y. hit y x + times y f + spareTimes y s) (λ y. wayTimes y K) (λ y. omega (arith, h .once y)) in
+      let ag : (y : ℕ) → 0 < times y f + spareTimes y s → m₃ y ≡ m y =
+      λ y q. p₃ .off y (notWay y u (omega arith) uK) ∙ p₂ .off y (notWay y c (omega arith) cK) ∙ p₁ .off y (notX y (omega arith)) in
+      let a₁ = same-above m m₁ (le-refl used) (head f) j K (λ y q. p₁ .off y (notX y (omega arith))) (h .above) in
+      let a₂ = relink m₁ m₂ used (head f) j d c a o k x onWay p₂ a₁ in
+      record {
+        few = h .few;
+        room = h .room;
+        stored = (
+          lt,
+          p₃ .off x (notWay x u (omega arith) uK) ∙ p₂ .off x (notWay x c (omega arith) cK) ∙ p₁ .on,
+          tt,
+          stored m m₃ (le-refl used) u f (λ y q. ag y (omega arith)) (h .stored),
+        );
+        above = recount m₂ m₃ used u suc p₃ ne x j K refl (λ _ _. refl) onWay a₂;
+        freed = freed m m₃ (le-refl used) s (λ y q. ag y (omega arith)) (h .freed);
+        leads = h .leads;
+        once = λ y. omega (arith, h .once y);
+        each = λ y z. omega (arith, h .each y z);
+        is-tree = sym (plug-change K (insert l) f (node x l empty f) refl) ∙ ap (change (pathOf K) (insert l)) (h .is-tree);
+      }
+
+  -- the first node q at the end of the way goes to the free places, with its children
+  pub prune : {m m₁ m₂ m₃ m₄ : Table} {d : Side} {c q : ℕ} {a b : Label} {o w e r : Placed} {k : Way}
+      → Focus m n used free t w (step d c a o k) (node q b e r) s → (parentOf (step d c a o k) ≡ gone → ⊥)
+      → Put m m₁ c (withLink d (head r) (m c)) → Put m₁ m₂ q (withLink sibling gone (m₁ q)) → Put m₂ m₃ q (withParent free (m₂ q))
+      → Put m₃ m₄ (parentOf (step d c a o k)) (withCount (m₃ (parentOf (step d c a o k)) .children - 1) (m₃ (parentOf (step d c a o k))))
+      → Focus m₄ n used q (change (pathOf (step d c a o k)) remove t) w (step d c a o k) r (more q e empty s)
+  unfolding count remove
+  prune {m} {m₁} {m₂} {m₃} {m₄} {d} {c} {q} {a} {b} {o} {w} {e} {r} {k} h ne p₁ p₂ p₃ p₄ =
+      let K = step d c a o k in
+      let u = parentOf K in
+      let j = count (erase r) in
+      let onWay : (y : ℕ) → wayTimes y K ≤ 1 = λ y. omega (arith, h .once y) in
+      let cK : 0 < wayTimes c K = omega (arith, hit-same c) in
+      let uK = parent-there m used q (suc j) K (h .above) ne in
+      let qq : 0 < hit q q = omega (arith, hit-same q) in
+      let notQ : (y : ℕ) → 0 < times y e + times y r + wayTimes y K + spareTimes y s → y ≡ q → ⊥ =
+      λ y z. differ (λ y. times y e + times y r + wayTimes y K + spareTimes y s) (λ y. hit y q) (λ y. omega (arith, h .once y)) z qq in
+      let notWay : (y z : ℕ) → 0 < hit y q + times y e + times y r + spareTimes y s → 0 < wayTimes z K → y ≡ z → ⊥ =
+      λ y z. differ (λ y. hit y q + times y e + times y r + spareTimes y s) (λ y. wayTimes y K) (λ y. omega (arith, h .once y)) in
+      let ag : (y : ℕ) → 0 < times y e + times y r + spareTimes y s → m₄ y ≡ m y =
+      λ y z. p₄ .off y (notWay y u (omega arith) uK) ∙ p₃ .off y (notQ y (omega arith)) ∙ p₂ .off y (notQ y (omega arith))
+      ∙ p₁ .off y (notWay y c (omega arith) cK) in
+      let atQ : m₄ q ≡ withParent free (withLink sibling gone (m q)) =
+      p₄ .off q (notWay q u (omega arith) uK) ∙ p₃ .on ∙ ap (withParent free) (p₂ .on ∙ ap (withLink sibling gone) (p₁ .off q (notWay q c (omega arith) cK))) in
+      let a₁ = relink m m₁ used q (suc j) d c a o k (head r) onWay p₁ (h .above) in
+      let a₃ = same-above m₁ m₃ (le-refl used) (head r) (suc j) K (λ y z. p₃ .off y (notQ y (omega arith)) ∙ p₂ .off y (notQ y (omega arith))) a₁ in
+      let a₄ = recount m₃ m₄ used u (λ i. i - 1) p₄ ne (head r) (suc j) K refl (λ i z. omega arith) onWay a₃ in
+      record {
+        few = h .few;
+        room = h .room;
+        stored = stored m m₄ (le-refl used) u r (λ y z. ag y (omega arith)) (h .stored .3);
+        above = subst (λ i. Above m₄ used (head r) i K) (omega arith) a₄;
+        freed = (
+          h .stored .0,
+          ap (λ z. z .first) atQ ∙ ap (λ z. z .first) (h .stored .1),
+          ap (λ z. z .right) atQ,
+          ap (λ z. z .parent) atQ ∙ sym (h .leads),
+          linked m m₄ (le-refl used) e (λ y z. ag y (omega arith)) (still-linked m used q e (h .stored .2)),
+          tt,
+          freed m m₄ (le-refl used) s (λ y z. ag y (omega arith)) (h .freed),
+        );
+        leads = refl;
+        once = λ y. omega (arith, h .once y);
+        each = λ y z. omega (arith, h .each y z);
+        is-tree = sym (plug-change K remove (node q b e r) r refl) ∙ ap (change (pathOf K) remove) (h .is-tree);
+      }
+
+  -- the node at the end of the way gets another value
+  pub revalue : {m m′ : Table} {x : ℕ} {a : Label} {w c r : Placed} (k : Way) (v : ℤ) → Focus m n used free t w k (node x a c r) s
+      → Put m m′ x (withNumber v (m x)) → Focus m′ n used free (change (pathOf k) (setValue v) t) w k (node x (withValue v a) c r) s
+  unfolding count setValue
+  revalue {m} {m′} {x} {a} {w} {c} {r} k v h p =
+      let xx : 0 < hit x x = omega (arith, hit-same x) in
+      let ag : (y : ℕ) → 0 < times y c + times y r + wayTimes y k + spareTimes y s → m′ y ≡ m y =
+      λ y q. p .off y (differ (λ y. times y c + times y r + wayTimes y k + spareTimes y s) (λ y. hit y x) (λ y. omega (arith, h .once y)) q xx) in
+      record {
+        few = h .few;
+        room = h .room;
+        stored = (
+          h .stored .0,
+          p .on ∙ ap (withNumber v) (h .stored .1),
+          stored m m′ (le-refl used) x c (λ y q. ag y (omega arith)) (h .stored .2),
+          stored m m′ (le-refl used) (parentOf k) r (λ y q. ag y (omega arith)) (h .stored .3),
+        );
+        above = same-above m m′ (le-refl used) x (suc (count (erase r))) k (λ y q. ag y (omega arith)) (h .above);
+        freed = freed m m′ (le-refl used) s (λ y q. ag y (omega arith)) (h .freed);
+        leads = h .leads;
+        once = λ y. omega (arith, h .once y);
+        each = λ y z. omega (arith, h .each y z);
+        is-tree = sym (plug-change k (setValue v) (node x a c r) (node x (withValue v a) c r) refl) ∙ ap (change (pathOf k) (setValue v)) (h .is-tree);
+      }

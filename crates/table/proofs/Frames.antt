@@ -1,0 +1,43 @@
+-- A table that agrees with another on the places of a forest, or of the stack of free places, stores it too. Assumes nothing.
+use mathlib.Core.Path.{_≡_, ap, _∙_}
+use Prim.Native.Nat.{ℕ, _+_, _<_, _≤_}
+use native.Mathlib.Omega.{arith}
+use Rattle.table.specs.Cells.{Cell, Table}
+use Rattle.table.specs.Holds.{Placed, empty, node, Stored, Spare, end, more, Linked, Free, times, spareTimes}
+use Rattle.table.proofs.Counting.{hit-same}
+
+module _ (m m′ : Table) {b b′ : ℕ} (le : b ≤ b′) where
+  pub stored : (u : ℕ) (f : Placed) → ((y : ℕ) → 0 < times y f → m′ y ≡ m y) → Stored m b u f → Stored m′ b′ u f
+  stored u empty ag h = tt
+  stored u (node x l c r) ag h =
+      (omega arith, ag x (omega (arith, hit-same x)) ∙ h .1, stored x c (λ y q. ag y (omega arith)) (h .2), stored u r (λ y q. ag y (omega arith)) (h .3))
+
+  pub linked : (f : Placed) → ((y : ℕ) → 0 < times y f → m′ y ≡ m y) → Linked m b f → Linked m′ b′ f
+  linked empty ag h = tt
+  linked (node x l c r) ag h =
+      let e = ag x (omega (arith, hit-same x)) in (
+        omega arith,
+        ap (λ a. a .first) e ∙ h .1,
+        ap (λ a. a .right) e ∙ h .2,
+        linked c (λ y q. ag y (omega arith)) (h .3),
+        linked r (λ y q. ag y (omega arith)) (h .4),
+      )
+
+  pub freed : (s : Spare) → ((y : ℕ) → 0 < spareTimes y s → m′ y ≡ m y) → Free m b s → Free m′ b′ s
+  freed end ag h = tt
+  freed (more x c r s) ag h =
+      let e = ag x (omega (arith, hit-same x)) in (
+        omega arith,
+        ap (λ a. a .first) e ∙ h .1,
+        ap (λ a. a .right) e ∙ h .2,
+        ap (λ a. a .parent) e ∙ h .3,
+        linked c (λ y q. ag y (omega arith)) (h .4),
+        linked r (λ y q. ag y (omega arith)) (h .5),
+        freed s (λ y q. ag y (omega arith)) (h .6),
+      )
+
+-- a stored forest is linked
+pub still-linked : (m : Table) (b u : ℕ) (f : Placed) → Stored m b u f → Linked m b f
+still-linked m b u empty h = tt
+still-linked m b u (node x l c r) h =
+    (h .0, ap (λ a. a .first) (h .1), ap (λ a. a .right) (h .1), still-linked m b x c (h .2), still-linked m b u r (h .3))

@@ -1,0 +1,91 @@
+-- What the cell at the cursor says of the tree, and where its links lead: one step down is the view from a side of the node, one step up goes back
+-- along the way, past the siblings to the left. Assumes nothing.
+use mathlib.Core.Path.{_≡_, refl, sym, ap, subst, _∙_}
+use mathlib.Core.Bool.{true, false}
+use mathlib.Core.Option.{Option, none, some}
+use Prim.Native.Nat.{ℕ, suc, _+_, _<_, _≤_}
+use native.Mathlib.Omega.{arith}
+use Rattle.rules.specs.Tree.{Label, Forest, nil, tree, Side, child, sibling, along, Place, root, to, up, sub, exists, label, count, size}
+use Rattle.table.specs.Cells.{Cell, Table, gone, link}
+use Rattle.table.specs.Holds.{Placed, empty, node, erase, head, beside, Spare, Holds}
+use Rattle.table.specs.Promises.{Leads, outside, missing, found}
+use Rattle.table.proofs.Counting.{few-siblings}
+use Rattle.table.proofs.Ways.{Way, home, step, plug, pathOf, parentOf, plug-sub}
+use Rattle.table.proofs.Focus.{Focus, down, back, At, seen, whole}
+
+module _ {m : Table} {n used free : ℕ} {t : Forest} {w : Placed} {s : Spare} where
+  -- what stands at the end of the way
+  pub shown : (k : Way) (f : Placed) → Focus m n used free t w k f s → sub (pathOf k) t ≡ erase f
+  shown k f h = ap (sub (pathOf k)) (sym (h .is-tree)) ∙ plug-sub k f
+
+  -- the node's cell holds its links
+  pub linked : {k : Way} {x : ℕ} {l : Label} {c r : Placed} (d : Side) → Focus m n used free t w k (node x l c r) s → link d (m x) ≡ head (beside d (node x l c r))
+  linked child h = ap (λ a. a .first) (h .stored .1)
+  linked sibling h = ap (λ a. a .right) (h .stored .1)
+
+  -- no node has more children than there are places
+  few : {k : Way} {x : ℕ} {l : Label} {c r : Placed} → Focus m n used free t w k (node x l c r) s → m x .children ≤ n
+  few {x = x} {c = c} h =
+      omega (arith, ap (λ a. a .children) (h .stored .1), few-siblings m used x c (h .stored .2) (λ y. omega (arith, h .once y)), h .room)
+
+  pub few-above : (k : Way) (f : Placed) → Focus m n used free t w k f s → (parentOf k ≡ gone → ⊥) → m (parentOf k) .children ≤ n
+  few-above home f h ne = absurd (ne refl)
+  few-above (step child x l o k) f h ne = few (back child h)
+  few-above (step sibling x l o k) f h ne = few-above k (node x l o f) (back sibling h) ne
+
+module _ {m : Table} {n used free : ℕ} {t : Forest} {s : Spare} where
+  below : (k : Way) (f : Placed) {r : ℕ} → Focus m n used free t empty k f s → r ≡ head f → Leads m n used free t (some (pathOf k)) r
+  unfolding exists
+  below k empty {r} h i = missing (pathOf k) (omega (arith, i, h .room, h .few)) refl (ap exists (shown k empty h))
+  below k (node x l c r) h i = found (pathOf k) (omega (arith, i, h .stored .0, h .room)) refl (subst (λ z. Holds m n used free z t (pathOf k)) (sym i) (whole k h))
+
+  climb : (k : Way) (f : Placed) → Focus m n used free t empty k f s → Leads m n used free t (up (pathOf k)) (parentOf k)
+  unfolding up
+  climb home f h = outside (omega (arith, h .room, h .few)) refl
+  climb (step child x l o k) f h = found (pathOf k) (omega (arith, h .above .0, h .room)) refl (whole k (back child h))
+  climb (step sibling x l o k) f h = climb k (node x l o f) (back sibling h)
+
+  go-home : (k : Way) (f : Placed) → Focus m n used free t empty k f s → Holds m n used free 0 t root
+  unfolding count
+  go-home home empty h = absurd (omega (arith, h .above .1))
+  go-home home (node x l c r) h = subst (λ z. Holds m n used free z t root) (h .above .0) (whole home h)
+  go-home (step child x l o k) f h = go-home k (node x l f o) (back child h)
+  go-home (step sibling x l o k) f h = go-home k (node x l o f) (back sibling h)
+
+module _ {m : Table} {n used free x : ℕ} {t : Forest} {p : Place} (h : Holds m n used free x t p) where
+  at : At m n used free x t p
+  at = seen h
+
+  -- the node at the cursor
+  shows : sub p t ≡ tree (m x .label) (erase (at .c)) (erase (at .r))
+  shows =
+      subst (λ q. sub q t ≡ tree (at .l) (erase (at .c)) (erase (at .r))) (at .is-path) (shown (at .k) _ (at .focus))
+      ∙ ap (λ l. tree l (erase (at .c)) (erase (at .r))) (sym (ap (λ a. a .label) (at .focus .stored .1)))
+
+  pub stands : exists (sub p t) ≡ true
+  unfolding exists
+  stands = ap exists shows
+
+  pub labelled : label (sub p t) ≡ m x .label
+  unfolding label
+  labelled = ap label shows
+
+  pub counted : count (along child (sub p t)) ≡ m x .children
+  unfolding along
+  counted = ap (λ f. count (along child f)) shows ∙ sym (ap (λ a. a .children) (at .focus .stored .1))
+
+  pub few-children : m x .children ≤ n
+  few-children = few (at .focus)
+
+  -- the four moves
+  pub to-root : Holds m n used free 0 t root
+  to-root = go-home (at .k) _ (at .focus)
+
+  pub to-side : (d : Side) → Leads m n used free t (some (to d p)) (link d (m x))
+  to-side child = subst (λ q. Leads m n used free t (some (to child q)) (m x .first)) (at .is-path) (below _ _ (down child (at .focus)) (linked child (at .focus)))
+  to-side sibling = subst (λ q. Leads m n used free t (some (to sibling q)) (m x .right)) (at .is-path) (below _ _ (down sibling (at .focus)) (linked sibling (at .focus)))
+
+  pub to-parent : Leads m n used free t (up p) (m x .parent)
+  to-parent =
+      subst (λ q. Leads m n used free t (up q) (m x .parent)) (at .is-path)
+      (subst (λ z. Leads m n used free t (up (pathOf (at .k))) z) (sym (ap (λ a. a .parent) (at .focus .stored .1))) (climb (at .k) _ (at .focus)))

@@ -1,0 +1,16 @@
+-- The level is a byte of the levels word of the cursor's cell. Assumes nothing.
+use mathlib.Core.Path.{sym, ap, _∙_}
+use Rattle.table.specs.Cells.{cells}
+use Rattle.table.proofs.Moves.{labelled}
+use borrow.Author.Needs.{needs}
+use Rattle.table.proofs.node.existence.Statement.{statement}
+use Rattle.table.proofs.node.existence.Tie as tie
+
+returns : tie.Need-returns
+unfolding cells
+returns c = λ used free t p h. ap (λ l. l .existence) (labelled h) ∙ sym (rw (← c .before .get .ensures) (c .existence .ensures))
+
+pub existence-spec : {M : Type 1} → statement M
+existence-spec =
+    tie.close
+    (tie.spec (λ c κs. search needs) (λ c κs. search needs) returns)

@@ -1,0 +1,13 @@
+-- One store to the value word sets the value. Assumes nothing.
+use Rattle.table.proofs.Operations.{value-set}
+use borrow.Author.Needs.{needs}
+use Rattle.table.proofs.node.set_value.Statement.{statement}
+use Rattle.table.proofs.node.set_value.Tie as tie
+
+returns : tie.Need-returns
+returns c = λ used free t p h. value-set (c .before .before .before .before .before .args .v) h (c .before .before .store .ensures)
+
+pub set-value-spec : {M : Type 1} → statement M
+set-value-spec =
+    tie.close
+    (tie.spec (λ c κs. search needs) (λ c. search needs) returns)

@@ -1,0 +1,19 @@
+-- The parent and the label are read where the record stands. Assumes nothing.
+use denote.Ref.{now}
+use Rattle.table.proofs.Jobs.{read}
+use borrow.Author.Needs.{needs}
+use Rattle.table.proofs.records.enter.Statement.{statement}
+use Rattle.table.proofs.records.enter.Tie as tie
+
+returns : tie.Need-returns
+returns c =
+    let a = c .before .before .before .before .before .before .before .before .before .before .before .before .before .args in
+    read (now (a .job)) (a .base) _ (a .x) _ (c .before .before .before .before .before .before .before .before .before .before .index .ensures) (c .before .before .before .before .half .ensures) (c .before .before .before .before .before .before .pack .ensures .1) (c .before .before .before .full .ensures)
+    (c .before .before .place .ensures)
+
+pub enter-spec : {M : Type 1} → statement M
+enter-spec =
+    tie.close
+    (tie.spec (λ c κs. search needs) (λ c. search needs) (λ c. search needs) (λ c. search needs) (λ c. search needs) (λ c. search needs)
+    (λ c. search needs) (λ c. search needs) (λ c. search needs) (λ c κs. search needs) (λ c κs. search needs) (λ c. search needs)
+    (λ c κs. search needs) (λ c κs. search needs) (λ c. search needs) returns)

@@ -1,0 +1,41 @@
+-- The invariant: the records from x on are linked, if the parent rule holds. The measure is x, the records that wait. Assumes nothing.
+use mathlib.Core.Path.{_≡_, refl, _∙_}
+use Prim.Native.Nat.{_≤_, _-_}
+use native.Mathlib.Omega.{arith}
+use borrow.Author.Needs.{needs}
+use denote.Ref.{now}
+use lib.ListN.{length}
+use Rattle.table.specs.Cells.{cells}
+use Rattle.table.proofs.Jobs.{Rule, Linking, linking-start, linking-step, loaded}
+use Rattle.table.proofs.records.load.Statement.{statement}
+use Rattle.table.proofs.records.load.Tie as tie
+
+abbrev Inv-loop : tie.InvT-loop
+Inv-loop job base n words₀ x₀ words x =
+    (1 ≤ x) × (x ≤ n) × (length words ≡ length words₀) × (Rule job base n → Linking job base (cells words) n x)
+
+abbrev μ-loop : tie.MeasureT-loop
+μ-loop job base n words₀ x₀ words x = x
+
+loop-holds : tie.Need-loop-holds Inv-loop μ-loop
+loop-holds c =
+    let a = c .before .before .before .before .before .before .args in
+    (c .before .before .before .before .before .before .pre .some, omega arith, refl, λ _. linking-start (now (a .job)) (a .base) (a .n) (c .before .before .clear .ensures))
+
+loop-again : tie.Need-loop-again Inv-loop μ-loop
+loop-again c =
+    let a = c .before .before .before .before .before .before .before .before .before .before .before .before .args in
+    let i = c .before .before .before .before .before .loop .inv in
+    (omega arith, omega arith, c .before .before .enter .kept .1 .1 .1 .0 ∙ i .2, λ r. linking-step (now (a .job)) (a .base) (c .before .before .before .before .before .loop .x) (c .before .before .before .before .before .before .before .before .before .before .before .before .pre .few) (c .before .before .before .before .loop-test .taken) (i .1) r (i .3 r) (c .before .before .enter .ensures))
+
+returns : tie.Need-returns Inv-loop μ-loop
+returns c =
+    let a = c .before .before .before .before .before .before .before .before .before .before .before .before .args in
+    let e : c .before .before .before .before .before .loop .x ≡ 1 = omega arith in
+    loaded (now (a .job)) (a .base) (a .n) (c .before .before .before .before .before .before .before .before .before .before .before .before .pre .some) (rw e at (c .before .before .before .before .before .loop .inv .3)) (c .before .before .enter2 .ensures)
+
+pub load-spec : {M : Type 1} → statement M
+load-spec =
+    tie.close
+    (tie.spec Inv-loop μ-loop (λ c κs. search needs) loop-holds (λ c. search needs) (λ c κs. search needs) (λ c. search needs) loop-again
+    (λ c κs. search needs) (λ c. search needs) returns)

@@ -1,0 +1,98 @@
+// The node records of a job, loaded as a tree. A parent comes before its children, so that from the last record to the first each one is put in
+// front of those children of its parent that are there already.
+ghost use mathlib.Core.Path.{_≡_};
+ghost use Prim.Native.Nat.{_+_, _*_, _<_, _≤_};
+ghost use lib.ListN.{length};
+ghost use Rattle.rules.specs.Limits.{maxNodes};
+ghost use Rattle.rules.specs.Bytes as Bytes;
+ghost use Rattle.rules.specs.Check.{parent};
+ghost use Rattle.rules.specs.Job.{labelOf};
+ghost use Rattle.table.specs.Cells.{cells, labelIn, Within};
+ghost use Rattle.table.specs.Promises.{Loadable, Loaded};
+ghost use Rattle.table.specs.Steps.{Cleared, Entered};
+use super::cells;
+use super::levels;
+
+fn wide(x: u8) -> u32
+    ensures { λ r. ⌜ (r ≡ x) × (r < 256) ⌝ }
+{
+    x as u32
+}
+
+fn index(x: u32) -> usize
+    ensures { λ r. ⌜ r ≡ x ⌝ }
+{
+    x as usize
+}
+
+// The 16-bit number at a place.
+fn half(job: &[u8], at: usize) -> u32
+    requires { ⌜ at + 2 ≤ length (now job) ⌝ }
+    ensures { λ r. ⌜ r ≡ Bytes.half (now (job .entry)) at ⌝ }
+{
+    wide(job[at]) + wide(job[at + 1]) * 256
+}
+
+// The 32-bit number at a place.
+fn full(job: &[u8], at: usize) -> u32
+    requires { ⌜ at + 4 ≤ length (now job) ⌝ }
+    ensures { λ r. ⌜ r ≡ Bytes.full (now (job .entry)) at ⌝ }
+{
+    wide(job[at])
+        + wide(job[at + 1]) * 256
+        + wide(job[at + 2]) * 65536
+        + wide(job[at + 3]) * 16777216
+}
+
+// Leaves the first n places with no children.
+fn clear(words: &mut [u32], n: u32)
+    requires { ⌜ (8 * n ≤ length (now words)) × (n ≤ maxNodes) ⌝ }
+    ensures { λ _. ⌜ Cleared (cells (now (words .exit))) n ⌝ }
+{
+    let mut x = 0;
+    while x < n {
+        cells::clear(words, n, x);
+        x += 1;
+    }
+}
+
+// Enters the record x, under the parent p if that comes before it.
+fn place(words: &mut [u32], n: u32, x: u32, p: u32, packed: u32, value: u32)
+    requires { ⌜ Within (now words) n x ⌝ }
+    ensures { λ _. ⌜ Entered p x (labelIn packed value) (cells (now (words .entry))) (cells (now (words .exit))) ⌝ }
+{
+    if p < x {
+        let old = cells::get(words, n, p, super::FIRST);
+        cells::fill(words, n, x, old, p, packed, value);
+        cells::store(words, n, p, super::FIRST, x);
+        cells::count_up(words, n, p);
+    } else {
+        cells::fill(words, n, x, super::NIL, super::NIL, packed, value);
+    }
+}
+
+// Enters the node record x of n, from `base` on in the job.
+fn enter(job: &[u8], base: usize, n: u32, words: &mut [u32], x: u32)
+    requires { ⌜ Loadable (now job) (now words) base n × (x < n) ⌝ }
+    ensures { λ _. ⌜ Entered (parent (now (job .entry)) base x) x (labelOf (now (job .entry)) base x)
+        (cells (now (words .entry))) (cells (now (words .exit))) ⌝ }
+{
+    let at = base + 12 * index(x);
+    let packed = levels::pack(job[at + 2], job[at + 3], job[at + 4]);
+    place(words, n, x, half(job, at), packed, full(job, at + 8));
+}
+
+// Loads n node records, from `base` on in the job: their tree stands in the first n places, the root at place 0, and no place is free but those
+// never used.
+pub fn load(job: &[u8], base: usize, n: u32, words: &mut [u32])
+    requires { ⌜ Loadable (now job) (now words) base n ⌝ }
+    ensures { λ _. ⌜ Loaded (now (job .entry)) base n (cells (now (words .exit))) ⌝ }
+{
+    clear(words, n);
+    let mut x = n;
+    while 1 < x {
+        x -= 1;
+        enter(job, base, n, words, x);
+    }
+    enter(job, base, n, words, 0);
+}
