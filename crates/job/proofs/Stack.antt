@@ -2,16 +2,15 @@
 -- Assumes nothing.
 use mathlib.Core.Path.{_≡_, refl, sym, ap, _∙_}
 use mathlib.Core.Logic.{_⊎_, inl, inr}
-use mathlib.Core.Bool.{true, false}
+use mathlib.Core.Bool.{true}
 use mathlib.Core.List.{List, [], _∷_, tail}
 use Prim.Native.Nat.{ℕ, zero, suc, _+_, _-_, _≤_, _<_}
 use native.Mathlib.Omega.{arith}
-use lib.Dec.{eqb}
 use lib.ListN.{length, getD, set}
 use lib.Seq.{getD-set-same, getD-set-other}
 use borrow.Author.Tests.{ltb-true, eqb-true}
 use Rattle.rules.specs.Limits.{maxDepth}
-use Rattle.rules.specs.Blocks.{opens, after, parts, headIsIf, placed}
+use Rattle.rules.specs.Blocks.{opens, parts, headIsIf, placed}
 use Rattle.rules.proofs.Tests.{clash}
 use Rattle.rules.proofs.Parts.{Plain, if-opens, while-opens, placed-open, placed-else, placed-end}
 use Rattle.job.specs.declared.blocks.Parts.{Parts}

@@ -1,7 +1,7 @@
 -- What is known of an accepted job: every rule holds, as the chain of checks has passed each; and its script's command numbers are its bytes, so the
 -- jumps by the bytes are the jumps by the script. Assumes nothing.
-use mathlib.Core.Path.{_≡_, refl, sym, ap, _∙_}
-use mathlib.Core.Bool.{true, false}
+use mathlib.Core.Path.{_≡_, sym, ap, _∙_}
+use mathlib.Core.Bool.{true}
 use mathlib.Core.List.{List}
 use Prim.Native.Nat.{ℕ, suc, _<_}
 use native.Mathlib.Omega.{arith}

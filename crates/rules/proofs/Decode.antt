@@ -9,7 +9,7 @@ use native.Mathlib.Omega.{arith}
 use lib.ListN.{length, getD, List·getD-map}
 use Rattle.rules.specs.Limits.{commandCount}
 use Rattle.rules.specs.Bytes.{byte, scriptAt, variableCount, recordCount, variablePlace, recordPlace}
-use Rattle.rules.specs.Script.{Expression, Command, act, Action, commands, actionNumber, number, fetch}
+use Rattle.rules.specs.Script.{Expression, act, Action, commands, actionNumber, number, fetch}
 use Rattle.rules.specs.Check.{recordRule}
 use Rattle.rules.specs.Job.{Variable, listed, variableOf, variables, script, scriptOf, commandOf, expressionOf}
 use Rattle.rules.proofs.Ranges.{record-in}

@@ -1,5 +1,5 @@
 -- `run_lines` meets its contract: each turn goes on behind the end of its line. Assumes nothing.
-use Prim.Native.Nat.{_-_, _≤_}
+use Prim.Native.Nat.{_-_}
 use lib.ListN.{length}
 use borrow.Author.Needs.{needs}
 use Rattle.vectors.proofs.run_lines.Statement.{statement}

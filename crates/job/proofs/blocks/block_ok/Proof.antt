@@ -2,7 +2,7 @@
 use mathlib.Core.Path.{sym, ap, _∙_}
 use Prim.Native.Nat.{ℕ}
 use native.Mathlib.Omega.{arith}
-use lib.Dec.{ltb, eqb}
+use lib.Dec.{ltb}
 use Rattle.rules.specs.Limits.{maxDepth}
 use Rattle.rules.specs.Blocks.{headIsIf}
 use Rattle.rules.specs.Check.{code}

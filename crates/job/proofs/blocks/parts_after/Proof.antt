@@ -1,5 +1,5 @@
 -- `parts_after` meets its contract: a store at the depth, a store at the last entry, or a smaller depth. Assumes nothing.
-use mathlib.Core.Path.{_≡_, sym, _∙_, subst}
+use mathlib.Core.Path.{sym, _∙_, subst}
 use native.Mathlib.Omega.{arith}
 use Rattle.rules.specs.Blocks.{parts}
 use Rattle.rules.proofs.Parts.{after-open, after-else, after-end, after-plain}

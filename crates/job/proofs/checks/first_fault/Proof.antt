@@ -1,5 +1,5 @@
 -- `first_fault` meets its contract: each record passed is right. Assumes nothing.
-use mathlib.Core.Path.{_≡_, sym, _∙_}
+use mathlib.Core.Path.{sym, _∙_}
 use Prim.Native.Nat.{_-_}
 use borrow.Author.Tests.{not-true, not-false}
 use Rattle.rules.proofs.Search.{Scan, scan-start, scan-next, scan-stop, scan-end}

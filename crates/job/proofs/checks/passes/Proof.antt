@@ -1,10 +1,8 @@
 -- `passes` meets its contract: the number says which rule is tested, and how many records there are. Assumes nothing.
-use mathlib.Core.Path.{_≡_, sym, ap, _∙_}
-use Prim.Native.Nat.{ℕ, _<_}
+use Prim.Native.Nat.{_<_}
 use native.Mathlib.Omega.{arith}
 use borrow.Author.Tests.{ne-eqb}
 use Rattle.job.specs.Answer.{ruleOf, countOf}
-use borrow.Author.Needs.{needs}
 use Rattle.job.proofs.checks.passes.Statement.{statement}
 use Rattle.job.proofs.checks.passes.Tie as tie
 

@@ -1,7 +1,6 @@
 -- `operand_ok` meets its contract: it is the definition. Assumes nothing.
 use Rattle.rules.specs.Check.{operandRule}
 use mathlib.Core.Path.{refl}
-use borrow.Author.Needs.{needs}
 use Rattle.job.proofs.records.operand_ok.Statement.{statement}
 use Rattle.job.proofs.records.operand_ok.Tie as tie
 

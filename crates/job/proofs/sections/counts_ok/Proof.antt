@@ -1,7 +1,6 @@
 -- `counts_ok` meets its contract: it is the definition. Assumes nothing.
 use Rattle.rules.specs.Check.{countRule}
 use mathlib.Core.Path.{refl}
-use borrow.Author.Needs.{needs}
 use Rattle.job.proofs.sections.counts_ok.Statement.{statement}
 use Rattle.job.proofs.sections.counts_ok.Tie as tie
 

@@ -1,7 +1,6 @@
 -- `length_ok` meets its contract: it is the definition. Assumes nothing.
 use Rattle.rules.specs.Check.{lengthRule}
 use mathlib.Core.Path.{refl}
-use borrow.Author.Needs.{needs}
 use Rattle.job.proofs.sections.length_ok.Statement.{statement}
 use Rattle.job.proofs.sections.length_ok.Tie as tie
 
