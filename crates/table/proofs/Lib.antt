@@ -10,7 +10,9 @@ pub mod Changes
 pub mod Spares
 pub mod Words
 pub mod Effects
-pub mod Operations
+pub mod Sides
+pub mod Removing
+pub mod Adding
 pub mod Kids
 pub mod Loading
 pub mod Jobs

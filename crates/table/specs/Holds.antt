@@ -6,7 +6,7 @@ use mathlib.Core.Bool.{Bool, true, false}
 use lib.Dec.{eqb}
 use Rattle.rules.specs.Limits.{maxNodes}
 use Rattle.rules.specs.Tree.{Label, Forest, nil, tree, Side, child, sibling, Place, root, to, count}
-use Rattle.table.specs.Cells.{Cell, cell, Table, gone}
+use Rattle.table.specs.Cells.{cell, Table, gone}
 
 -- siblings from left to right, as in Forest, each with its place in the table
 pub data Placed : Type 0 where
