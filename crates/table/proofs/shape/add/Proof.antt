@@ -1,4 +1,5 @@
 -- With a parent and a free place the node is linked in; else the tree stays. Assumes nothing.
+use Rattle.table.specs.Cells.{labelWith}
 use Rattle.table.proofs.Adding.{added, added-none, added-never}
 use Rattle.table.proofs.Effects.{within}
 use borrow.Author.Needs.{needs}
@@ -22,9 +23,10 @@ returns-2 c =
     let took = linked .before .before .before .before .before in
     let over = took .before .before .before in
     let s = over .before .before .before in
+    let n = s .args .node in
     λ t p h.
     added h (s .args .side) (s .pre .1) (over .parent-on .ensures) (took .before .before .if1 .left) (took .take .ensures .1)
-    (linked .before .before .if2 .taken) (linked .attach .ensures)
+    {a = labelWith (n .value) (n .existence) (n .content) (n .structure)} (linked .before .before .if2 .taken) (linked .attach .ensures)
 
 returns-3 : tie.Need-returns-3
 returns-3 c =
