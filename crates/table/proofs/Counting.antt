@@ -1,6 +1,6 @@
 -- How often a place stands in a forest, and sums of such numbers. A place counts 1 where it meets itself and 0 elsewhere, so the sum over all
 -- places below a bound is the number of nodes. Assumes nothing.
-use mathlib.Core.Path.{_≡_, refl, sym, ap, subst}
+use mathlib.Core.Path.{_≡_, refl, ap, subst}
 use Prim.Native.Nat.{ℕ, zero, suc, _+_, _<_, _≤_}
 use native.Mathlib.Omega.{arith}
 use native.Mathlib.Nat.{le-refl}

@@ -1,5 +1,5 @@
 -- What the private functions do, put together from what their calls do: words read are parts of cells, and stores follow one another. Assumes nothing.
-use mathlib.Core.Path.{_≡_, refl, sym, ap, subst, _∙_}
+use mathlib.Core.Path.{_≡_, refl, ap, _∙_}
 use mathlib.Core.Bool.{true}
 use mathlib.Core.List.{List}
 use Prim.Native.Nat.{ℕ, _+_, _-_, _/_, _%_, _<_}
@@ -7,7 +7,7 @@ use native.Mathlib.Omega.{arith}
 use native.Mathlib.Decide.{ℕ-discrete}
 use lib.ListN.{length}
 use Rattle.rules.specs.Tree.{Label}
-use Rattle.table.specs.Cells.{Cell, cell, Table, gone, labelIn, labelWith, sideOf, link, Within}
+use Rattle.table.specs.Cells.{cell, Table, gone, labelIn, labelWith, sideOf, link, Within}
 use Rattle.table.specs.Steps.{withWord, Put, oneMore, Attached, Detached, Pushed, Took, again, Cleared}
 use Rattle.table.proofs.Words.{twice}
 

@@ -3,14 +3,13 @@
 use mathlib.Core.Path.{_≡_, refl, sym, ap, subst, _∙_}
 use Prim.Native.Nat.{ℕ, _+_, _<_, _≤_}
 use native.Mathlib.Omega.{arith}
-use native.Mathlib.Nat.{le-refl}
 use native.Mathlib.Decide.{decLt}
 use Rattle.rules.specs.Limits.{maxNodes}
 use Rattle.rules.specs.Tree.{Label, Forest, Side, child, sibling, Place, to, count}
 use Rattle.table.specs.Cells.{Table, gone}
 use Rattle.table.specs.Holds.{Placed, empty, node, erase, head, beside, part, Stored, Spare, top, Free, times, spareTimes, Holds}
 use Rattle.table.proofs.Counting.{none-beyond, free-beyond}
-use Rattle.table.proofs.Ways.{Way, home, step, nodeOn, plug, pathOf, parentOf, wayTimes, Above, unplug, replug, plug-times, plug-part, Some, some-node, Split, split}
+use Rattle.table.proofs.Ways.{Way, step, nodeOn, plug, pathOf, parentOf, wayTimes, Above, unplug, replug, plug-times, plug-part, Some, some-node, split}
 
 -- the table holds t, with f at the end of the way k; the places of w, handed out and not yet linked, are in nobody's hands
 pub record Focus (m : Table) (n used free : ℕ) (t : Forest) (w : Placed) (k : Way) (f : Placed) (s : Spare) : Type 0 where
@@ -74,11 +73,15 @@ pub record At (m : Table) (n used free x : ℕ) (t : Forest) (p : Place) : Type 
 module _ {m : Table} {n used free x : ℕ} {t : Forest} where
   once-held : {p : Place} (h : Holds m n used free x t p) (y : ℕ) → Dec (y < used) → times y (h .placed) + spareTimes y (h .spare) ≤ 1
   once-held h y (yes z) = omega (arith, h .each y z)
-  once-held h y (no z) = omega (arith, none-beyond m used gone (h .placed) (h .stored) y (omega arith), free-beyond m used (h .spare) (h .freed) y (omega arith))
+  once-held h y (no z) =
+      omega
+      (arith, none-beyond m used gone (h .placed) (h .stored) y (omega arith), free-beyond m used (h .spare) (h .freed) y (omega arith))
 
   view : {p : Place} (h : Holds m n used free x t p) (k : Way) (g : Placed) → plug k g ≡ h .placed → Focus m n used free t empty k g (h .spare)
   view h k g e =
-      let q = unplug m used k g (subst (λ z. Stored m used gone z) (sym e) (h .stored)) (ap head e ∙ h .is-root) (ap (λ z. count (erase z)) e ∙ ap count (h .is-tree) ∙ h .alone) in
+      let whole = subst (λ z. Stored m used gone z) (sym e) (h .stored) in
+      let one = ap (λ z. count (erase z)) e ∙ ap count (h .is-tree) ∙ h .alone in
+      let q = unplug m used k g whole (ap head e ∙ h .is-root) one in
       record {
         few = h .few;
         room = h .room;

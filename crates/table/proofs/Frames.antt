@@ -1,8 +1,8 @@
 -- A table that agrees with another on the places of a forest, or of the stack of free places, stores it too. Assumes nothing.
 use mathlib.Core.Path.{_≡_, ap, _∙_}
-use Prim.Native.Nat.{ℕ, _+_, _<_, _≤_}
+use Prim.Native.Nat.{ℕ, _<_, _≤_}
 use native.Mathlib.Omega.{arith}
-use Rattle.table.specs.Cells.{Cell, Table}
+use Rattle.table.specs.Cells.{Table}
 use Rattle.table.specs.Holds.{Placed, empty, node, Stored, Spare, end, more, Linked, Free, times, spareTimes}
 use Rattle.table.proofs.Counting.{hit-same}
 

@@ -1,6 +1,6 @@
 -- The node records of a job: their lists of children are those of the job's tree, and the loop of `load` links them one by one. Assumes nothing.
 use mathlib.Core.Path.{_≡_, refl, sym, ap, ap₂, subst, _∙_}
-use mathlib.Core.Bool.{Bool, true, false, cond}
+use mathlib.Core.Bool.{true, cond}
 use mathlib.Core.List.{List}
 use Prim.Native.Nat.{ℕ, zero, suc, _+_, _-_, _*_, _/_, _%_, _<_, _≤_}
 use native.Mathlib.Omega.{arith}
@@ -9,11 +9,11 @@ use lib.Dec.{eqb, ltb}
 use borrow.Author.Tests.{eq-eqb, ne-eqb, ltb-true}
 use Rattle.rules.specs.Limits.{maxNodes, nodeSize, noParent}
 use Rattle.rules.specs.Bytes.{byte, half, full}
-use Rattle.rules.specs.Tree.{Forest, tree, nil, root}
+use Rattle.rules.specs.Tree.{tree, nil, root}
 use Rattle.rules.specs.Check.{parent, existence, content, structure, parentRule}
 use Rattle.rules.specs.Job.{labelOf, childrenOf, treeOf}
-use Rattle.table.specs.Cells.{Table, gone, labelIn, labelWith}
-use Rattle.table.specs.Holds.{erase, Holds}
+use Rattle.table.specs.Cells.{Table, labelIn, labelWith}
+use Rattle.table.specs.Holds.{erase}
 use Rattle.table.specs.Promises.{Loaded}
 use Rattle.table.specs.Steps.{Cleared, Entered}
 use Rattle.table.proofs.Effects.{packed}

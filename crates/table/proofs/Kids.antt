@@ -73,5 +73,6 @@ module _ (par : ℕ → ℕ) (lab : ℕ → Label) where
       let f : ℕ → ℕ = λ i. times y (kids i k (suc j)) in
       let g : ℕ → ℕ = λ i. times y (kids i (suc k) j) in
       let e : sumTo j g ≡ (hit y j + f j) + sumTo j f =
-      sum-spike j (par j) (hit y j + f j) f g (h j (le-refl j) (omega arith)) (rw (kids-hit (par j) k j refl)) (λ i ne. rw (kids-miss i k j (λ q. ne (sym q)))) in
+      sum-spike j (par j) (hit y j + f j) f g (h j (le-refl j) (omega arith)) (rw (kids-hit (par j) k j refl))
+      (λ i ne. rw (kids-miss i k j (λ q. ne (sym q)))) in
       omega (arith, e, spread y k (suc j) (λ x a b. h x (omega arith) (omega arith)))

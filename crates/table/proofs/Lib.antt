@@ -1,16 +1,18 @@
--- The laws of the table: what a change of its cells does to the tree that it holds.
-pub mod Counting
-pub mod Frames
-pub mod Ways
-pub mod Focus
+-- The laws of the table: what its cells say of the tree that it holds, and what a change of them does to it. Those that callers cite come first.
 pub mod Moves
 pub mod Unique
-pub mod Links
-pub mod Changes
-pub mod Spares
-pub mod Words
-pub mod Effects
-pub mod Operations
-pub mod Kids
-pub mod Loading
-pub mod Jobs
+mod Counting
+mod Frames
+mod Ways
+mod Focus
+mod Links
+mod Changes
+mod Spares
+mod Words
+mod Effects
+mod Sides
+mod Removing
+mod Adding
+mod Kids
+mod Loading
+mod Jobs

@@ -4,13 +4,14 @@ use mathlib.Core.Path.{_≡_, refl, sym, ap, subst, _∙_}
 use Prim.Native.Nat.{ℕ, suc, _+_, _<_, _≤_}
 use native.Mathlib.Omega.{arith}
 use native.Mathlib.Nat.{le-refl}
-use Rattle.rules.specs.Tree.{Label, Side, child, sibling, count}
+use Rattle.rules.specs.Tree.{Label, Forest, Side, child, sibling, count}
 use Rattle.table.specs.Cells.{Cell, cell, Table, gone}
-use Rattle.table.specs.Holds.{Placed, erase, head, Stored, hit, times}
+use Rattle.table.specs.Holds.{Placed, erase, head, Spare, hit, times, spareTimes}
 use Rattle.table.specs.Steps.{Put}
 use Rattle.table.proofs.Counting.{hit-same, differ}
-use Rattle.table.proofs.Frames.{stored}
+use Rattle.table.proofs.Frames.{stored, freed}
 use Rattle.table.proofs.Ways.{Way, home, step, parentOf, wayTimes, Above}
+use Rattle.table.proofs.Focus.{Focus}
 
 -- a cell with another link to a side, or another count
 abbrev pub withLink : Side → ℕ → Cell → Cell
@@ -86,3 +87,19 @@ module _ (m m′ : Table) (b u : ℕ) (g : ℕ → ℕ) (p : Put m m′ u (withC
         stored m m′ (le-refl b) x o (λ y q. ag y (omega arith)) (w .2),
         subst (λ z. Above m′ b x z k) (gs j (le-refl j)) (recount x (suc j) k e (λ i z. gs i (omega arith)) (λ y. omega (arith, once y)) (w .3)),
       )
+
+-- a table that agrees on all places holds what was held
+pub unchanged : {m m′ : Table} {n used free : ℕ} {t : Forest} {w : Placed} {k : Way} {f : Placed} {s : Spare} → Focus m n used free t w k f s
+    → ((y : ℕ) → 0 < times y f + wayTimes y k + spareTimes y s → m′ y ≡ m y) → Focus m′ n used free t w k f s
+unchanged {m} {m′} {used = used} {k = k} {f} {s} h ag =
+    record {
+      few = h .few;
+      room = h .room;
+      stored = stored m m′ (le-refl used) (parentOf k) f (λ y q. ag y (omega arith)) (h .stored);
+      above = same-above m m′ (le-refl used) (head f) (count (erase f)) k (λ y q. ag y (omega arith)) (h .above);
+      freed = freed m m′ (le-refl used) s (λ y q. ag y (omega arith)) (h .freed);
+      leads = h .leads;
+      once = h .once;
+      each = h .each;
+      is-tree = h .is-tree;
+    }

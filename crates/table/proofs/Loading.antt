@@ -1,19 +1,19 @@
 -- Node records become a tree. The k records from j on are linked, from the last to the first, each list from its parent before j; the next record goes
 -- in front of its parent's list; and once j is 1, the only list is that of the root. Assumes nothing.
-use mathlib.Core.Path.{_≡_, refl, sym, ap, subst, _∙_}
+use mathlib.Core.Path.{_≡_, refl, sym, ap, _∙_}
 use Prim.Native.Nat.{ℕ, zero, suc, _+_, _<_, _≤_}
 use native.Mathlib.Omega.{arith}
 use native.Mathlib.Nat.{le-refl}
 use native.Mathlib.Decide.{ℕ-discrete, decLe}
 use Rattle.rules.specs.Limits.{maxNodes}
-use Rattle.rules.specs.Tree.{Label, Forest, tree, nil, root, count}
-use Rattle.table.specs.Cells.{Cell, cell, Table, gone}
+use Rattle.rules.specs.Tree.{Label, tree, nil, root, count}
+use Rattle.table.specs.Cells.{cell, Table, gone}
 use Rattle.table.specs.Holds.{Placed, empty, node, erase, head, Stored, end, hit, times, Holds}
 use Rattle.table.specs.Steps.{withWord, Put, Cleared, Entered, under, alone}
-use Rattle.table.proofs.Counting.{hit-same, hit-other, sumTo}
+use Rattle.table.proofs.Counting.{hit-same, hit-other}
 use Rattle.table.proofs.Frames.{stored}
 use Rattle.table.proofs.Words.{one-more}
-use Rattle.table.proofs.Kids.{among, among-below, among-once, kids, kids-none, kids-hit, kids-miss, kids-below, kids-few, spread}
+use Rattle.table.proofs.Kids.{among-below, among-once, kids, kids-none, kids-hit, kids-miss, kids-below, kids-few, spread}
 
 cell≡ : {f f′ r r′ u u′ j j′ : ℕ} {l : Label} → f ≡ f′ → r ≡ r′ → u ≡ u′ → j ≡ j′ → cell f r u j l ≡ cell f′ r′ u′ j′ l
 cell≡ {l = l} p q s z = λ i. cell (p i) (q i) (s i) (z i) l
@@ -67,7 +67,11 @@ module _ (par : ℕ → ℕ) (lab : ℕ → Label) where
       → Loading m′ b (suc k) x
   unfolding count
   load-step {m} {m′} {b} {k} x hk hb hp h e =
-      record { heads = λ i lt. head′ i lt (ℕ-discrete (par x) i); counts = λ i lt. count′ i lt (ℕ-discrete (par x) i); lists = λ i lt. list′ i lt (ℕ-discrete (par x) i) }
+      record {
+        heads = λ i lt. head′ i lt (ℕ-discrete (par x) i);
+        counts = λ i lt. count′ i lt (ℕ-discrete (par x) i);
+        lists = λ i lt. list′ i lt (ℕ-discrete (par x) i);
+      }
     where
       q : Prepended m m′ x (par x) (lab x)
       q = prepended hp (omega (arith, h .counts (par x) (omega arith), kids-few par lab (par x) k (suc x))) e

@@ -1,16 +1,16 @@
 -- What the cell at the cursor says of the tree, and where its links lead: one step down is the view from a side of the node, one step up goes back
 -- along the way, past the siblings to the left. Assumes nothing.
 use mathlib.Core.Path.{_≡_, refl, sym, ap, subst, _∙_}
-use mathlib.Core.Bool.{true, false}
-use mathlib.Core.Option.{Option, none, some}
-use Prim.Native.Nat.{ℕ, suc, _+_, _<_, _≤_}
+use mathlib.Core.Bool.{true}
+use mathlib.Core.Option.{some}
+use Prim.Native.Nat.{ℕ, _≤_}
 use native.Mathlib.Omega.{arith}
-use Rattle.rules.specs.Tree.{Label, Forest, nil, tree, Side, child, sibling, along, Place, root, to, up, sub, exists, label, count, size}
-use Rattle.table.specs.Cells.{Cell, Table, gone, link}
+use Rattle.rules.specs.Tree.{Label, Forest, tree, Side, child, sibling, along, Place, root, to, up, sub, exists, label, count}
+use Rattle.table.specs.Cells.{Table, gone, link}
 use Rattle.table.specs.Holds.{Placed, empty, node, erase, head, beside, Spare, Holds}
 use Rattle.table.specs.Promises.{Leads, outside, missing, found}
 use Rattle.table.proofs.Counting.{few-siblings}
-use Rattle.table.proofs.Ways.{Way, home, step, plug, pathOf, parentOf, plug-sub}
+use Rattle.table.proofs.Ways.{Way, home, step, pathOf, parentOf, plug-sub}
 use Rattle.table.proofs.Focus.{Focus, down, back, At, seen, whole}
 
 module _ {m : Table} {n used free : ℕ} {t : Forest} {w : Placed} {s : Spare} where
@@ -19,7 +19,8 @@ module _ {m : Table} {n used free : ℕ} {t : Forest} {w : Placed} {s : Spare} w
   shown k f h = ap (sub (pathOf k)) (sym (h .is-tree)) ∙ plug-sub k f
 
   -- the node's cell holds its links
-  pub linked : {k : Way} {x : ℕ} {l : Label} {c r : Placed} (d : Side) → Focus m n used free t w k (node x l c r) s → link d (m x) ≡ head (beside d (node x l c r))
+  linked : {k : Way} {x : ℕ} {l : Label} {c r : Placed} (d : Side) → Focus m n used free t w k (node x l c r) s
+      → link d (m x) ≡ head (beside d (node x l c r))
   linked child h = ap (λ a. a .first) (h .stored .1)
   linked sibling h = ap (λ a. a .right) (h .stored .1)
 
@@ -37,7 +38,8 @@ module _ {m : Table} {n used free : ℕ} {t : Forest} {s : Spare} where
   below : (k : Way) (f : Placed) {r : ℕ} → Focus m n used free t empty k f s → r ≡ head f → Leads m n used free t (some (pathOf k)) r
   unfolding exists
   below k empty {r} h i = missing (pathOf k) (omega (arith, i, h .room, h .few)) refl (ap exists (shown k empty h))
-  below k (node x l c r) h i = found (pathOf k) (omega (arith, i, h .stored .0, h .room)) refl (subst (λ z. Holds m n used free z t (pathOf k)) (sym i) (whole k h))
+  below k (node x l c r) h i =
+      found (pathOf k) (omega (arith, i, h .stored .0, h .room)) refl (subst (λ z. Holds m n used free z t (pathOf k)) (sym i) (whole k h))
 
   climb : (k : Way) (f : Placed) → Focus m n used free t empty k f s → Leads m n used free t (up (pathOf k)) (parentOf k)
   unfolding up
@@ -82,8 +84,8 @@ module _ {m : Table} {n used free x : ℕ} {t : Forest} {p : Place} (h : Holds m
   to-root = go-home (at .k) _ (at .focus)
 
   pub to-side : (d : Side) → Leads m n used free t (some (to d p)) (link d (m x))
-  to-side child = subst (λ q. Leads m n used free t (some (to child q)) (m x .first)) (at .is-path) (below _ _ (down child (at .focus)) (linked child (at .focus)))
-  to-side sibling = subst (λ q. Leads m n used free t (some (to sibling q)) (m x .right)) (at .is-path) (below _ _ (down sibling (at .focus)) (linked sibling (at .focus)))
+  to-side d =
+      subst (λ q. Leads m n used free t (some (to d q)) (link d (m x))) (at .is-path) (below _ _ (down d (at .focus)) (linked d (at .focus)))
 
   pub to-parent : Leads m n used free t (up p) (m x .parent)
   to-parent =

@@ -1,22 +1,22 @@
 -- Taking a free place. The first one of the stack is replaced by the forests that hang from it, its right siblings and then its children; where
 -- the stack is empty, the first place that was never used comes. All places are live exactly when there is neither. Assumes nothing.
-use mathlib.Core.Path.{_≡_, refl, sym, ap, subst, _∙_}
+use mathlib.Core.Path.{_≡_, refl, sym, ap, _∙_}
 use mathlib.Core.Bool.{Bool, true, false, true≢false}
-use Prim.Native.Nat.{ℕ, suc, _+_, _<_, _≤_}
+use Prim.Native.Nat.{ℕ, _+_, _<_, _≤_}
 use native.Mathlib.Omega.{arith}
 use native.Mathlib.Nat.{le-refl}
 use native.Mathlib.Decide.{ℕ-discrete}
 use lib.Dec.{ltb}
 use borrow.Author.Tests.{lt-ltb, le-ltb}
-use Rattle.rules.specs.Tree.{Label, Forest, count, size}
-use Rattle.table.specs.Cells.{Cell, cell, Table, gone}
+use Rattle.rules.specs.Tree.{Forest, count, size}
+use Rattle.table.specs.Cells.{cell, Table, gone}
 use Rattle.table.specs.Holds.{Placed, empty, node, erase, head, Stored, Spare, end, more, top, Linked, Free, hit, times, spareTimes}
-use Rattle.table.specs.Steps.{Put, Pushed, some, none, Took, again, fresh, full, withWord}
+use Rattle.table.specs.Steps.{Pushed, some, none, Took, again, fresh, full, withWord}
 use Rattle.table.proofs.Counting.{hit-same, hit-other, differ, none-beyond, free-beyond, size-all, size-less}
 use Rattle.table.proofs.Frames.{stored, linked, freed}
-use Rattle.table.proofs.Ways.{Way, plug, pathOf, parentOf, wayTimes, Above, replug, plug-times}
+use Rattle.table.proofs.Ways.{Way, plug, parentOf, wayTimes, replug, plug-times}
 use Rattle.table.proofs.Focus.{Focus}
-use Rattle.table.proofs.Links.{same-above}
+use Rattle.table.proofs.Links.{same-above, unchanged}
 use Rattle.table.proofs.Changes.{loose}
 
 -- the stack with a forest on it
@@ -141,46 +141,34 @@ module _ {m : Table} {n used free : ℕ} {t : Forest} {k : Way} {f : Placed} {s 
   handed (full ge le same i e u) z = absurd (true≢false (sym z ∙ i))
 
   -- a place is found exactly where not every place holds a live node
-  module _ (once : (y : ℕ) → y < used → times y (plug k f) + spareTimes y s ≡ 1) where
-    no-spare : (s : Spare) → Free m used s → n ≤ top s → (y : ℕ) → spareTimes y s ≡ 0
-    no-spare end g ge y = refl
-    no-spare (more x c r s) g ge y = absurd (omega (arith, h .room))
+  once : (y : ℕ) → y < used → times y (plug k f) + spareTimes y s ≡ 1
+  once y z = omega (arith, plug-times y k f, h .once y, h .each y z)
 
-    some-spare : (s : Spare) → Free m used s → top s < n → (top s < used) × (0 < spareTimes (top s) s)
-    some-spare end g lt = absurd (omega (arith, h .few))
-    some-spare (more x c r s) g lt = (g .0, omega (arith, hit-same x))
+  no-spare : (s : Spare) → Free m used s → n ≤ top s → (y : ℕ) → spareTimes y s ≡ 0
+  no-spare end g ge y = refl
+  no-spare (more x c r s) g ge y = absurd (omega (arith, h .room))
 
-    size-is : n ≤ free → size t ≡ used
-    size-is ge = ap size (sym (h .is-tree)) ∙ size-all m used gone (plug k f) s tree-stored once (no-spare s (h .freed) (rw (← h .leads) at ge))
+  some-spare : (s : Spare) → Free m used s → top s < n → (top s < used) × (0 < spareTimes (top s) s)
+  some-spare end g lt = absurd (omega (arith, h .few))
+  some-spare (more x c r s) g lt = (g .0, omega (arith, hit-same x))
 
-    size-below : free < n → size t < used
-    size-below lt =
-        let q = some-spare s (h .freed) (rw (← h .leads) at lt) in
-        omega (arith, ap size (h .is-tree), size-less m used gone (plug k f) s tree-stored once (top s) (q .0) (q .1))
+  size-is : n ≤ free → size t ≡ used
+  size-is ge = ap size (sym (h .is-tree)) ∙ size-all m used gone (plug k f) s tree-stored once (no-spare s (h .freed) (rw (← h .leads) at ge))
 
-  once-all : (y : ℕ) → y < used → times y (plug k f) + spareTimes y s ≡ 1
-  once-all y z = omega (arith, plug-times y k f, h .once y, h .each y z)
+  size-below : free < n → size t < used
+  size-below lt =
+      let q = some-spare s (h .freed) (rw (← h .leads) at lt) in
+      omega (arith, ap size (h .is-tree), size-less m used gone (plug k f) s tree-stored once (top s) (q .0) (q .1))
 
   pub found-room : {m′ : Table} {ok : Bool} {x free′ used′ : ℕ} → Took m n used free m′ ok x free′ used′ → ok ≡ ltb (size t) n
-  found-room (again m₁ e lt p₁ p₂ i j u) = i ∙ sym (lt-ltb (size t) n (omega (arith, size-below once-all lt, h .room)))
-  found-room (fresh ge lt same i j e u) = i ∙ sym (lt-ltb (size t) n (omega (arith, size-is once-all ge)))
-  found-room (full ge le same i e u) = i ∙ sym (le-ltb (size t) n (omega (arith, size-is once-all ge)))
+  found-room (again m₁ e lt p₁ p₂ i j u) = i ∙ sym (lt-ltb (size t) n (omega (arith, size-below lt, h .room)))
+  found-room (fresh ge lt same i j e u) = i ∙ sym (lt-ltb (size t) n (omega (arith, size-is ge)))
+  found-room (full ge le same i e u) = i ∙ sym (le-ltb (size t) n (omega (arith, size-is ge)))
 
   -- nothing changes where there is none
   pub refused : {m′ : Table} {ok : Bool} {x free′ used′ : ℕ} → Took m n used free m′ ok x free′ used′ → ok ≡ false
       → Focus m′ n used′ free′ t empty k f s
   refused (again m₁ e lt p₁ p₂ i j u) z = absurd (true≢false (sym i ∙ z))
   refused (fresh ge lt same i j e u) z = absurd (true≢false (sym i ∙ z))
-  refused {m′} (full ge le same i e u) z =
-      rw (e, u)
-      (record {
-        few = h .few;
-        room = h .room;
-        stored = stored m m′ (le-refl used) (parentOf k) f (λ y _. same y) (h .stored);
-        above = same-above m m′ (le-refl used) (head f) (count (erase f)) k (λ y _. same y) (h .above);
-        freed = freed m m′ (le-refl used) s (λ y _. same y) (h .freed);
-        leads = h .leads;
-        once = h .once;
-        each = h .each;
-        is-tree = h .is-tree;
-      })
+  refused (full ge le same i e u) z =
+      rw (e, u) (unchanged h (λ y _. same y))

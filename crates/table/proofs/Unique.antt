@@ -1,10 +1,10 @@
 -- A table holds at most one tree, and no two of its nodes share a place. The links from place 0 on tell the whole tree; and a place that led
 -- to two nodes would stand twice in it. Assumes nothing.
 use mathlib.Core.Path.{_≡_, refl, sym, ap, subst, _∙_}
-use Prim.Native.Nat.{ℕ, _+_, _<_, _≤_}
+use Prim.Native.Nat.{ℕ, _<_, _≤_}
 use native.Mathlib.Omega.{arith}
 use Rattle.rules.specs.Tree.{Label, Forest, Side, child, sibling, Place, root, to}
-use Rattle.table.specs.Cells.{Cell, Table, gone}
+use Rattle.table.specs.Cells.{Table, gone}
 use Rattle.table.specs.Holds.{Placed, empty, node, erase, head, beside, part, Stored, Spare, hit, times, Holds}
 use Rattle.table.proofs.Counting.{hit-same}
 use Rattle.table.proofs.Ways.{Way, plug, replug, plug-times, Some, some-node, split}

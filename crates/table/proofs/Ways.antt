@@ -3,12 +3,9 @@
 use mathlib.Core.Path.{_≡_, refl, ap, _∙_}
 use Prim.Native.Nat.{ℕ, suc, _+_, _<_, _≤_}
 use native.Mathlib.Omega.{arith}
-use native.Mathlib.Nat.{le-refl}
 use Rattle.rules.specs.Tree.{Label, Forest, tree, Side, child, sibling, along, Place, root, to, sub, onSide, change, count}
-use Rattle.table.specs.Cells.{Cell, cell, Table, gone}
+use Rattle.table.specs.Cells.{cell, Table, gone}
 use Rattle.table.specs.Holds.{Placed, empty, node, erase, head, beside, part, Stored, hit, times}
-use Rattle.table.proofs.Counting.{hit-same}
-use Rattle.table.proofs.Frames.{stored}
 
 -- a way, innermost first: what is below it stands on a side of the node with this place and label, and the forest on the other side
 pub data Way : Type 0 where

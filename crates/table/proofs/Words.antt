@@ -1,5 +1,5 @@
 -- A store of one word changes one cell, in one of its parts; several stores to one cell make one change of it. Assumes nothing.
-use mathlib.Core.Path.{_≡_, refl, sym, ap, _∙_}
+use mathlib.Core.Path.{_≡_, refl, ap, _∙_}
 use mathlib.Core.List.{List}
 use mathlib.Core.Bool.{cond}
 use Prim.Native.Nat.{ℕ, zero, suc, _+_, _*_, _<_, _≤_}
@@ -7,15 +7,16 @@ use native.Mathlib.Omega.{arith}
 use native.Mathlib.Numerals.{add-one}
 use native.Mathlib.Decide.{ℕ-discrete}
 use lib.Dec.{eqb}
-use lib.ListN.{length, getD, set}
+use lib.ListN.{length, set}
 use lib.Seq.{getD-set-same, getD-set-other}
 use borrow.Author.Tests.{eq-eqb, ne-eqb, lt-ltb}
-use Rattle.rules.specs.Tree.{Label, withValue}
+use Rattle.rules.specs.Tree.{withValue}
 use Rattle.table.specs.Cells.{Cell, cell, Table, word, labelIn, cells, sideOf, link}
 use Rattle.table.specs.Steps.{withLevels, withWord, Put, oneMore}
 use Rattle.table.proofs.Links.{withLink}
 
-cell≡ : {f f′ r r′ u u′ d d′ j j′ v v′ : ℕ} → f ≡ f′ → r ≡ r′ → u ≡ u′ → d ≡ d′ → j ≡ j′ → v ≡ v′ → cell f r u j (labelIn d v) ≡ cell f′ r′ u′ j′ (labelIn d′ v′)
+cell≡ : {f f′ r r′ u u′ d d′ j j′ v v′ : ℕ} → f ≡ f′ → r ≡ r′ → u ≡ u′ → d ≡ d′ → j ≡ j′ → v ≡ v′
+    → cell f r u j (labelIn d v) ≡ cell f′ r′ u′ j′ (labelIn d′ v′)
 cell≡ p q s d j v = λ i. cell (p i) (q i) (s i) (j i) (labelIn (d i) (v i))
 
 -- the cell at x, by its words

@@ -6,7 +6,7 @@ use mathlib.Core.Bool.{Bool, true, false}
 use lib.Dec.{eqb}
 use Rattle.rules.specs.Limits.{maxNodes}
 use Rattle.rules.specs.Tree.{Label, Forest, nil, tree, Side, child, sibling, Place, root, to, count}
-use Rattle.table.specs.Cells.{Cell, cell, Table, gone}
+use Rattle.table.specs.Cells.{cell, Table, gone}
 
 -- siblings from left to right, as in Forest, each with its place in the table
 pub data Placed : Type 0 where
@@ -61,6 +61,7 @@ Free m used end = Unit
 Free m used (more x c r s) =
     (x < used) × (m x .first ≡ head c) × (m x .right ≡ head r) × (m x .parent ≡ top s) × Linked m used c × Linked m used r × Free m used s
 
+-- a test as 1 or 0
 abbrev pub one : Bool → ℕ
 one true = 1
 one false = 0
@@ -78,19 +79,23 @@ abbrev pub spareTimes : ℕ → Spare → ℕ
 spareTimes x end = 0
 spareTimes x (more y c r s) = hit x y + times x c + times x r + spareTimes x s
 
--- The table, of n places, holds the tree t, and the cursor's node, at the place p of t, stands at the table's place `at`. The places below `used`
--- were used so far: each stands once in the tree or once among the free places, so no two nodes share one. `free` leads to the free places.
+-- The table, of n places, holds the tree t, and the node at the place p of t, where the cursor is, stands at the table's place `at`. The places
+-- below `used` were used so far; `free` leads to those of them that are free.
 pub record Holds (m : Table) (n used free at : ℕ) (t : Forest) (p : Place) : Type 0 where
   pub few : n ≤ maxNodes
   pub room : used ≤ n
   pub placed : Placed
   pub spare : Spare
+  -- the places of t, whose root stands at place 0 and has no siblings
   pub is-tree : erase placed ≡ t
   pub is-root : head placed ≡ 0
   pub alone : count t ≡ 1
+  pub stored : Stored m used gone placed
+  -- the cursor's node, which exists
   pub here : head (part p placed) ≡ at
   pub live : at < used
-  pub stored : Stored m used gone placed
+  -- the free places
   pub freed : Free m used spare
   pub leads : top spare ≡ free
+  -- every used place stands once, in the tree or among the free places: no two nodes share one, and none is lost
   pub each : (x : ℕ) → x < used → times x placed + spareTimes x spare ≡ 1

@@ -9,7 +9,7 @@ use lib.Dec.{ltb}
 use Rattle.rules.specs.Limits.{maxNodes, nodeSize}
 use Rattle.rules.specs.Check.{parentRule}
 use Rattle.rules.specs.Job.{treeOf}
-use Rattle.rules.specs.Tree.{Label, Forest, Side, Place, root, to, up, sub, exists, size, change, insert, remove}
+use Rattle.rules.specs.Tree.{Label, Forest, Side, Place, root, to, up, sub, exists, size, change, insert}
 use Rattle.table.specs.Cells.{Table, gone}
 use Rattle.table.specs.Holds.{Holds}
 

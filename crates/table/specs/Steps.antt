@@ -4,7 +4,7 @@ use mathlib.Core.Bool.{Bool, true, false, cond}
 use Prim.Native.Nat.{ℕ, zero, suc, _+_, _-_, _/_, _%_, _<_, _≤_}
 use lib.Dec.{ltb}
 use Rattle.rules.specs.Number.{signed}
-use Rattle.rules.specs.Tree.{Label, Side, child, sibling, withValue}
+use Rattle.rules.specs.Tree.{Label, withValue}
 use Rattle.table.specs.Cells.{Cell, cell, Table, gone, sideOf, link}
 
 -- a label with the levels of a word

@@ -1,8 +1,11 @@
 // The words of a cell: first child, right sibling, parent, levels, count of children, value; two are free.
 ghost use mathlib.Core.Path.{_≡_};
 ghost use Prim.Native.Nat.{_-_, _<_};
-ghost use Rattle.table.specs.Cells.{cell, word, labelIn, cells, Within};
+ghost use Rattle.table.specs.Cells.{cell, gone, word, labelIn, cells, Within};
 ghost use Rattle.table.specs.Steps.{withWord, Put, oneMore};
+
+// How many words a place takes.
+const CELL: u32 = 8;
 
 pub const PARENT: u32 = 2;
 
@@ -12,7 +15,7 @@ pub const CHILDREN: u32 = 4;
 
 pub const VALUE: u32 = 5;
 
-fn index(x: u32) -> usize
+pub fn index(x: u32) -> usize
     ensures { λ r. ⌜ r ≡ x ⌝ }
 {
     x as usize
@@ -23,7 +26,7 @@ pub fn get(words: &[u32], places: u32, x: u32, j: u32) -> u32
     requires { ⌜ Within (now words) places x × (j < 6) ⌝ }
     ensures { λ r. ⌜ r ≡ word (now (words .entry)) x j ⌝ }
 {
-    let at = index(8 * x + j);
+    let at = index(CELL * x + j);
     words[at]
 }
 
@@ -32,14 +35,14 @@ pub fn store(words: &mut [u32], places: u32, x: u32, j: u32, v: u32)
     requires { ⌜ Within (now words) places x × (j < 6) ⌝ }
     ensures { λ _. ⌜ Put (cells (now (words .entry))) (cells (now (words .exit))) x (withWord j v (cells (now (words .entry)) x)) ⌝ }
 {
-    let at = index(8 * x + j);
+    let at = index(CELL * x + j);
     words[at] = v;
 }
 
 // Leaves the cell at x with no children.
 pub fn clear(words: &mut [u32], places: u32, x: u32)
     requires { ⌜ Within (now words) places x ⌝ }
-    ensures { λ _. ⌜ Put (cells (now (words .entry))) (cells (now (words .exit))) x (withWord 4 0 (withWord 0 65535 (cells (now (words .entry)) x))) ⌝ }
+    ensures { λ _. ⌜ Put (cells (now (words .entry))) (cells (now (words .exit))) x (withWord 4 0 (withWord 0 gone (cells (now (words .entry)) x))) ⌝ }
 {
     store(words, places, x, super::FIRST, super::NIL);
     store(words, places, x, CHILDREN, 0);

@@ -12,18 +12,10 @@ ghost use Rattle.table.specs.Promises.{Loadable, Loaded};
 ghost use Rattle.table.specs.Steps.{Cleared, Entered};
 use super::cells;
 use super::levels;
+use super::levels::wide;
 
-fn wide(x: u8) -> u32
-    ensures { λ r. ⌜ (r ≡ x) × (r < 256) ⌝ }
-{
-    x as u32
-}
-
-fn index(x: u32) -> usize
-    ensures { λ r. ⌜ r ≡ x ⌝ }
-{
-    x as usize
-}
+// How many bytes a node record takes.
+const RECORD: usize = 12;
 
 // The 16-bit number at a place.
 fn half(job: &[u8], at: usize) -> u32
@@ -77,7 +69,7 @@ fn enter(job: &[u8], base: usize, n: u32, words: &mut [u32], x: u32)
     ensures { λ _. ⌜ Entered (parent (now (job .entry)) base x) x (labelOf (now (job .entry)) base x)
         (cells (now (words .entry))) (cells (now (words .exit))) ⌝ }
 {
-    let at = base + 12 * index(x);
+    let at = base + RECORD * cells::index(x);
     let packed = levels::pack(job[at + 2], job[at + 3], job[at + 4]);
     place(words, n, x, half(job, at), packed, full(job, at + 8));
 }

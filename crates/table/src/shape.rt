@@ -3,7 +3,7 @@ ghost use mathlib.Core.Path.{_≡_};
 ghost use Prim.Native.Nat.{ℕ, _<_};
 ghost use Rattle.rules.specs.Tree.{Forest, Place, to, change};
 ghost use Rattle.rules.specs.Tree as Tree;
-ghost use Rattle.table.specs.Cells.{cells, word, labelWith, sideOf, parentOn, Within};
+ghost use Rattle.table.specs.Cells.{cells, labelWith, sideOf, parentOn, Within};
 ghost use Rattle.table.specs.Holds.{Holds};
 ghost use Rattle.table.specs.Promises.{Added};
 ghost use Rattle.table.specs.Steps.{Attached, Detached};

@@ -6,8 +6,12 @@ use Rattle.table.proofs.cells.fill.Tie as tie
 
 returns : tie.Need-returns
 returns c =
-    let a = c .before .before .before .before .before .before .before .before .before .before .before .before .before .before .before .before .before .args in
-    filled (a .levels) (a .value) (c .before .before .before .before .before .before .before .before .before .before .before .before .before .before .store .ensures) (c .before .before .before .before .before .before .before .before .before .before .store2 .ensures) (c .before .before .before .before .before .before .store3 .ensures) (c .before .before .store4 .ensures)
+    let d = c .before .before in
+    let l = d .before .before .before .before in
+    let u = l .before .before .before .before in
+    let r = u .before .before .before .before in
+    let a = r .before .before .before .args in
+    filled (a .levels) (a .value) (r .store .ensures) (u .store2 .ensures) (l .store3 .ensures) (d .store4 .ensures)
 
 pub fill-spec : {M : Type 1} → statement M
 fill-spec =

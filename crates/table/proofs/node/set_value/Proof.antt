@@ -1,5 +1,5 @@
 -- One store to the value word sets the value. Assumes nothing.
-use Rattle.table.proofs.Operations.{value-set}
+use Rattle.table.proofs.Changes.{value-set}
 use borrow.Author.Needs.{needs}
 use Rattle.table.proofs.node.set_value.Statement.{statement}
 use Rattle.table.proofs.node.set_value.Tie as tie

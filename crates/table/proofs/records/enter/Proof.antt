@@ -7,9 +7,11 @@ use Rattle.table.proofs.records.enter.Tie as tie
 
 returns : tie.Need-returns
 returns c =
-    let a = c .before .before .before .before .before .before .before .before .before .before .before .before .before .args in
-    read (now (a .job)) (a .base) _ (a .x) _ (c .before .before .before .before .before .before .before .before .before .before .index .ensures) (c .before .before .before .before .half .ensures) (c .before .before .before .before .before .before .pack .ensures .1) (c .before .before .before .full .ensures)
-    (c .before .before .place .ensures)
+    let levels = c .before .before .before .before .before .before in
+    let at = levels .before .before .before .before in
+    let a = at .before .before .before .args in
+    read (now (a .job)) (a .base) _ (a .x) _ (at .index .ensures) (c .before .before .before .before .half .ensures) (levels .pack .ensures .1)
+    (c .before .before .before .full .ensures) (c .before .before .place .ensures)
 
 pub enter-spec : {M : Type 1} → statement M
 enter-spec =

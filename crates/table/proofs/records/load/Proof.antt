@@ -1,6 +1,6 @@
 -- The invariant: the records from x on are linked, if the parent rule holds. The measure is x, the records that wait. Assumes nothing.
 use mathlib.Core.Path.{_≡_, refl, _∙_}
-use Prim.Native.Nat.{_≤_, _-_}
+use Prim.Native.Nat.{_≤_}
 use native.Mathlib.Omega.{arith}
 use borrow.Author.Needs.{needs}
 use denote.Ref.{now}
@@ -19,20 +19,30 @@ abbrev μ-loop : tie.MeasureT-loop
 
 loop-holds : tie.Need-loop-holds Inv-loop μ-loop
 loop-holds c =
-    let a = c .before .before .before .before .before .before .args in
-    (c .before .before .before .before .before .before .pre .some, omega arith, refl, λ _. linking-start (now (a .job)) (a .base) (a .n) (c .before .before .clear .ensures))
+    let s = c .before .before .before .before .before .before in
+    (s .pre .some, omega arith, refl, λ _. linking-start (now (s .args .job)) (s .args .base) (s .args .n) (c .before .before .clear .ensures))
 
 loop-again : tie.Need-loop-again Inv-loop μ-loop
 loop-again c =
-    let a = c .before .before .before .before .before .before .before .before .before .before .before .before .args in
-    let i = c .before .before .before .before .before .loop .inv in
-    (omega arith, omega arith, c .before .before .enter .kept .1 .1 .1 .0 ∙ i .2, λ r. linking-step (now (a .job)) (a .base) (c .before .before .before .before .before .loop .x) (c .before .before .before .before .before .before .before .before .before .before .before .before .pre .few) (c .before .before .before .before .loop-test .taken) (i .1) r (i .3 r) (c .before .before .enter .ensures))
+    let step = c .before .before in
+    let turn = step .before .before .before in
+    let s = turn .before .before .before .before .before .before .before in
+    let i = turn .loop .inv in (
+      omega arith,
+      omega arith,
+      step .enter .kept .1 .1 .1 .0 ∙ i .2,
+      λ r.
+          linking-step (now (s .args .job)) (s .args .base) (turn .loop .x) (s .pre .few) (step .before .before .loop-test .taken) (i .1) r (i .3 r)
+          (step .enter .ensures),
+    )
 
 returns : tie.Need-returns Inv-loop μ-loop
 returns c =
-    let a = c .before .before .before .before .before .before .before .before .before .before .before .before .args in
-    let e : c .before .before .before .before .before .loop .x ≡ 1 = omega arith in
-    loaded (now (a .job)) (a .base) (a .n) (c .before .before .before .before .before .before .before .before .before .before .before .before .pre .some) (rw e at (c .before .before .before .before .before .loop .inv .3)) (c .before .before .enter2 .ensures)
+    let step = c .before .before in
+    let turn = step .before .before .before in
+    let s = turn .before .before .before .before .before .before .before in
+    let e : turn .loop .x ≡ 1 = omega arith in
+    loaded (now (s .args .job)) (s .args .base) (s .args .n) (s .pre .some) (rw e at (turn .loop .inv .3)) (step .enter2 .ensures)
 
 pub load-spec : {M : Type 1} → statement M
 load-spec =

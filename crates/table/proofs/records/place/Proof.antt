@@ -7,7 +7,12 @@ use Rattle.table.proofs.records.place.Tie as tie
 
 returns : tie.Need-returns
 unfolding cells
-returns c = under _ _ (c .before .before .before .before .before .before .before .before .before .before .before .before .before .before .if1 .taken) (rw (c .before .before .before .before .before .before .before .before .before .before .before .before .get .ensures) at (c .before .before .before .before .before .before .before .before .before .before .fill .ensures)) (c .before .before .before .before .before .before .store .ensures) (c .before .before .count-up .ensures)
+returns c =
+    let counted = c .before .before in
+    let linked = counted .before .before .before .before in
+    let whole = linked .before .before .before .before in
+    let old = whole .before .before in
+    under _ _ (old .before .before .if1 .taken) (rw (old .get .ensures) at (whole .fill .ensures)) (linked .store .ensures) (counted .count-up .ensures)
 
 returns-2 : tie.Need-returns-2
 returns-2 c = alone (c .before .before .before .before .if1 .left) (c .before .before .fill2 .ensures)

@@ -8,9 +8,15 @@ use Rattle.table.proofs.shape.attach.Tie as tie
 
 returns : tie.Need-returns
 returns c =
-    let a = c .before .before .before .before .before .before .before .before .before .before .before .before .before .before .before .before .before .before .before .before .args in
-    attached (a .side) (c .before .before .before .before .before .before .before .before .before .before .before .before .before .before .before .before .before .get .ensures ∙ link-word _ _ _ (c .before .before .before .before .before .before .before .before .before .before .before .before .before .before .before .before .before .before .before .before .pre .1 .0)) (packed _ (a .node .value) (c .before .before .before .before .before .before .before .before .before .before .before .before .before .before .before .before .pack .ensures .1))
-    (c .before .before .before .before .before .before .before .before .before .before .before .before .before .before .clear .ensures) (c .before .before .before .before .before .before .before .before .before .before .fill .ensures) (c .before .before .before .before .before .before .store .ensures) (c .before .before .count-up .ensures)
+    let counted = c .before .before in
+    let linked = counted .before .before .before .before in
+    let whole = linked .before .before .before .before in
+    let bare = whole .before .before .before .before in
+    let levels = bare .before .before in
+    let old = levels .before in
+    let s = old .before .before .before in
+    attached (s .args .side) (old .get .ensures ∙ link-word _ _ _ (s .pre .1 .0)) (packed _ (s .args .node .value) (levels .pack .ensures .1))
+    (bare .clear .ensures) (whole .fill .ensures) (linked .store .ensures) (counted .count-up .ensures)
 
 pub attach-spec : {M : Type 1} → statement M
 attach-spec =

@@ -8,7 +8,13 @@ use Rattle.table.proofs.shape.detach.Tie as tie
 returns : tie.Need-returns
 unfolding cells
 returns c =
-    detached (c .before .before .before .before .before .before .before .before .before .before .before .before .before .before .before .before .before .before .before .args .side) (c .before .before .before .before .before .before .before .before .before .before .before .before .before .before .before .before .get .ensures) (c .before .before .before .before .before .before .before .before .before .before .before .before .before .before .store .ensures) (c .before .before .before .before .before .before .before .before .before .before .store2 .ensures) (c .before .before .before .before .before .before .store3 .ensures) (c .before .before .count-down .ensures)
+    let counted = c .before .before in
+    let stacked = counted .before .before .before .before in
+    let cut = stacked .before .before .before .before in
+    let passed = cut .before .before .before .before in
+    let next = passed .before .before in
+    detached (next .before .before .before .args .side) (next .get .ensures) (passed .store .ensures) (cut .store2 .ensures) (stacked .store3 .ensures)
+    (counted .count-down .ensures)
 
 pub detach-spec : {M : Type 1} → statement M
 detach-spec =

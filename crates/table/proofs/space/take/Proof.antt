@@ -11,7 +11,16 @@ use Rattle.table.proofs.space.take.Tie as tie
 returns : tie.Need-returns
 unfolding cells
 returns c =
-    (λ _. c .before .before .before .before .before .before .before .before .before .before .before .before .before .before .if1 .taken, reused (c .before .before .before .before .before .before .before .before .before .before .get2 .ensures) (c .before .before .before .before .before .before .before .before .before .before .before .before .get .ensures) (c .before .before .before .before .before .before .before .before .get3 .ensures) (c .before .before .before .before .before .before .before .before .before .before .before .before .before .before .if1 .taken) (c .before .before .before .before .before .before .push .ensures) (c .before .before .push2 .ensures))
+    let below = c .before .before in
+    let beside = below .before .before .before .before in
+    let first = beside .before .before in
+    let right = first .before .before in
+    let rest = right .before .before in
+    let free = rest .before .before in (
+      λ _. free .if1 .taken,
+      reused (right .get2 .ensures) (rest .get .ensures) (first .get3 .ensures) (free .if1 .taken) (beside .push .ensures)
+          (below .push2 .ensures),
+    )
 
 returns-2 : tie.Need-returns-2
 returns-2 c = (λ _. c .if2 .taken, fresh (c .before .if1 .left) (c .if2 .taken) (λ y. refl) refl refl refl refl)

@@ -1,0 +1,61 @@
+-- A node is removed from a side of the cursor's node: the view goes to that side, the first node there goes, and the view comes back. Where
+-- nothing stands, the tree stays as it is; and where a node stands, it has a parent. Assumes nothing.
+use mathlib.Core.Path.{_≡_, refl, sym, ap, subst, _∙_}
+use Prim.Native.Nat.{ℕ, _-_, _<_, _≤_}
+use native.Mathlib.Omega.{arith}
+use Rattle.rules.specs.Tree.{Label, Forest, sibling, Place, to, change, remove}
+use Rattle.table.specs.Cells.{Table, gone, sideOf, link, parentOn}
+use Rattle.table.specs.Holds.{Placed, empty, node, head, Spare, Holds}
+use Rattle.table.specs.Steps.{withWord, Put, Detached}
+use Rattle.table.proofs.Ways.{Way, step, pathOf, parentOf, plug-change}
+use Rattle.table.proofs.Focus.{Focus}
+use Rattle.table.proofs.Links.{withLink, withCount}
+use Rattle.table.proofs.Changes.{prune, withParent}
+use Rattle.table.proofs.Sides.{return, link-above, parent-above, has-parent, at, view-on}
+use Rattle.table.proofs.Words.{with-link}
+
+-- where nothing stands, a removal changes nothing
+idle : {m : Table} {n used free : ℕ} {t : Forest} {w : Placed} {s : Spare} (k : Way) (f : Placed) → Focus m n used free t w k f s → n ≤ head f
+    → change (pathOf k) remove t ≡ t
+unfolding remove
+idle k empty h ge = ap (change (pathOf k) remove) (sym (h .is-tree)) ∙ plug-change k remove empty empty refl ∙ h .is-tree
+idle k (node x l c r) h ge = absurd (omega (arith, h .stored .0, h .room))
+
+-- the node at y is removed
+module _ {m m′ : Table} {n used free x y u : ℕ} {t : Forest} {l : Label} {o : Placed} {k : Way} {s : Spare} (side : ℕ) (lt : side < 2) where
+  cut-off : (f : Placed) → Focus m n used free t empty (step (sideOf side) x l o k) f s → y ≡ head f → y < n → u ≡ parentOf (step (sideOf side) x l o k)
+      → u < n → Detached side m m′ x u y free → Holds m′ n used y x (change (to (sideOf side) (pathOf k)) remove t) (pathOf k)
+  unfolding withWord
+  cut-off empty h e ly z lu g = absurd (omega (arith, h .few))
+  cut-off (node q a c r) h e ly z lu g =
+      let d = sideOf side in
+      let passed : Put m (g .m₁) x (withLink d (head r) (m x)) =
+      subst (λ v. Put m (g .m₁) x v)
+      (with-link side (m y .right) (m x) lt ∙ ap (λ v. withLink d v (m x)) (ap (λ v. m v .right) e ∙ ap (λ v. v .right) (h .stored .1))) (g .passed) in
+      let cut : Put (g .m₁) (g .m₂) q (withLink sibling gone (g .m₁ q)) = subst (λ v. Put (g .m₁) (g .m₂) v (withLink sibling gone (g .m₁ v))) e (g .cut) in
+      let stacked : Put (g .m₂) (g .m₃) q (withParent free (g .m₂ q)) = subst (λ v. Put (g .m₂) (g .m₃) v (withParent free (g .m₂ v))) e (g .stacked) in
+      let counted = subst (λ v. Put (g .m₃) m′ v (withCount (g .m₃ v .children - 1) (g .m₃ v))) z (g .counted) in
+      subst (λ v. Holds m′ n used v x (change (to d (pathOf k)) remove t) (pathOf k)) (sym e)
+      (return d k (prune h (λ i. omega (arith, h .few)) passed cut stacked counted))
+
+-- removal on a side of the cursor's node
+module _ {m : Table} {n used free x y u : ℕ} {t : Forest} {p : Place} (h : Holds m n used free x t p) (side : ℕ) (lt : side < 2)
+    (e : y ≡ link (sideOf side) (m x)) (z : u ≡ parentOn (sideOf side) x (m x)) where
+  pub removed : {m′ : Table} → y < n → u < n → Detached side m m′ x u y free → Holds m′ n used y x (change (to (sideOf side) p) remove t) p
+  removed {m′} ly lu g =
+      let f = view-on h (sideOf side) in
+      subst (λ q. Holds m′ n used y x (change (to (sideOf side) q) remove t) q) (at h .is-path)
+      (cut-off side lt _ f (e ∙ link-above (sideOf side) f) ly (z ∙ parent-above (sideOf side) f) lu g)
+
+  -- nothing to remove, or no node without a parent there
+  pub removed-none : n ≤ y → Holds m n used free x (change (to (sideOf side) p) remove t) p
+  removed-none ge =
+      let f = view-on h (sideOf side) in
+      let i = idle _ _ f (omega (arith, e, link-above (sideOf side) f)) in
+      subst (λ q. Holds m n used free x (change (to (sideOf side) q) remove t) p) (at h .is-path)
+      (subst (λ v. Holds m n used free x v p) (sym i) h)
+
+  pub removed-never : y < n → n ≤ u → Holds m n used free x (change (to (sideOf side) p) remove t) p
+  removed-never ly ge =
+      let f = view-on h (sideOf side) in
+      absurd (omega (arith, has-parent (sideOf side) (at h .k) _ f (omega (arith, e, link-above (sideOf side) f)), z, parent-above (sideOf side) f))
