@@ -38,3 +38,22 @@ pub const BAD_NODE: u8 = 6;
 pub const BAD_RECORD: u8 = 7;
 
 pub const BAD_BLOCK: u8 = 8;
+
+pub const BAD_BUDGET: u8 = 9;
+
+pub const BAD_BUFFERS: u8 = 10;
+
+pub const MAX_BUDGET: u64 = 1000000;
+
+// The numbers of the stops: a rule of information flow, no such node, a full table, a full board, a used-up budget, a level that is too low.
+pub const FLOW: u8 = 21;
+
+pub const ABSENT: u8 = 22;
+
+pub const TABLE_FULL: u8 = 23;
+
+pub const BOARD_FULL: u8 = 24;
+
+pub const SPENT: u8 = 25;
+
+pub const LOW: u8 = 26;

@@ -1,0 +1,350 @@
+-- The rules' step of a state that the slices stand for, as the monitor's arms do it: the record's bytes spell the command, whose number picks the arm.
+-- Assumes nothing.
+use mathlib.Core.Path.{_≡_, refl, sym, _∙_, ap, subst}
+use mathlib.Core.Bool.{Bool, true, false}
+use mathlib.Core.Logic.{_⊎_, inl, inr}
+use mathlib.Core.Option.{some}
+use mathlib.Core.List.{List, tail}
+use Prim.Native.Nat.{ℕ, zero, suc, _+_, _-_, _*_, _<_, _≤_}
+use native.Mathlib.Omega.{arith}
+use lib.ListN.{length, getD}
+use lib.IntN.{ℤ}
+use lib.Dec
+use borrow.Author.Tests
+use Rattle.rules.specs.Limits.{maxDepth, maxNodes, maxRecords, maxBudget}
+use Rattle.rules.specs.Level.{secret}
+use Rattle.rules.specs.Tree.{child, sibling, root, to, up}
+use Rattle.rules.specs.Bytes.{byte, recordPlace}
+use Rattle.rules.specs.Blocks.{opens, goesTo}
+use Rattle.rules.specs.Check.{recordRule}
+use Rattle.rules.specs.Job.{scriptOf, commandOf, expressionOf, listed}
+use Rattle.rules.specs.Script.{Expression, Command, act, Action, Row, rows, rowOf, commands, fetch, numberAt, number, actionNumber}
+use Rattle.rules.specs.Run as Run
+use Rattle.rules.specs.Run.{State, Buffers, Result, next, context, value, levelOf, stepped, onward, enterIf, enterWhile, carried, effect, step}
+use Rattle.rules.proofs.Ranges.{record-in, RecordIn, FieldsIn, ExpressionIn, OperandIn}
+use Rattle.rules.proofs.Decode.{listed-length, listed-from-zero}
+use Rattle.rules.proofs.Nests.{nest, nest-room}
+use Rattle.rules.proofs.Exits.{goes-within}
+use Rattle.rules.proofs.Control.{Valid}
+use Rattle.job.specs.declared.records.Fields.{Fields}
+use Rattle.job.specs.Fields.{fieldsOf, expressionFrom, commandFrom}
+use Rattle.table.specs.Cells.{sideOf, Within}
+use Rattle.monitor.specs.declared.memory.Effect.{Effect}
+use Rattle.monitor.specs.declared.evaluate.Valued.{Valued}
+use Rattle.monitor.specs.declared.control.Running.{Running}
+use Rattle.monitor.specs.declared.control.Stepped.{Stepped}
+use Rattle.monitor.specs.Guards.{Holds}
+use Rattle.monitor.specs.Shows.{Slices, Reads, Readable}
+use Rattle.monitor.specs.Acts.{Does, Kept, Acts, Evaluates, moveOf}
+use Rattle.monitor.specs.Stands.{Stands, Timely, Onward, Passes, Jumps, Leaves, Enters, Held, scriptIn, fieldsAt, Script, Safe, Lent, Steps}
+use Rattle.monitor.proofs.Doing.{kept-refl}
+use Rattle.monitor.proofs.Stepping.{action-steps, jump-steps, leave-steps}
+
+-- slices of the same lengths
+pub record SameLengths (x x′ : Slices) : Type 0 where
+  pub words : length (x′ .words) ≡ length (x .words)
+  pub levels : x′ .levels ≡ x .levels
+  pub values : length (x′ .values) ≡ length (x .values)
+  pub board : length (x′ .board) ≡ length (x .board)
+
+-- one of four numbers from b on
+pub data OneOfFour (k b : ℕ) : Type 0 where
+  first : k ≡ b → OneOfFour k b
+  second : k ≡ b + 1 → OneOfFour k b
+  third : k ≡ b + 2 → OneOfFour k b
+  fourth : k ≡ b + 3 → OneOfFour k b
+
+one-of-four : (k b : ℕ) → b ≤ k → k ≤ b + 3 → OneOfFour k b
+one-of-four k b l m = pick (k - b) refl
+  where
+    pick : (d : ℕ) → k - b ≡ d → OneOfFour k b
+    pick zero e = first (omega arith)
+    pick (suc zero) e = second (omega arith)
+    pick (suc (suc zero)) e = third (omega arith)
+    pick (suc (suc (suc zero))) e = fourth (omega arith)
+    pick (suc (suc (suc (suc d)))) e = absurd (omega arith)
+
+module _ (h : Held) (sc : Script h) where
+  script-length : length (scriptIn h) ≡ h .records
+  unfolding scriptOf
+  script-length = listed-length _ (h .records) 0
+
+  module _ (i : ℕ) (inside : i < h .records) where
+    -- the record's command, by its fields
+    spelled : fetch (scriptIn h) i ≡ commandFrom (fieldsAt h i)
+    unfolding scriptOf fetch commandFrom fieldsOf expressionFrom commandOf expressionOf
+    spelled = listed-from-zero (λ (k : ℕ). commandOf (h .bytes) (recordPlace (h .base) k)) (act Action.skip) (h .records) i inside
+
+    -- the variables that its expression names, if it has one
+    pub reads : (rowOf (byte (h .bytes) (recordPlace (h .base) i))) .expression ≡ true → Reads (h .vars) (fieldsAt h i)
+    unfolding fieldsOf
+    reads e =
+        let x = record-in _ _ _ (sc .fields i inside) .fields .expression e in
+        record { left = x .left .variable; right = λ n k. x .right n .variable k }
+
+    -- its target, if that is a variable
+    pub target-in : (rowOf (byte (h .bytes) (recordPlace (h .base) i))) .target ≡ true → byte (h .bytes) (recordPlace (h .base) i + 1) < h .vars
+    target-in e = record-in _ _ _ (sc .fields i inside) .fields .target e
+
+    pub command-in : byte (h .bytes) (recordPlace (h .base) i) < 17
+    command-in = record-in _ _ _ (sc .fields i inside) .command
+
+  -- the rules' step, by the fields of the record that comes next
+  pub step-is : (lent : Buffers) (s : State) (i : ℕ) → i < h .records → s .at ≡ i
+      → step lent (scriptIn h) s ≡ carried s lent (getD (h .jumps) i 0) (commandFrom (fieldsAt h i))
+  unfolding step
+  step-is lent s i inside e = rw (e, script-length, ← sc .jumps i inside, spelled i inside)
+
+  -- a step of record i, from the slices x and the running record r
+  module _ (x : Slices) (r : Running) (sf : Safe h x r) (inside : r .at < h .records) (f : Fields) (got : f ≡ fieldsAt h (r .at)) (j : ℕ) (goal : j ≡ getD (h .jumps) (r .at) 0)
+    where
+      here-is : (lent : Buffers) (s : State) → s .at ≡ r .at → step lent (scriptIn h) s ≡ carried s lent j (commandFrom f)
+      here-is lent s e = step-is lent s (r .at) inside e ∙ (λ i. carried s lent (sym goal i) (commandFrom (sym got i)))
+
+      -- an action, whose effect e takes the slices to x′
+      pub acting : (x′ : Slices) (e : Effect) (a : Stepped) (action : Run.Memory → Result Run.Memory) → SameLengths x x′ → Onward r e a
+          → Acts (h .places) (h .vars) x x′ (r .memory) e action
+          → ((lent : Buffers) (s : State) → Lent h x lent → Holds (r .guards) (s .blocks)
+          → carried s lent j (commandFrom f) ≡ onward s (action (s .memory)))
+          → Steps h x x′ r a
+      acting x′ e a action same o acts is =
+          record {
+            safe =
+                record {
+                  long = rw (same .words) (sf .long);
+                  few = sf .few;
+                  levelled = rw (same .levels) (sf .levelled);
+                  valued = rw (same .values) (sf .valued);
+                  cursor = rw (o .memory) (acts .cursor);
+                  room = rw (o .memory) (acts .room (sf .room));
+                  within = at-most (lib.Dec.eqb (e .stop) 0) refl;
+                };
+            kept = rw (o .memory) (acts .kept);
+            counted = λ z. o .goes (sym (o .stop) ∙ z) .1;
+            board = same .board;
+            steps = λ lent s l v st.
+                subst (Does (Stands (h .places) (h .vars) x′ (a .running)) (a .stop) s)
+                (sym (here-is lent s (st .at) ∙ is lent s l (st .guards)))
+                (action-steps (h .places) (h .vars) x x′ r s st e a o action acts);
+          }
+        where
+          at-most : (b : Bool) → lib.Dec.eqb (e .stop) 0 ≡ b → a .running .at ≤ h .records
+          at-most true z = rw (o .goes (borrow.Author.Tests.eqb-true _ 0 z) .0) inside
+          at-most false z = rw (o .stays (borrow.Author.Tests.eqb-false _ 0 z) .0) (sf .within)
+
+      -- a step that leaves the slices and the memory
+      controlling : (a : Stepped) → Passes r a → a .running .at ≤ h .records
+          → ((lent : Buffers) (s : State) → Lent h x lent → Valid (scriptIn h) s → Stands (h .places) (h .vars) x r s
+          → Does (Stands (h .places) (h .vars) x (a .running)) (a .stop) s (step lent (scriptIn h) s))
+          → Steps h x x r a
+      controlling a p w g =
+          record {
+            safe =
+                record {
+                  long = sf .long;
+                  few = sf .few;
+                  levelled = sf .levelled;
+                  valued = sf .valued;
+                  cursor = rw (p .memory) (sf .cursor);
+                  room = rw (p .memory) (sf .room);
+                  within = w;
+                };
+            kept = rw (p .memory) kept-refl;
+            counted = λ z. p .steps;
+            board = refl;
+            steps = g;
+          }
+
+      -- the command, by its number
+      numbered : (k : ℕ) (c : Command) → f .command ≡ k
+          → getD (commands (f .target) (expressionFrom f)) k (act Action.skip) ≡ c
+          → commandFrom f ≡ c
+      unfolding commandFrom
+      numbered k c e w =
+          ap (λ (n : ℕ). getD (commands (f .target) (expressionFrom f)) n (act Action.skip)) e ∙ w
+
+      jump-within : j ≤ h .records
+      jump-within = rw (goal ∙ sc .jumps (r .at) inside) (goes-within (numberAt (scriptIn h)) (h .records) (sc .blocks) (r .at) inside)
+
+      -- 3 and 5
+      module _ (a : Stepped) where
+        pub elses : f .command ≡ 3 → Jumps r j a → Steps h x x r a
+        unfolding commands carried
+        elses key k =
+            controlling a (k .passes) (rw (k .at) jump-within) (λ lent s l v st.
+            subst (Does (Stands (h .places) (h .vars) x (a .running)) (a .stop) s)
+            (sym (here-is lent s (st .at) ∙ ap (carried s lent _) (numbered 3 Command.else key refl)))
+            (jump-steps (h .places) (h .vars) x x r s st _ a k))
+
+        pub ends : f .command ≡ 5 → Leaves r j a → Steps h x x r a
+        unfolding commands carried
+        ends key k =
+            controlling a (k .passes) (rw (k .at) jump-within) (λ lent s l v st.
+            subst (Does (Stands (h .places) (h .vars) x (a .running)) (a .stop) s)
+            (sym (here-is lent s (st .at) ∙ ap (carried s lent _) (numbered 5 Command.end key refl)))
+            (leave-steps (h .places) (h .vars) x x r s st _ a k))
+
+      -- 2 and 4: there is room for one block more
+      room-for : (s : State) → Valid (scriptIn h) s → s .at ≡ r .at → (c : Command)
+          → commandFrom f ≡ c → opens (number c) ≡ true → length (s .blocks) < maxDepth
+      unfolding numberAt
+      room-for s v e c w o =
+          let d : length (s .blocks) ≡ length (nest (numberAt (scriptIn h)) (r .at)) = v .depth ∙ ap (λ (i : ℕ). length (nest (numberAt (scriptIn h)) i)) e in
+          rw d (nest-room (numberAt (scriptIn h)) (h .records) (sc .blocks) (r .at) inside (rw (spelled (r .at) inside, ← got, w) o))
+
+      module _ (v : Valued) (a : Stepped)
+          (ev : Evaluates (x .words) (x .levels) (x .values) (h .places) (h .vars) (r .memory) (expressionFrom f) v)
+        where
+          pub ifs : f .command ≡ 2 → Enters enterIf r v j a → Steps h x x r a
+          unfolding commands carried number opens
+          ifs key n =
+              controlling a (n .passes) (n .within (h .records) jump-within inside) (λ lent s l vl st.
+              subst (Does (Stands (h .places) (h .vars) x (a .running)) (a .stop) s)
+              (sym (here-is lent s (st .at) ∙ ap (carried s lent _) (numbered 2 _ key refl)))
+              (record {
+                does = (
+                  n .passes .stop,
+                  n .enters (h .places) (h .vars) x s _ (ev .fits) (ev .value (x .board) (s .memory) (st .memory)) (ev .level (x .board) (s .memory) (st .memory))
+                      (room-for s vl (st .at) _ (numbered 2 _ key refl) refl) st,
+                );
+              }))
+
+          pub whiles : f .command ≡ 4 → Enters enterWhile r v j a → Steps h x x r a
+          unfolding commands carried number opens
+          whiles key n =
+              controlling a (n .passes) (n .within (h .records) jump-within inside) (λ lent s l vl st.
+              subst (Does (Stands (h .places) (h .vars) x (a .running)) (a .stop) s)
+              (sym (here-is lent s (st .at) ∙ ap (carried s lent _) (numbered 4 _ key refl)))
+              (record {
+                does = (
+                  n .passes .stop,
+                  n .enters (h .places) (h .vars) x s _ (ev .fits) (ev .value (x .board) (s .memory) (st .memory)) (ev .level (x .board) (s .memory) (st .memory))
+                      (room-for s vl (st .at) _ (numbered 4 _ key refl) refl) st,
+                );
+              }))
+
+      -- the actions, in the context pc that the guards hold
+      module _ (x′ : Slices) (e : Effect) (a : Stepped) (pc : ℕ) (top : (bs : List Run.Block) → Holds (r .guards) bs → pc ≡ context bs) (same : SameLengths x x′) (o : Onward r e a)
+        where
+          -- the action α of the number k is what the effect acts as
+          by-number : (k : ℕ) (α : Action) (action : Run.Memory → Result Run.Memory) → f .command ≡ k
+              → getD (commands (f .target) (expressionFrom f)) k (act Action.skip) ≡ act α
+              → ((lent : Buffers) (μ : Run.Memory) → Lent h x lent → effect lent pc μ α ≡ action μ)
+              → Acts (h .places) (h .vars) x x′ (r .memory) e action → Steps h x x′ r a
+          unfolding carried
+          by-number k α action key w is acts =
+              acting x′ e a action same o acts (λ lent s l held.
+              ap (carried s lent _) (numbered k (act α) key w) ∙ ap (λ (c : ℕ). onward s (effect lent c (s .memory) α)) (sym (top (s .blocks) held))
+              ∙ ap (onward s) (is lent (s .memory) l))
+
+          pub skips : f .command ≡ 0 → Acts (h .places) (h .vars) x x′ (r .memory) e (λ μ. next μ) → Steps h x x′ r a
+          unfolding commands effect
+          skips key = by-number 0 Action.skip _ key refl (λ lent μ l. refl)
+
+          pub assigns : f .command ≡ 1
+              → Acts (h .places) (h .vars) x x′ (r .memory) e
+              (λ μ. Run.assign pc μ (f .target)
+              (Run.variableAt (μ .variables) (f .target)) (expressionFrom f))
+              → Steps h x x′ r a
+          unfolding commands effect
+          assigns key = by-number 1 (Action.assign _ _) _ key refl (λ lent μ l. refl)
+
+          pub outputs : f .command ≡ 6
+              → Acts (h .places) (h .vars) x x′ (r .memory) e
+              (λ μ. Run.output pc μ (length (x .board)) (expressionFrom f))
+              → Steps h x x′ r a
+          unfolding commands effect
+          outputs key = by-number 6 (Action.output _) _ key refl (λ lent μ l. rw (l .board))
+
+          pub writes : f .command ≡ 15
+              → Acts (h .places) (h .vars) x x′ (r .memory) e (λ μ. Run.write pc μ (expressionFrom f))
+              → Steps h x x′ r a
+          unfolding commands effect
+          writes key = by-number 15 (Action.write _) _ key refl (λ lent μ l. refl)
+
+          pub raises : f .command ≡ 16
+              → Acts (h .places) (h .vars) x x′ (r .memory) e (λ μ. Run.moveTo pc μ (μ .cursor) secret) → Steps h x x′ r a
+          unfolding commands effect
+          raises key = by-number 16 Action.raise _ key refl (λ lent μ l. refl)
+
+          -- 7 to 10
+          pub goes : 7 ≤ f .command → f .command ≤ 10
+              → Acts (h .places) (h .vars) x x′ (r .memory) e (λ μ. moveOf (f .command) pc μ) → Steps h x x′ r a
+          unfolding commands effect moveOf
+          goes l m acts = pick (one-of-four _ 7 l m)
+            where
+              pick : OneOfFour (f .command) 7 → Steps h x x′ r a
+              pick (first k) = by-number 7 Action.goRoot _ k refl (λ lent μ l. rw k) acts
+              pick (second k) = by-number 8 Action.goParent _ k refl (λ lent μ l. rw k) acts
+              pick (third k) = by-number 9 (Action.go child) _ k refl (λ lent μ l. rw k) acts
+              pick (fourth k) = by-number 10 (Action.go sibling) _ k refl (λ lent μ l. rw k) acts
+
+          -- 11 and 12
+          pub inserts : (side : ℕ) → f .command ≡ side + 11 → side < 2
+              → Acts (h .places) (h .vars) x x′ (r .memory) e
+              (λ μ. Run.insertAt pc μ (h .places) (to (sideOf side) (μ .cursor)) (up (to (sideOf side) (μ .cursor)))
+              (f .target) (expressionFrom f))
+              → Steps h x x′ r a
+          unfolding commands effect sideOf
+          inserts zero key l acts = by-number 11 (Action.insert child _ _) _ key refl (λ lent μ l. rw (l .places)) acts
+          inserts (suc zero) key l acts = by-number 12 (Action.insert sibling _ _) _ key refl (λ lent μ l. rw (l .places)) acts
+          inserts (suc (suc side)) key l acts = absurd (omega arith)
+
+          -- 13 and 14
+          pub removes : (side : ℕ) → f .command ≡ side + 13 → side < 2
+              → Acts (h .places) (h .vars) x x′ (r .memory) e (λ μ. Run.removeAt pc μ (to (sideOf side) (μ .cursor))) → Steps h x x′ r a
+          unfolding commands effect sideOf
+          removes zero key l acts = by-number 13 (Action.remove child) _ key refl (λ lent μ l. refl) acts
+          removes (suc zero) key l acts = by-number 14 (Action.remove sibling) _ key refl (λ lent μ l. refl) acts
+          removes (suc (suc side)) key l acts = absurd (omega arith)
+
+-- the numbers that no single arm takes
+
+above : (j k : ℕ) → j ≤ k → (k ≡ j → ⊥) → suc j ≤ k
+above j k l n = omega arith
+
+pub from-seven : (k : ℕ) → (k ≡ 0 → ⊥) → (k ≡ 1 → ⊥) → (k ≡ 2 → ⊥) → (k ≡ 3 → ⊥) → (k ≡ 4 → ⊥) → (k ≡ 5 → ⊥) → (k ≡ 6 → ⊥) → 7 ≤ k
+from-seven k a b c d e f g =
+    above 6 k (above 5 k (above 4 k (above 3 k (above 2 k (above 1 k (above 0 k (omega arith) a) b) c) d) e) f) g
+
+-- what the arms ask
+module _ (h : Held) (sc : Script h) (x : Slices) (r : Running) (sf : Safe h x r) (inside : r .at < h .records) where
+  pub readable : Readable (x .words) (x .levels) (x .values) (h .places) (h .vars) (r .memory)
+  readable = record { long = sf .long; few = sf .few; cursor = sf .cursor; levelled = sf .levelled; valued = sf .valued }
+
+  pub at-cursor : Within (x .words) (h .places) (r .memory .cursor)
+  at-cursor = record { long = sf .long; few = sf .few; inside = sf .cursor }
+
+  pub timely : r .steps < maxBudget → Timely r
+  timely e = record { near = omega (arith, sc .few); early = e }
+
+  module _ (f : Fields) (got : f ≡ fieldsAt h (r .at)) where
+    command-is : byte (h .bytes) (recordPlace (h .base) (r .at)) ≡ f .command
+    unfolding fieldsOf
+    command-is = sym (ap (λ (g : Fields). g .command) got)
+
+    pub reads-by : (k : ℕ) → f .command ≡ k → (rowOf k) .expression ≡ true → Reads (h .vars) f
+    reads-by k key e =
+        subst (Reads (h .vars)) (sym got)
+        (reads h sc (r .at) inside (ap (λ (n : ℕ). (rowOf n) .expression) (command-is ∙ key) ∙ e))
+
+    pub reads-insert : 11 ≤ f .command → f .command < 13 → Reads (h .vars) f
+    unfolding rows
+    reads-insert l m = pick (f .command - 11) refl
+      where
+        pick : (d : ℕ) → f .command - 11 ≡ d → Reads (h .vars) f
+        pick zero e = reads-by 11 (omega arith) refl
+        pick (suc zero) e = reads-by 12 (omega arith) refl
+        pick (suc (suc d)) e = absurd (omega arith)
+
+    pub target-by : f .command ≡ 1 → f .target < h .vars
+    unfolding rows fieldsOf
+    target-by key =
+        rw (ap (λ (g : Fields). g .target) got)
+        (target-in h sc (r .at) inside (ap (λ (n : ℕ). (rowOf n) .target) (command-is ∙ key)))
+
+    -- no number is left for the rest
+    pub no-rest : 15 ≤ f .command → (f .command ≡ 15 → ⊥) → (f .command ≡ 16 → ⊥) → ⊥
+    no-rest l a b =
+        let m : f .command < 17 = rw (← command-is) (command-in h sc (r .at) inside) in
+        omega (arith, above 16 (f .command) (above 15 (f .command) l a) b)

@@ -1,0 +1,18 @@
+-- `entry::ended` meets its contract: by whether there was a stop. Assumes nothing.
+use borrow.Author.Tests.{eq-eqb, ne-eqb}
+use Rattle.monitor.specs.Promises.{outcomeOf}
+use Rattle.monitor.proofs.entry.ended.Statement.{statement}
+use Rattle.monitor.proofs.entry.ended.Tie as tie
+use Rattle.monitor.proofs.entry.ended.Reads as reads
+use Rattle.monitor.proofs.entry.ended.Lts as lts
+
+returns : tie.Need-returns
+unfolding outcomeOf
+returns c = rw (eq-eqb _ 0 (c .if1 .taken))
+
+returns-2 : tie.Need-returns-2
+unfolding outcomeOf
+returns-2 c = rw (ne-eqb _ 0 (c .if1 .left))
+
+pub ended-spec : {M : Type 1} → statement M
+ended-spec = tie.close (tie.spec returns returns-2)

@@ -1,0 +1,138 @@
+-- How the lent slices and a running record stand for a state of a run, and what a step and a run promise of it. Assumes nothing.
+use mathlib.Core.Path.{_≡_}
+use mathlib.Core.Bool.{Bool, true, false}
+use Prim.Native.Nat.{ℕ, zero, suc, _+_, _*_, _<_, _≤_}
+use mathlib.Core.List.{List, tail}
+use lib.ListN.{length, getD}
+use lib.IntN.{ℤ}
+use Rattle.rules.specs.Limits.{maxDepth, maxNodes, maxRecords, maxBudget}
+use Rattle.rules.specs.Bytes.{recordPlace}
+use Rattle.rules.specs.Blocks.{blockRule, goesTo}
+use Rattle.rules.specs.Check.{recordRule}
+use Rattle.rules.specs.Job.{scriptOf}
+use Rattle.rules.specs.Script.{Expression, Command, numberAt}
+use Rattle.rules.specs.Run as Run
+use Rattle.rules.specs.Run.{State, Buffers, Block, Result, next, stop, stopNumber, value, levelOf, stepped, onward, step, Ending, Ended, run}
+use Rattle.rules.specs.Outcome.{endingNumber}
+use Rattle.rules.proofs.Control.{Valid}
+use Rattle.job.specs.declared.records.Fields.{Fields}
+use Rattle.job.specs.Fields.{fieldsOf}
+use Rattle.monitor.specs.declared.memory.Effect.{Effect}
+use Rattle.monitor.specs.declared.evaluate.Valued.{Valued}
+use Rattle.monitor.specs.declared.control.Running.{Running}
+use Rattle.monitor.specs.declared.control.Stepped.{Stepped}
+use Rattle.monitor.specs.declared.step.Frame.{Frame}
+use Rattle.monitor.specs.Guards.{Holds}
+use Rattle.monitor.specs.Shows.{Slices, Shows}
+use Rattle.monitor.specs.Acts.{Does, Kept, Fits}
+
+-- the slices x and the running record r stand for the state s
+pub record Stands (places vars : ℕ) (x : Slices) (r : Running) (s : State) : Type 0 where
+  pub memory : Shows places vars x (r .memory) (s .memory)
+  pub guards : Holds (r .guards) (s .blocks)
+  pub at : s .at ≡ r .at
+  pub steps : s .steps ≡ r .steps
+
+-- one more step can be counted, and one more record
+pub record Timely (r : Running) : Type 0 where
+  pub near : r .at < maxRecords
+  pub early : r .steps < maxBudget
+
+-- on to the next record after an action, or stopped where it was
+pub record Onward (r : Running) (e : Effect) (a : Stepped) : Type 0 where
+  pub stop : a .stop ≡ e .stop
+  pub memory : a .running .memory ≡ e .memory
+  pub guards : a .running .guards ≡ r .guards
+  pub stays : (e .stop ≡ 0 → ⊥) → (a .running .at ≡ r .at) × (a .running .steps ≡ r .steps)
+  pub goes : e .stop ≡ 0 → (a .running .at ≡ suc (r .at)) × (a .running .steps ≡ suc (r .steps))
+
+-- a step that does not stop and leaves the memory
+pub record Passes (r : Running) (a : Stepped) : Type 0 where
+  pub stop : a .stop ≡ 0
+  pub memory : a .running .memory ≡ r .memory
+  pub steps : a .running .steps ≡ suc (r .steps)
+
+-- to the record j, with the same blocks
+pub record Jumps (r : Running) (j : ℕ) (a : Stepped) : Type 0 where
+  pub passes : Passes r a
+  pub at : a .running .at ≡ j
+  pub guards : a .running .guards ≡ r .guards
+
+-- to the record j, with one block less
+pub record Leaves (r : Running) (j : ℕ) (a : Stepped) : Type 0 where
+  pub passes : Passes r a
+  pub at : a .running .at ≡ j
+  pub guards : (bs : List Block) → Holds (r .guards) bs → Holds (a .running .guards) (tail bs)
+
+-- an if or a while with the guard's value and level v: as the rules' f does, with j to jump to
+pub record Enters (f : State → ℕ → Expression → State) (r : Running) (v : Valued) (j : ℕ) (a : Stepped) : Type 0 where
+  pub passes : Passes r a
+  pub within : (n : ℕ) → j ≤ n → r .at < n → a .running .at ≤ n
+  pub enters : (places vars : ℕ) (x : Slices) (s : State) (e : Expression) → Fits (v .value) → value (s .memory) e ≡ v .value
+      → levelOf (s .memory) e ≡ v .level → length (s .blocks) < maxDepth → Stands places vars x r s → Stands places vars x (a .running) (f s j e)
+
+-- what a run reads only: a job's bytes, where the script starts in them and how many records it has, where each record jumps to, and how many
+-- variables and places there are
+pub record Held : Type 0 where
+  pub bytes : List ℕ
+  pub base : ℕ
+  pub records : ℕ
+  pub jumps : List ℕ
+  pub vars : ℕ
+  pub places : ℕ
+
+-- the same by a job's bytes, the jumps and a frame
+abbrev pub held : List ℕ → List ℕ → Frame → Held
+held b js f = record { bytes = b; base = f .script; records = f .records; jumps = js; vars = f .vars; places = f .places }
+
+-- the script that it holds
+abbrev pub scriptIn : Held → List Command
+scriptIn h = scriptOf (h .bytes) (h .base) (h .records)
+
+-- the fields of record i
+abbrev pub fieldsAt : Held → ℕ → Fields
+fieldsAt h i = fieldsOf (h .bytes) (recordPlace (h .base) i)
+
+-- a script that has passed the checks 7 and 8, with its jumps
+pub record Script (h : Held) : Type 0 where
+  pub inside : recordPlace (h .base) (h .records) ≤ length (h .bytes)
+  pub few : h .records ≤ maxRecords
+  pub fields : (i : ℕ) → i < h .records → recordRule (h .bytes) (h .vars) (recordPlace (h .base) i) ≡ true
+  pub blocks : (i : ℕ) → i < suc (h .records) → blockRule (numberAt (scriptIn h)) (h .records) i ≡ true
+  pub long : h .records ≤ length (h .jumps)
+  pub jumps : (i : ℕ) → i < h .records → getD (h .jumps) i 0 ≡ goesTo (numberAt (scriptIn h)) (h .records) i
+
+-- a running record that a step can go on from, over the slices x
+pub record Safe (h : Held) (x : Slices) (r : Running) : Type 0 where
+  pub long : 8 * h .places ≤ length (x .words)
+  pub few : h .places ≤ maxNodes
+  pub levelled : h .vars ≤ length (x .levels)
+  pub valued : h .vars ≤ length (x .values)
+  pub cursor : r .memory .cursor < h .places
+  pub room : r .memory .lines ≤ length (x .board)
+  pub within : r .at ≤ h .records
+
+-- the caller's buffers as the rules count them
+pub record Lent (h : Held) (x : Slices) (lent : Buffers) : Type 0 where
+  pub places : lent .places ≡ h .places
+  pub board : lent .lines ≡ length (x .board)
+
+-- one step, from the slices x and the record r to x′ and the answer a, is the rules' step of every state that they stand for
+pub record Steps (h : Held) (x x′ : Slices) (r : Running) (a : Stepped) : Type 0 where
+  pub safe : Safe h x′ (a .running)
+  pub kept : Kept (h .vars) x x′ (r .memory .lines) (a .running .memory .lines)
+  pub counted : a .stop ≡ 0 → a .running .steps ≡ suc (r .steps)
+  pub board : length (x′ .board) ≡ length (x .board)
+  pub steps : (lent : Buffers) (s : State) → Lent h x lent → Valid (scriptIn h) s → Stands (h .places) (h .vars) x r s
+      → Does (Stands (h .places) (h .vars) x′ (a .running)) (a .stop) s (step lent (scriptIn h) s)
+
+-- how a run has ended, in the rules' words
+pub record Ran (h : Held) (x′ : Slices) (a : Stepped) (e : Ended) : Type 0 where
+  pub ending : a .stop ≡ endingNumber (e .ending)
+  pub last : Stands (h .places) (h .vars) x′ (a .running) (e .last)
+
+-- a whole run with a budget
+pub record Runs (h : Held) (x x′ : Slices) (r : Running) (budget : ℕ) (a : Stepped) : Type 0 where
+  pub kept : Kept (h .vars) x x′ (r .memory .lines) (a .running .memory .lines)
+  pub runs : (lent : Buffers) (s : State) → Lent h x lent → Valid (scriptIn h) s → Stands (h .places) (h .vars) x r s
+      → Ran h x′ a (run lent (scriptIn h) budget s)

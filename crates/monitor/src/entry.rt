@@ -1,0 +1,188 @@
+// The run over a job's bytes: the checks 1 to 10, then the job is loaded and run.
+use super::control::Running;
+use super::control::Stepped;
+use super::guards;
+use super::memory::Memory;
+use super::run::run;
+use super::step::Frame;
+use job::Checked;
+use job::prepare;
+use job::sections::Layout;
+use rules::levels::PUBLIC;
+use rules::limits::BAD_BUDGET;
+use rules::limits::BAD_BUFFERS;
+use rules::limits::MAX_BUDGET;
+use rules::limits::MAX_NODES;
+use rules::limits::MAX_RECORDS;
+use table::records;
+ghost use mathlib.Core.Path.{_≡_};
+ghost use Prim.Native.Nat.{min};
+ghost use Rattle.rules.specs.Outcome.{budgetRule};
+ghost use Rattle.monitor.specs.Shows.{slices};
+ghost use Rattle.monitor.specs.Promises.{outcomeOf, bufferTest, Loading, VariablesLoaded, Begun, Left, Promises};
+
+// What becomes of a job: turned back with a number and an index; or run, to its end or to a stop with its number and record.
+pub enum Outcome {
+    Refused {
+        number: u8,
+        index: usize,
+    },
+    Finished {
+        steps: u32,
+        lines: usize,
+    },
+    Stopped {
+        number: u8,
+        index: usize,
+        steps: u32,
+        lines: usize,
+    },
+}
+
+// The variables of a job, their levels and values side by side.
+fn load_variables(job: &[u8], vars: usize, levels: &mut [u8], values: &mut [i32])
+    requires { ⌜ Loading (now job) (now levels) (now values) vars ⌝ }
+    ensures { λ _. ⌜ VariablesLoaded (now (job .entry)) vars (now (levels .entry)) (now (levels .exit)) (now (values .entry)) (now (values .exit)) ⌝ }
+{
+    let mut i = 0;
+    while i < vars {
+        levels[i] = job::variables::level_at(job, i);
+        values[i] = job::variables::value_at(job, i);
+        i += 1;
+    }
+}
+
+// Check 9.
+fn budget_ok(budget: u64) -> bool
+    ensures { λ r. ⌜ r ≡ budgetRule budget ⌝ }
+{
+    (1 <= budget) & (budget <= MAX_BUDGET)
+}
+
+// Check 10, of a job with some nodes and variables and buffers with some places for each.
+fn buffers_ok(nodes: usize, variables: usize, places: usize, room: usize) -> bool
+    ensures { λ r. ⌜ r ≡ bufferTest nodes variables places room ⌝ }
+{
+    (1 <= places) & (places <= MAX_NODES) & (nodes <= places) & (variables <= room)
+}
+
+fn smaller(a: usize, b: usize) -> usize
+    ensures { λ r. ⌜ r ≡ min a b ⌝ }
+{
+    if a < b { a } else { b }
+}
+
+// How a run has ended, as an outcome.
+fn ended(a: Stepped) -> Outcome
+    ensures { λ r. ⌜ r ≡ outcomeOf a ⌝ }
+{
+    if a.stop == 0 {
+        return Outcome::Finished {
+            steps: a.running.steps,
+            lines: a.running.memory.lines,
+        };
+    }
+    Outcome::Stopped {
+        number: a.stop,
+        index: a.running.at,
+        steps: a.running.steps,
+        lines: a.running.memory.lines,
+    }
+}
+
+// An accepted job, with buffers that are large enough: loaded, and run from the root.
+fn run_accepted(
+    job: &[u8],
+    l: Layout,
+    jumps: &[u16],
+    budget: u32,
+    words: &mut [u32],
+    places: u32,
+    levels: &mut [u8],
+    values: &mut [i32],
+    lines: &mut [i32],
+) -> Outcome
+    requires { ⌜ Begun (now job) l (now jumps) budget (slices (now words) (now levels) (now values) (now lines)) places ⌝ }
+    ensures { λ r. ⌜ Left (now (job .entry)) budget places (slices (now (words .entry)) (now (levels .entry)) (now (values .entry)) (now (lines .entry)))
+        (slices (now (words .exit)) (now (levels .exit)) (now (values .exit)) (now (lines .exit))) r ⌝ }
+{
+    load_variables(job, l.variables, levels, values);
+    records::load(job, l.tree, l.nodes as u32, words);
+    let frame = Frame {
+        script: l.script,
+        records: l.records,
+        vars: l.variables,
+        places,
+    };
+    let memory = Memory {
+        cursor: 0,
+        level: PUBLIC,
+        lines: 0,
+        free: table::NIL,
+        used: l.nodes as u32,
+    };
+    let start = Running {
+        memory,
+        guards: guards::none(),
+        at: 0,
+        steps: 0,
+    };
+    ended(run(
+        job,
+        jumps,
+        levels,
+        frame,
+        budget,
+        words,
+        values,
+        lines,
+        start,
+    ))
+}
+
+// The run over a job's bytes, with a budget and what the caller lends: a node table of eight words to a place, the variables' levels and values, and
+// places for board lines.
+pub fn run_job(
+    job: &[u8],
+    budget: u64,
+    words: &mut [u32],
+    levels: &mut [u8],
+    values: &mut [i32],
+    lines: &mut [i32],
+) -> Outcome
+    ensures { λ r. ⌜ Promises (now (job .entry)) budget (slices (now (words .entry)) (now (levels .entry)) (now (values .entry)) (now (lines .entry)))
+        (slices (now (words .exit)) (now (levels .exit)) (now (values .exit)) (now (lines .exit))) r ⌝ }
+{
+    let mut jumps = [0u16; MAX_RECORDS];
+    let checked = prepare(job, &mut jumps);
+    match checked {
+        Checked::Refused { number, index } => Outcome::Refused { number, index },
+        Checked::Accepted(l) => {
+            if !budget_ok(budget) {
+                return Outcome::Refused {
+                    number: BAD_BUDGET,
+                    index: 0,
+                };
+            }
+            let places = words.len() / 8;
+            let room = smaller(levels.len(), values.len());
+            if !buffers_ok(l.nodes, l.variables, places, room) {
+                return Outcome::Refused {
+                    number: BAD_BUFFERS,
+                    index: 0,
+                };
+            }
+            run_accepted(
+                job,
+                l,
+                &jumps,
+                budget as u32,
+                words,
+                places as u32,
+                levels,
+                values,
+                lines,
+            )
+        }
+    }
+}

@@ -1,0 +1,113 @@
+// One step: the record that comes next is carried out.
+use super::control::Running;
+use super::control::Stepped;
+use super::control::enter_if;
+use super::control::enter_while;
+use super::control::jump;
+use super::control::leave;
+use super::control::onward;
+use super::evaluate::evaluate;
+use super::guards;
+use super::memory::Effect;
+use super::moves;
+use super::nodes;
+use super::variables;
+use job::records::fields_at;
+ghost use mathlib.Core.Path.{_≡_};
+ghost use Prim.Native.Nat.{_-_, _≤_, _<_};
+ghost use Rattle.rules.specs.Limits.{maxBudget};
+ghost use Rattle.monitor.specs.Shows.{slices};
+ghost use Rattle.monitor.specs.Stands.{held, Script, Safe, Steps};
+
+// Where the script starts in the job's bytes and how many records it has, how many variables there are, and how many places.
+pub struct Frame {
+    pub script: usize,
+    pub records: usize,
+    pub vars: usize,
+    pub places: u32,
+}
+
+fn index(x: u16) -> usize
+    ensures { λ r. ⌜ r ≡ x ⌝ }
+{
+    x as usize
+}
+
+// Which of two neighbouring commands it is: 0 for the first, on the side of the children, 1 for the second, on that of the right siblings.
+fn side(command: u8, first: u8) -> u32
+    requires { ⌜ first ≤ command ⌝ }
+    ensures { λ r. ⌜ r ≡ command - first ⌝ }
+{
+    (command - first) as u32
+}
+
+pub fn step(
+    job: &[u8],
+    jumps: &[u16],
+    levels: &[u8],
+    f: Frame,
+    words: &mut [u32],
+    values: &mut [i32],
+    lines: &mut [i32],
+    r: Running,
+) -> Stepped
+    requires { ⌜ Script (held (now job) (now jumps) f)
+        × (Safe (held (now job) (now jumps) f) (slices (now words) (now levels) (now values) (now lines)) r
+        × ((r .at < f .records) × (r .steps < maxBudget))) ⌝ }
+    ensures { λ a. ⌜ Steps (held (now (job .entry)) (now (jumps .entry)) f)
+        (slices (now (words .entry)) (now (levels .entry)) (now (values .entry)) (now (lines .entry)))
+        (slices (now (words .exit)) (now (levels .entry)) (now (values .exit)) (now (lines .exit))) r a ⌝ }
+{
+    let at = r.at;
+    let vars = f.vars;
+    let places = f.places;
+    let m = r.memory;
+    let pc = guards::top(r.guards);
+    let record = fields_at(job, f.script, at);
+    let command = record.command;
+    match command {
+        0 => onward(r, Effect { stop: 0, memory: m }),
+        1 => onward(
+            r,
+            variables::assign(record, levels, values, vars, words, places, pc, m),
+        ),
+        2 => enter_if(
+            r,
+            evaluate(record, levels, values, vars, words, places, m),
+            index(jumps[at]),
+        ),
+        3 => jump(r, index(jumps[at])),
+        4 => enter_while(
+            r,
+            evaluate(record, levels, values, vars, words, places, m),
+            index(jumps[at]),
+        ),
+        5 => leave(r, index(jumps[at])),
+        6 => onward(
+            r,
+            variables::output(record, levels, values, vars, words, places, lines, pc, m),
+        ),
+        7..=10 => onward(r, moves::go(command, words, places, pc, m)),
+        11..=12 => onward(
+            r,
+            nodes::insert(
+                side(command, 11),
+                record,
+                levels,
+                values,
+                vars,
+                words,
+                places,
+                pc,
+                m,
+            ),
+        ),
+        13..=14 => onward(r, nodes::remove(side(command, 13), words, places, pc, m)),
+        15 => onward(
+            r,
+            nodes::write(record, levels, values, vars, words, places, pc, m),
+        ),
+        16 => onward(r, moves::raise(places, pc, m)),
+        _ => onward(r, Effect { stop: 0, memory: m }),
+    }
+}
