@@ -15,9 +15,9 @@ use Rattle.rules.specs.Check as Check
 use Rattle.rules.specs.Check.{require, checkBytes}
 use Rattle.rules.specs.Job.{script}
 use Rattle.rules.specs.Outcome as Rules
-use Rattle.rules.specs.Outcome.{answer, runJob, checkJob, andThen, budgetRule, bufferRule, begin}
-use Rattle.rules.specs.Run.{run}
+use Rattle.rules.specs.Outcome.{answer, runJob, checkJob, andThen, budgetRule, bufferRule}
 use Rattle.rules.proofs.Tests.{both}
+use Rattle.rules.proofs.Noninterference.{runs}
 use Rattle.job.specs.declared.sections.Layout.{Layout}
 use Rattle.job.specs.Layout.{layoutOf}
 use Rattle.monitor.specs.declared.entry.Outcome.{Outcome}
@@ -40,20 +40,11 @@ enough nodes variables places room e =
     record { few = leb-true _ _ (w₁ .1); nodes = leb-true _ _ (w₂ .1); variables = leb-true _ _ (w₃ .1) }
 
 module _ (b : List ℕ) (budget : ℕ) (x : Slices) where
-  -- the outcome by what the ten checks say
-  after : Check.Checked → Rules.Outcome
-  after (Check.refused k i) = Rules.rejected k i
-  after Check.accepted = Rules.ran (run (lentBy x) (script b) budget (begin b))
-
-  outcome-by : (c : Check.Checked) → checkJob b budget (lentBy x) ≡ c → runJob b budget (lentBy x) ≡ after c
-  unfolding runJob after
-  outcome-by c e = ap after e
-
   rejected-so : (k i : ℕ) → checkJob b budget (lentBy x) ≡ Check.refused k i → Promises b budget x x (Refused k i)
-  unfolding answer answerOf after
+  unfolding runJob answer answerOf
   rejected-so k i e =
-      let o = outcome-by _ e in
-      record { answered = sym (ap answer o); leaves = subst (Leaves x x) (sym o) refl }
+      let o : runJob b budget (lentBy x) ≡ Rules.rejected k i = rw (e, runJob) in
+      record { answered = sym (ap answer o); leaves = subst (Leaves (variableCount b) x x) (sym o) refl }
 
   -- the checks 9 and 10
   abbrev limits : Check.Checked
@@ -123,7 +114,10 @@ module _ (b : List ℕ) (budget : ℕ) (x : Slices) where
             }
 
         pub is-run : (x′ : Slices) (r : Outcome) → Left b budget (length (x .words) / 8) x x′ r → Promises b budget x x′ r
-        unfolding require after lentBy
+        unfolding require lentBy
         is-run x′ r h =
-            let o = outcome-by Check.accepted (last true e) in
-            record { answered = h .answered (lentBy x) refl refl ∙ sym (ap answer o); leaves = subst (Leaves x x′) (sym o) (h .leaves (lentBy x) refl refl) }
+            let o = runs b budget (lentBy x) (last true e) in
+            record {
+              answered = h .answered (lentBy x) refl refl ∙ sym (ap answer o);
+              leaves = subst (Leaves (variableCount b) x x′) (sym o) (h .leaves (lentBy x) refl refl);
+            }

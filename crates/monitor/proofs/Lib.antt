@@ -12,3 +12,4 @@ pub mod Commands
 pub mod Looped
 pub mod Started
 pub mod Answered
+pub mod Secret

@@ -143,17 +143,16 @@ module _ (b jumps : List ℕ) (budget : ℕ) (x : Slices) (places : ℕ) (ok : c
       pub answers : answerOf (outcomeOf a) ≡ answer (Rules.ran (run lent (script b) budget (begin b)))
       answers = answered (run lent (script b) budget (begin b) .ending) refl (ran .ending)
 
-      pub leaves : Ran places x x₂ (run lent (script b) budget (begin b))
+      pub leaves : Ran (variableCount b) places x x₂ (run lent (script b) budget (begin b))
       unfolding layoutOf
       leaves =
           let m = ran .last .memory in
-          let n = m .variables .many in
           record {
             lines = rw line-count (m .lines .are);
             board = λ j q. rs .kept .board j (omega (arith, q, line-count)) ∙ ap (λ (l : List ℤ). getD l j (pos 0)) board;
-            variables = rw n (m .variables);
-            spare-levels = λ j q. ap (λ (l : List ℕ). getD l j 0) levels ∙ vl .spare-levels j (omega (arith, q, n));
-            spare-values = λ j q. rs .kept .values j (omega (arith, q, n)) ∙ vl .spare-values j (omega (arith, q, n));
+            variables = m .variables;
+            spare-levels = λ j q. ap (λ (l : List ℕ). getD l j 0) levels ∙ vl .spare-levels j q;
+            spare-values = λ j q. rs .kept .values j q ∙ vl .spare-values j q;
             tree = record { used = a .running .memory .used; free = a .running .memory .free; at = a .running .memory .cursor; holds = m .tree };
           }
 

@@ -4,3 +4,4 @@ pub mod Shows
 pub mod Acts
 pub mod Stands
 pub mod Promises
+pub mod Secrecy

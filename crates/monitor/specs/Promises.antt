@@ -8,7 +8,7 @@ use lib.IntN.{ℤ, pos}
 use lib.Dec.{eqb, leb}
 use Rattle.rules.specs.Limits.{maxNodes, maxRecords, maxBudget, variableSize}
 use Rattle.rules.specs.Tree.{Forest, Place}
-use Rattle.rules.specs.Bytes.{variablePlace, recordCount}
+use Rattle.rules.specs.Bytes.{variablePlace, variableCount, recordCount}
 use Rattle.rules.specs.Blocks.{goesTo}
 use Rattle.rules.specs.Script.{numberAt}
 use Rattle.rules.specs.Check as Check
@@ -49,24 +49,24 @@ pub record Tree (words : List ℕ) (places : ℕ) (t : Forest) (p : Place) : Typ
   pub at : ℕ
   pub holds : Holds (cells words) places used free at t p
 
--- what a run that has ended leaves in the slices
-pub record Ran (places : ℕ) (x x′ : Slices) (e : Ended) : Type 0 where
+-- what a run of n variables that has ended leaves in the slices
+pub record Ran (n places : ℕ) (x x′ : Slices) (e : Ended) : Type 0 where
   pub lines : take (length (e .last .memory .lines)) (x′ .board) ≡ e .last .memory .lines
   pub board : (j : ℕ) → length (e .last .memory .lines) ≤ j → getD (x′ .board) j (pos 0) ≡ getD (x .board) j (pos 0)
-  pub variables : Variables (x′ .levels) (x′ .values) (length (e .last .memory .variables)) (e .last .memory .variables)
-  pub spare-levels : (j : ℕ) → length (e .last .memory .variables) ≤ j → getD (x′ .levels) j 0 ≡ getD (x .levels) j 0
-  pub spare-values : (j : ℕ) → length (e .last .memory .variables) ≤ j → getD (x′ .values) j (pos 0) ≡ getD (x .values) j (pos 0)
+  pub variables : Variables (x′ .levels) (x′ .values) n (e .last .memory .variables)
+  pub spare-levels : (j : ℕ) → n ≤ j → getD (x′ .levels) j 0 ≡ getD (x .levels) j 0
+  pub spare-values : (j : ℕ) → n ≤ j → getD (x′ .values) j (pos 0) ≡ getD (x .values) j (pos 0)
   pub tree : Tree (x′ .words) places (e .last .memory .tree) (e .last .memory .cursor)
 
 -- and a job that was turned back: nothing has changed
-abbrev pub Leaves : Slices → Slices → Rules.Outcome → Type 0
-Leaves x x′ (Rules.rejected k i) = x′ ≡ x
-Leaves x x′ (Rules.ran e) = Ran (lentBy x .places) x x′ e
+abbrev pub Leaves : ℕ → Slices → Slices → Rules.Outcome → Type 0
+Leaves n x x′ (Rules.rejected k i) = x′ ≡ x
+Leaves n x x′ (Rules.ran e) = Ran n (lentBy x .places) x x′ e
 
 -- the answer is the rules', and so is what stands in every slice
 pub record Promises (b : List ℕ) (budget : ℕ) (x x′ : Slices) (r : Outcome) : Type 0 where
   pub answered : answerOf r ≡ answer (runJob b budget (lentBy x))
-  pub leaves : Leaves x x′ (runJob b budget (lentBy x))
+  pub leaves : Leaves (variableCount b) x x′ (runJob b budget (lentBy x))
 
 -- the variables' records lie in the bytes, and there is room for them
 pub record Loading (b levels : List ℕ) (values : List ℤ) (n : ℕ) : Type 0 where
@@ -101,4 +101,4 @@ pub record Begun (b : List ℕ) (l : Layout) (jumps : List ℕ) (budget : ℕ) (
 -- what is left of such a job's run
 pub record Left (b : List ℕ) (budget places : ℕ) (x x′ : Slices) (r : Outcome) : Type 0 where
   pub answered : (lent : Buffers) → lent .places ≡ places → lent .lines ≡ length (x .board) → answerOf r ≡ answer (Rules.ran (run lent (script b) budget (begin b)))
-  pub leaves : (lent : Buffers) → lent .places ≡ places → lent .lines ≡ length (x .board) → Ran places x x′ (run lent (script b) budget (begin b))
+  pub leaves : (lent : Buffers) → lent .places ≡ places → lent .lines ≡ length (x .board) → Ran (variableCount b) places x x′ (run lent (script b) budget (begin b))
