@@ -3,8 +3,6 @@ use borrow.Author.Tests.{eq-eqb, ne-eqb}
 use Rattle.monitor.specs.Promises.{outcomeOf}
 use Rattle.monitor.proofs.entry.ended.Statement.{statement}
 use Rattle.monitor.proofs.entry.ended.Tie as tie
-use Rattle.monitor.proofs.entry.ended.Reads as reads
-use Rattle.monitor.proofs.entry.ended.Lts as lts
 
 returns : tie.Need-returns
 unfolding outcomeOf

@@ -11,10 +11,6 @@ use Rattle.monitor.specs.Promises.{VariablesLoaded}
 use Rattle.monitor.proofs.Started.{loaded-more}
 use Rattle.monitor.proofs.entry.load_variables.Statement.{statement}
 use Rattle.monitor.proofs.entry.load_variables.Tie as tie
-use Rattle.monitor.proofs.entry.load_variables.Reads as reads
-use Rattle.monitor.proofs.entry.load_variables.Lts as lts
-use Rattle.job.proofs.variables.level_at.Reads as level-at-reads
-use Rattle.job.proofs.variables.value_at.Reads as value-at-reads
 
 abbrev Inv-loop : tie.InvT-loop
 Inv-loop job vars levels₀ values₀ i₀ levels values i =
@@ -31,27 +27,6 @@ loop-holds c = (
   refl,
 )
 
-level-at-requires : tie.Need-level-at-requires Inv-loop μ-loop
-level-at-requires c κs = search needs
-
-slice-write-levels : tie.Need-slice-write-levels Inv-loop μ-loop
-slice-write-levels c = search needs
-
-value-at-requires : tie.Need-value-at-requires Inv-loop μ-loop
-value-at-requires c κs = search needs
-
-mul-t10 : tie.Need-mul-t10 Inv-loop μ-loop
-mul-t10 c = search needs
-
-slice-set-from-values : tie.Need-slice-set-from-values Inv-loop μ-loop
-slice-set-from-values c = search needs
-
-add-i : tie.Need-add-i Inv-loop μ-loop
-add-i c = search needs
-
-loop-less : tie.Need-loop-less Inv-loop μ-loop
-loop-less c = search needs
-
 loop-again : tie.Need-loop-again Inv-loop μ-loop
 loop-again c =
     let h = c .before .before .before .loop .inv in
@@ -64,12 +39,6 @@ loop-again c =
       length-set (c .before .before .before .loop .values) (c .before .before .before .loop .i) _ ∙ h .3,
     )
 
-same-length : tie.Need-same-length Inv-loop μ-loop
-same-length c = search needs
-
-same-length-2 : tie.Need-same-length-2 Inv-loop μ-loop
-same-length-2 c = search needs
-
 returns : tie.Need-returns Inv-loop μ-loop
 returns c =
     let e : c .before .before .before .before .args .vars ≡ c .before .loop .i = omega (arith, c .before .loop .inv .0, c .loop-test .left) in
@@ -77,19 +46,6 @@ returns c =
 
 pub load-variables-spec : {M : Type 1} → statement M
 load-variables-spec =
-    tie.close
-    (tie.spec
-    Inv-loop
-    μ-loop
-    loop-holds
-    level-at-requires
-    slice-write-levels
-    value-at-requires
-    mul-t10
-    slice-set-from-values
-    add-i
-    loop-less
-    loop-again
-    same-length
-    same-length-2
-    returns)
+    tie.close (tie.spec
+    Inv-loop μ-loop loop-holds (λ c κs. search needs) (λ c. search needs) (λ c κs. search needs) (λ c. search needs) (λ c. search needs)
+    (λ c. search needs) (λ c. search needs) loop-again (λ c. search needs) (λ c. search needs) returns)
