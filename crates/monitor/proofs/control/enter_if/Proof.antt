@@ -27,12 +27,16 @@ add-next-2 c = search needs
 returns : tie.Need-returns
 returns c =
     enters-if _ _ _ true (sym (c .before .is-zero .ensures) ∙ c .if1 .taken) _
-    (pushed-held (c .before .before .before .before .before .before .before .args .r) (c .before .before .before .before .before .before .before .args .e) _ _ _ (c .before .before .before .before .before .before .top .ensures) (c .before .before .before .before .before .join .ensures) (c .before .before .before .before .push .ensures))
+    (pushed-held (c .before .before .before .before .before .before .before .args .r) (c .before .before .before .before .before .before .before .args
+    .e) _ _ _ (c .before .before .before .before .before .before .top .ensures) (c .before .before .before .before .before .join .ensures) (c .before
+    .before .before .before .push .ensures))
 
 returns-2 : tie.Need-returns-2
 returns-2 c =
     enters-if _ _ _ false (sym (c .before .before .is-zero .ensures) ∙ c .before .if1 .left) _
-    (pushed-held (c .before .before .before .before .before .before .before .before .args .r) (c .before .before .before .before .before .before .before .before .args .e) _ _ _ (c .before .before .before .before .before .before .before .top .ensures) (c .before .before .before .before .before .before .join .ensures) (c .before .before .before .before .before .push .ensures))
+    (pushed-held (c .before .before .before .before .before .before .before .before .args .r) (c .before .before .before .before .before .before
+    .before .before .args .e) _ _ _ (c .before .before .before .before .before .before .before .top .ensures) (c .before .before .before .before
+    .before .before .join .ensures) (c .before .before .before .before .before .push .ensures))
 
 pub enter-if-spec : {M : Type 1} → statement M
 enter-if-spec =

@@ -31,7 +31,8 @@ returns c =
 returns-2 : tie.Need-returns-2
 returns-2 c =
     enters-while _ _ _ false (sym (c .before .before .before .before .before .is-zero .ensures) ∙ c .before .before .before .before .if1 .left) _
-    (pushed-held (c .before .before .before .before .before .before .before .before .args .r) (c .before .before .before .before .before .before .before .before .args .e) _ _ _ (c .before .before .before .top .ensures) (c .before .before .join .ensures) (c .before .push .ensures))
+    (pushed-held (c .before .before .before .before .before .before .before .before .args .r) (c .before .before .before .before .before .before
+    .before .before .args .e) _ _ _ (c .before .before .before .top .ensures) (c .before .before .join .ensures) (c .before .push .ensures))
 
 pub enter-while-spec : {M : Type 1} → statement M
 enter-while-spec =

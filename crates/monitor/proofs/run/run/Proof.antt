@@ -20,7 +20,8 @@ abbrev μ-loop : tie.MeasureT-loop
 
 loop-holds : tie.Need-loop-holds Inv-loop μ-loop
 loop-holds c =
-    (starts _ (c .before .before .before .before .pre .0) _ _ _ (c .before .before .before .before .pre .1 .0) (c .before .before .before .before .pre .1 .1), refl, refl, refl)
+    let p = c .before .before .before .before .pre in
+    (starts _ (p .0) _ _ _ (p .1 .0) (p .1 .1), refl, refl, refl)
 
 same-length : tie.Need-same-length Inv-loop μ-loop
 same-length c = search needs
@@ -33,11 +34,16 @@ same-length-3 c = search needs
 
 returns : tie.Need-returns Inv-loop μ-loop
 returns c =
-    finishes _ (c .before .before .before .before .before .before .before .before .before .pre .0) _ _ _ _ _ _ (c .before .before .before .before .loop .inv .0) (c .if1 .taken)
+    let p = c .before .before .before .before .before .before .before .before .before .pre in
+    let h = c .before .before .before .before .loop .inv in
+    finishes _ (p .0) _ _ _ _ _ _ (h .0) (c .if1 .taken)
 
 step-requires : tie.Need-step-requires Inv-loop μ-loop
 step-requires c κs =
-    (c .before .before .before .before .before .before .before .before .before .before .before .before .pre .0, (c .before .before .before .before .before .before .before .loop .inv .0 .safe, (c .before .before .before .if1 .left, omega (arith, c .before .before .before .before .before .before .before .loop .inv .0 .early, c .before .before .before .before .before .before .loop-test .taken))))
+    let p = c .before .before .before .before .before .before .before .before .before .before .before .before .pre in
+    let h = c .before .before .before .before .before .before .before .loop .inv in
+    (p .0, (h .0 .safe, (c .before .before .before .if1 .left, omega (arith, h .0 .early, c .before .before .before .before .before .before .loop-test
+    .taken))))
 
 same-length-4 : tie.Need-same-length-4 Inv-loop μ-loop
 same-length-4 c = search needs
@@ -50,7 +56,12 @@ same-length-6 c = search needs
 
 returns-2 : tie.Need-returns-2 Inv-loop μ-loop
 returns-2 c =
-    stops-here _ (c .before .before .before .before .before .before .before .before .before .before .before .before .before .before .before .before .before .before .before .before .pre .0) _ _ _ _ _ _ (c .before .before .before .before .before .before .before .before .before .before .before .before .before .before .before .loop .inv .0) (c .before .before .before .before .before .before .before .before .before .before .before .before .before .before .loop-test .taken) (c .before .before .before .before .before .before .before .before .before .before .before .if1 .left) _ _ (c .before .before .before .before .before .before .before .step .ensures) (c .if2 .taken)
+    let p = c .before .before .before .before .before .before .before .before .before .before .before .before .before .before .before .before .before .before .before .before .pre in
+    let h = c .before .before .before .before .before .before .before .before .before .before .before .before .before .before .before .loop .inv in
+    let s = c .before .before .before .before .before .before .before .step .ensures in
+    stops-here _ (p .0) _ _ _ _ _ _ (h .0) (c .before .before .before .before .before .before .before .before .before .before .before .before .before
+    .before .loop-test .taken) (c .before .before .before .before .before .before .before .before .before .before .before .if1 .left) _ _ s (c .if2
+    .taken)
 
 sub-left : tie.Need-sub-left Inv-loop μ-loop
 sub-left c = search needs
@@ -59,11 +70,17 @@ loop-less : tie.Need-loop-less Inv-loop μ-loop
 loop-less c = search needs
 
 loop-again : tie.Need-loop-again Inv-loop μ-loop
-loop-again c = (
-  goes-on _ (c .before .before .before .before .before .before .before .before .before .before .before .before .before .before .before .before .before .before .before .before .pre .0) _ _ _ _ _ _ (c .before .before .before .before .before .before .before .before .before .before .before .before .before .before .before .loop .inv .0) (c .before .before .before .before .before .before .before .before .before .before .before .before .before .before .loop-test .taken) (c .before .before .before .before .before .before .before .before .before .before .before .if1 .left) _ _ (c .before .before .before .before .before .before .before .step .ensures) (c .if2 .left),
-  c .before .before .before .before .before .before .words .given ∙ c .before .before .before .before .before .before .before .before .before .before .before .before .before .before .before .loop .inv .1,
-  c .before .before .before .before .values .given ∙ c .before .before .before .before .before .before .before .before .before .before .before .before .before .before .before .loop .inv .2,
-  c .before .before .before .lines .given ∙ c .before .before .before .before .before .before .before .before .before .before .before .before .before .before .before .loop .inv .3,
+loop-again c =
+    let p = c .before .before .before .before .before .before .before .before .before .before .before .before .before .before .before .before .before .before .before .before .pre in
+    let h = c .before .before .before .before .before .before .before .before .before .before .before .before .before .before .before .loop .inv in
+    let s = c .before .before .before .before .before .before .before .step .ensures in
+    (
+  goes-on _ (p .0) _ _ _ _ _ _ (h .0) (c .before .before .before .before .before .before .before .before .before .before .before .before .before
+  .before .loop-test .taken) (c .before .before .before .before .before .before .before .before .before .before .before .if1 .left) _ _ s (c .if2
+  .left),
+  c .before .before .before .before .before .before .words .given ∙ h .1,
+  c .before .before .before .before .values .given ∙ h .2,
+  c .before .before .before .lines .given ∙ h .3,
 )
 
 same-length-7 : tie.Need-same-length-7 Inv-loop μ-loop
@@ -76,7 +93,10 @@ same-length-9 : tie.Need-same-length-9 Inv-loop μ-loop
 same-length-9 c = search needs
 
 returns-3 : tie.Need-returns-3 Inv-loop μ-loop
-returns-3 c = finishes _ (c .before .before .before .before .before .before .before .before .before .pre .0) _ _ _ _ _ _ (c .before .before .before .before .loop .inv .0) (c .if3 .taken)
+returns-3 c =
+    let p = c .before .before .before .before .before .before .before .before .before .pre in
+    let h = c .before .before .before .before .loop .inv in
+    finishes _ (p .0) _ _ _ _ _ _ (h .0) (c .if3 .taken)
 
 same-length-10 : tie.Need-same-length-10 Inv-loop μ-loop
 same-length-10 c = search needs
@@ -89,7 +109,9 @@ same-length-12 c = search needs
 
 returns-4 : tie.Need-returns-4 Inv-loop μ-loop
 returns-4 c =
-    spends _ (c .before .before .before .before .before .before .before .before .before .pre .0) _ _ _ _ _ _ (omega (arith, c .before .before .before .loop-test .left)) (c .before .before .before .before .loop .inv .0) (c .if3 .left)
+    let p = c .before .before .before .before .before .before .before .before .before .pre in
+    let h = c .before .before .before .before .loop .inv in
+    spends _ (p .0) _ _ _ _ _ _ (omega (arith, c .before .before .before .loop-test .left)) (h .0) (c .if3 .left)
 
 pub run-spec : {M : Type 1} → statement M
 run-spec =

@@ -20,16 +20,22 @@ onward-requires c κs = search needs
 assign-requires : tie.Need-assign-requires
 unfolding rows
 assign-requires c κs =
-    (readable _ (c .before .before .before .before .before .before .before .before .before .before .pre .0) _ _ (c .before .before .before .before .before .before .before .before .before .before .pre .1 .0) (c .before .before .before .before .before .before .before .before .before .before .pre .1 .1 .0), (reads-by _ (c .before .before .before .before .before .before .before .before .before .before .pre .0) _ _ (c .before .before .before .before .before .before .before .before .before .before .pre .1 .0) (c .before .before .before .before .before .before .before .before .before .before .pre .1 .1 .0) _ (c .before .before .before .fields-at .ensures) 1 (c .before .before .match .keys2) refl, target-by _ (c .before .before .before .before .before .before .before .before .before .before .pre .0) _ _ (c .before .before .before .before .before .before .before .before .before .before .pre .1 .0) (c .before .before .before .before .before .before .before .before .before .before .pre .1 .1 .0) _ (c .before .before .before .fields-at .ensures) (c .before .before .match .keys2)))
+    let p = c .before .before .before .before .before .before .before .before .before .before .pre in
+    let f = c .before .before .before .fields-at .ensures in
+    (readable _ (p .0) _ _ (p .1 .0) (p .1 .1 .0), (reads-by _ (p .0) _ _ (p .1 .0) (p .1 .1 .0) _ f 1 (c .before .before .match .keys2) refl,
+    target-by _ (p .0) _ _ (p .1 .0) (p .1 .1 .0) _ f (c .before .before .match .keys2)))
 
 onward-requires-2 : tie.Need-onward-requires-2
 onward-requires-2 c κs =
-    timely _ (c .before .before .before .before .before .before .before .before .before .before .before .before .pre .0) _ _ (c .before .before .before .before .before .before .before .before .before .before .before .before .pre .1 .0) (c .before .before .before .before .before .before .before .before .before .before .before .before .pre .1 .1 .0) (c .before .before .before .before .before .before .before .before .before .before .before .before .pre .1 .1 .1)
+    let p = c .before .before .before .before .before .before .before .before .before .before .before .before .pre in
+    timely _ (p .0) _ _ (p .1 .0) (p .1 .1 .0) (p .1 .1 .1)
 
 evaluate-requires : tie.Need-evaluate-requires
 unfolding rows
 evaluate-requires c κs =
-    (readable _ (c .before .before .before .before .before .before .before .before .before .before .pre .0) _ _ (c .before .before .before .before .before .before .before .before .before .before .pre .1 .0) (c .before .before .before .before .before .before .before .before .before .before .pre .1 .1 .0), reads-by _ (c .before .before .before .before .before .before .before .before .before .before .pre .0) _ _ (c .before .before .before .before .before .before .before .before .before .before .pre .1 .0) (c .before .before .before .before .before .before .before .before .before .before .pre .1 .1 .0) _ (c .before .before .before .fields-at .ensures) 2 (c .before .before .match .keys3) refl)
+    let p = c .before .before .before .before .before .before .before .before .before .before .pre in
+    let f = c .before .before .before .fields-at .ensures in
+    (readable _ (p .0) _ _ (p .1 .0) (p .1 .1 .0), reads-by _ (p .0) _ _ (p .1 .0) (p .1 .1 .0) _ f 2 (c .before .before .match .keys3) refl)
 
 mul-index : tie.Need-mul-index
 mul-index c = search needs
@@ -58,7 +64,9 @@ jump-requires c κs = search needs
 evaluate-requires-2 : tie.Need-evaluate-requires-2
 unfolding rows
 evaluate-requires-2 c κs =
-    (readable _ (c .before .before .before .before .before .before .before .before .before .before .pre .0) _ _ (c .before .before .before .before .before .before .before .before .before .before .pre .1 .0) (c .before .before .before .before .before .before .before .before .before .before .pre .1 .1 .0), reads-by _ (c .before .before .before .before .before .before .before .before .before .before .pre .0) _ _ (c .before .before .before .before .before .before .before .before .before .before .pre .1 .0) (c .before .before .before .before .before .before .before .before .before .before .pre .1 .1 .0) _ (c .before .before .before .fields-at .ensures) 4 (c .before .before .match .keys5) refl)
+    let p = c .before .before .before .before .before .before .before .before .before .before .pre in
+    let f = c .before .before .before .fields-at .ensures in
+    (readable _ (p .0) _ _ (p .1 .0) (p .1 .1 .0), reads-by _ (p .0) _ _ (p .1 .0) (p .1 .1 .0) _ f 4 (c .before .before .match .keys5) refl)
 
 mul-index-3 : tie.Need-mul-index-3
 mul-index-3 c = search needs
@@ -87,20 +95,27 @@ leave-requires c κs = search needs
 output-requires : tie.Need-output-requires
 unfolding rows
 output-requires c κs =
-    (readable _ (c .before .before .before .before .before .before .before .before .before .before .before .pre .0) _ _ (c .before .before .before .before .before .before .before .before .before .before .before .pre .1 .0) (c .before .before .before .before .before .before .before .before .before .before .before .pre .1 .1 .0), (reads-by _ (c .before .before .before .before .before .before .before .before .before .before .before .pre .0) _ _ (c .before .before .before .before .before .before .before .before .before .before .before .pre .1 .0) (c .before .before .before .before .before .before .before .before .before .before .before .pre .1 .1 .0) _ (c .before .before .before .before .fields-at .ensures) 6 (c .before .before .before .match .keys7) refl, c .before .before .before .before .before .before .before .before .before .before .before .pre .1 .0 .room))
+    let p = c .before .before .before .before .before .before .before .before .before .before .before .pre in
+    let f = c .before .before .before .before .fields-at .ensures in
+    (readable _ (p .0) _ _ (p .1 .0) (p .1 .1 .0), (reads-by _ (p .0) _ _ (p .1 .0) (p .1 .1 .0) _ f 6 (c .before .before .before .match .keys7) refl,
+    p .1 .0 .room))
 
 onward-requires-3 : tie.Need-onward-requires-3
 onward-requires-3 c κs =
-    timely _ (c .before .before .before .before .before .before .before .before .before .before .before .before .before .pre .0) _ _ (c .before .before .before .before .before .before .before .before .before .before .before .before .before .pre .1 .0) (c .before .before .before .before .before .before .before .before .before .before .before .before .before .pre .1 .1 .0) (c .before .before .before .before .before .before .before .before .before .before .before .before .before .pre .1 .1 .1)
+    let p = c .before .before .before .before .before .before .before .before .before .before .before .before .before .pre in
+    timely _ (p .0) _ _ (p .1 .0) (p .1 .1 .0) (p .1 .1 .1)
 
 write-requires : tie.Need-write-requires
 unfolding rows
 write-requires c κs =
-    (readable _ (c .before .before .before .before .before .before .before .before .before .before .pre .0) _ _ (c .before .before .before .before .before .before .before .before .before .before .pre .1 .0) (c .before .before .before .before .before .before .before .before .before .before .pre .1 .1 .0), reads-by _ (c .before .before .before .before .before .before .before .before .before .before .pre .0) _ _ (c .before .before .before .before .before .before .before .before .before .before .pre .1 .0) (c .before .before .before .before .before .before .before .before .before .before .pre .1 .1 .0) _ (c .before .before .before .fields-at .ensures) 15 (c .before .before .match .keys8) refl)
+    let p = c .before .before .before .before .before .before .before .before .before .before .pre in
+    let f = c .before .before .before .fields-at .ensures in
+    (readable _ (p .0) _ _ (p .1 .0) (p .1 .1 .0), reads-by _ (p .0) _ _ (p .1 .0) (p .1 .1 .0) _ f 15 (c .before .before .match .keys8) refl)
 
 onward-requires-4 : tie.Need-onward-requires-4
 onward-requires-4 c κs =
-    timely _ (c .before .before .before .before .before .before .before .before .before .before .before .before .before .pre .0) _ _ (c .before .before .before .before .before .before .before .before .before .before .before .before .before .pre .1 .0) (c .before .before .before .before .before .before .before .before .before .before .before .before .before .pre .1 .1 .0) (c .before .before .before .before .before .before .before .before .before .before .before .before .before .pre .1 .1 .1)
+    let p = c .before .before .before .before .before .before .before .before .before .before .before .before .before .pre in
+    timely _ (p .0) _ _ (p .1 .0) (p .1 .1 .0) (p .1 .1 .1)
 
 raise-requires : tie.Need-raise-requires
 raise-requires c κs = search needs
@@ -110,43 +125,57 @@ onward-requires-5 c κs = search needs
 
 go-requires : tie.Need-go-requires
 go-requires c κs =
-    (at-cursor _ (c .before .before .before .before .before .before .before .before .before .before .pre .0) _ _ (c .before .before .before .before .before .before .before .before .before .before .pre .1 .0) (c .before .before .before .before .before .before .before .before .before .before .pre .1 .1 .0), (from-seven _ (c .before .before .match .rest .0 .0 .0 .0 .0 .0 .0 .0 .1) (c .before .before .match .rest .0 .0 .0 .0 .0 .0 .0 .1) (c .before .before .match .rest .0 .0 .0 .0 .0 .0 .1) (c .before .before .match .rest .0 .0 .0 .0 .0 .1) (c .before .before .match .rest .0 .0 .0 .0 .1) (c .before .before .match .rest .0 .0 .0 .1) (c .before .before .match .rest .0 .0 .1), omega (arith, c .before .if1 .taken)))
+    let p = c .before .before .before .before .before .before .before .before .before .before .pre in
+    (at-cursor _ (p .0) _ _ (p .1 .0) (p .1 .1 .0), (from-seven _ (c .before .before .match .rest .0 .0 .0 .0 .0 .0 .0 .0 .1) (c .before .before
+    .match .rest .0 .0 .0 .0 .0 .0 .0 .1) (c .before .before .match .rest .0 .0 .0 .0 .0 .0 .1) (c .before .before .match .rest .0 .0 .0 .0 .0 .1) (c
+    .before .before .match .rest .0 .0 .0 .0 .1) (c .before .before .match .rest .0 .0 .0 .1) (c .before .before .match .rest .0 .0 .1), omega (arith,
+    c .before .if1 .taken)))
 
 onward-requires-6 : tie.Need-onward-requires-6
 onward-requires-6 c κs =
-    timely _ (c .before .before .before .before .before .before .before .before .before .before .before .pre .0) _ _ (c .before .before .before .before .before .before .before .before .before .before .before .pre .1 .0) (c .before .before .before .before .before .before .before .before .before .before .before .pre .1 .1 .0) (c .before .before .before .before .before .before .before .before .before .before .before .pre .1 .1 .1)
+    let p = c .before .before .before .before .before .before .before .before .before .before .before .pre in
+    timely _ (p .0) _ _ (p .1 .0) (p .1 .1 .0) (p .1 .1 .1)
 
 side-requires : tie.Need-side-requires
 side-requires c κs = search needs
 
 insert-requires : tie.Need-insert-requires
 insert-requires c κs =
-    (readable _ (c .before .before .before .before .before .before .before .before .before .before .before .before .before .pre .0) _ _ (c .before .before .before .before .before .before .before .before .before .before .before .before .before .pre .1 .0) (c .before .before .before .before .before .before .before .before .before .before .before .before .before .pre .1 .1 .0), (reads-insert _ (c .before .before .before .before .before .before .before .before .before .before .before .before .before .pre .0) _ _ (c .before .before .before .before .before .before .before .before .before .before .before .before .before .pre .1 .0) (c .before .before .before .before .before .before .before .before .before .before .before .before .before .pre .1 .1 .0) _ (c .before .before .before .before .before .before .fields-at .ensures) (c .before .before .before .before .if1 .left) (c .before .before .before .if2 .taken), omega (arith, c .before .before .side .ensures, c .before .before .before .before .if1 .left, c .before .before .before .if2 .taken)))
+    let p = c .before .before .before .before .before .before .before .before .before .before .before .before .before .pre in
+    let f = c .before .before .before .before .before .before .fields-at .ensures in
+    (readable _ (p .0) _ _ (p .1 .0) (p .1 .1 .0), (reads-insert _ (p .0) _ _ (p .1 .0) (p .1 .1 .0) _ f (c .before .before .before .before .if1
+    .left) (c .before .before .before .if2 .taken), omega (arith, c .before .before .side .ensures, c .before .before .before .before .if1 .left, c
+    .before .before .before .if2 .taken)))
 
 onward-requires-7 : tie.Need-onward-requires-7
 onward-requires-7 c κs =
-    timely _ (c .before .before .before .before .before .before .before .before .before .before .before .before .before .before .before .before .pre .0) _ _ (c .before .before .before .before .before .before .before .before .before .before .before .before .before .before .before .before .pre .1 .0) (c .before .before .before .before .before .before .before .before .before .before .before .before .before .before .before .before .pre .1 .1 .0) (c .before .before .before .before .before .before .before .before .before .before .before .before .before .before .before .before .pre .1 .1 .1)
+    let p = c .before .before .before .before .before .before .before .before .before .before .before .before .before .before .before .before .pre in
+    timely _ (p .0) _ _ (p .1 .0) (p .1 .1 .0) (p .1 .1 .1)
 
 side-requires-2 : tie.Need-side-requires-2
 side-requires-2 c κs = search needs
 
 remove-requires : tie.Need-remove-requires
 remove-requires c κs =
-    (at-cursor _ (c .before .before .before .before .before .before .before .before .before .before .before .before .before .pre .0) _ _ (c .before .before .before .before .before .before .before .before .before .before .before .before .before .pre .1 .0) (c .before .before .before .before .before .before .before .before .before .before .before .before .before .pre .1 .1 .0), omega (arith, c .before .side2 .ensures, c .before .before .before .if2 .left, c .before .before .if3 .taken))
+    let p = c .before .before .before .before .before .before .before .before .before .before .before .before .before .pre in
+    (at-cursor _ (p .0) _ _ (p .1 .0) (p .1 .1 .0), omega (arith, c .before .side2 .ensures, c .before .before .before .if2 .left, c .before .before
+    .if3 .taken))
 
 onward-requires-8 : tie.Need-onward-requires-8
 onward-requires-8 c κs =
-    timely _ (c .before .before .before .before .before .before .before .before .before .before .before .before .before .before .before .before .pre .0) _ _ (c .before .before .before .before .before .before .before .before .before .before .before .before .before .before .before .before .pre .1 .0) (c .before .before .before .before .before .before .before .before .before .before .before .before .before .before .before .before .pre .1 .1 .0) (c .before .before .before .before .before .before .before .before .before .before .before .before .before .before .before .before .pre .1 .1 .1)
+    let p = c .before .before .before .before .before .before .before .before .before .before .before .before .before .before .before .before .pre in
+    timely _ (p .0) _ _ (p .1 .0) (p .1 .1 .0) (p .1 .1 .1)
 
 onward-requires-9 : tie.Need-onward-requires-9
 onward-requires-9 c κs = search needs
 
 returns : tie.Need-returns
 returns c =
-    skips _ (c .before .before .before .before .before .before .before .before .before .pre .0) _ _ (c .before .before .before .before .before .before .before .before .before .pre .1 .0) (c .before .before .before .before .before .before .before .before .before .pre .1 .1 .0) _ (c .before .before .fields-at .ensures) _ refl _ _ _ _ (c .before .before .before .top .ensures)
+    let p = c .before .before .before .before .before .before .before .before .before .pre in
+    skips _ (p .0) _ _ (p .1 .0) (p .1 .1 .0) _ (c .before .before .fields-at .ensures) _ refl _ _ _ _ (c .before .before .before .top .ensures)
     (record { words = refl; levels = refl; values = refl; board = refl })
     (c .onward .ensures) (c .before .match .keys1)
-    (stays (c .before .before .before .before .before .before .before .before .before .pre .1 .0 .cursor) (λ μ s. does-next μ refl s))
+    (stays (p .1 .0 .cursor) (λ μ s. does-next μ refl s))
 
 same-length : tie.Need-same-length
 same-length c = search needs
@@ -156,7 +185,9 @@ same-length-2 c = search needs
 
 returns-2 : tie.Need-returns-2
 returns-2 c =
-    assigns _ (c .before .before .before .before .before .before .before .before .before .before .before .before .before .pre .0) _ _ (c .before .before .before .before .before .before .before .before .before .before .before .before .before .pre .1 .0) (c .before .before .before .before .before .before .before .before .before .before .before .before .before .pre .1 .1 .0) _ (c .before .before .before .before .before .before .fields-at .ensures) _ refl _ _ _ _ (c .before .before .before .before .before .before .before .top .ensures)
+    let p = c .before .before .before .before .before .before .before .before .before .before .before .before .before .pre in
+    let f = c .before .before .before .before .before .before .fields-at .ensures in
+    assigns _ (p .0) _ _ (p .1 .0) (p .1 .1 .0) _ f _ refl _ _ _ _ (c .before .before .before .before .before .before .before .top .ensures)
     (record { words = refl; levels = refl; values = c .before .values .given; board = refl })
     (c .onward2 .ensures) (c .before .before .before .before .before .match .keys2)
     (c .before .before .assign .ensures _)
@@ -169,11 +200,16 @@ same-length-4 c = search needs
 
 returns-3 : tie.Need-returns-3
 returns-3 c =
-    ifs _ (c .before .before .before .before .before .before .before .before .before .before .before .before .before .before .pre .0) _ _ (c .before .before .before .before .before .before .before .before .before .before .before .before .before .before .pre .1 .0) (c .before .before .before .before .before .before .before .before .before .before .before .before .before .before .pre .1 .1 .0) _ (c .before .before .before .before .before .before .before .fields-at .ensures) _ (c .before .index .ensures) _ _ (c .before .before .before .evaluate .ensures) (c .before .before .before .before .before .before .match .keys3) (c .enter-if .ensures)
+    let p = c .before .before .before .before .before .before .before .before .before .before .before .before .before .before .pre in
+    let f = c .before .before .before .before .before .before .before .fields-at .ensures in
+    ifs _ (p .0) _ _ (p .1 .0) (p .1 .1 .0) _ f _ (c .before .index .ensures) _ _ (c .before .before .before .evaluate .ensures) (c .before .before
+    .before .before .before .before .match .keys3) (c .enter-if .ensures)
 
 returns-4 : tie.Need-returns-4
 returns-4 c =
-    elses _ (c .before .before .before .before .before .before .before .before .before .before .before .pre .0) _ _ (c .before .before .before .before .before .before .before .before .before .before .before .pre .1 .0) (c .before .before .before .before .before .before .before .before .before .before .before .pre .1 .1 .0) _ (c .before .before .before .before .fields-at .ensures) _ (c .before .index2 .ensures) _ (c .before .before .before .match .keys4) (c .jump .ensures)
+    let p = c .before .before .before .before .before .before .before .before .before .before .before .pre in
+    let f = c .before .before .before .before .fields-at .ensures in
+    elses _ (p .0) _ _ (p .1 .0) (p .1 .1 .0) _ f _ (c .before .index2 .ensures) _ (c .before .before .before .match .keys4) (c .jump .ensures)
 
 same-length-5 : tie.Need-same-length-5
 same-length-5 c = search needs
@@ -183,11 +219,16 @@ same-length-6 c = search needs
 
 returns-5 : tie.Need-returns-5
 returns-5 c =
-    whiles _ (c .before .before .before .before .before .before .before .before .before .before .before .before .before .before .pre .0) _ _ (c .before .before .before .before .before .before .before .before .before .before .before .before .before .before .pre .1 .0) (c .before .before .before .before .before .before .before .before .before .before .before .before .before .before .pre .1 .1 .0) _ (c .before .before .before .before .before .before .before .fields-at .ensures) _ (c .before .index3 .ensures) _ _ (c .before .before .before .evaluate2 .ensures) (c .before .before .before .before .before .before .match .keys5) (c .enter-while .ensures)
+    let p = c .before .before .before .before .before .before .before .before .before .before .before .before .before .before .pre in
+    let f = c .before .before .before .before .before .before .before .fields-at .ensures in
+    whiles _ (p .0) _ _ (p .1 .0) (p .1 .1 .0) _ f _ (c .before .index3 .ensures) _ _ (c .before .before .before .evaluate2 .ensures) (c .before
+    .before .before .before .before .before .match .keys5) (c .enter-while .ensures)
 
 returns-6 : tie.Need-returns-6
 returns-6 c =
-    ends _ (c .before .before .before .before .before .before .before .before .before .before .before .pre .0) _ _ (c .before .before .before .before .before .before .before .before .before .before .before .pre .1 .0) (c .before .before .before .before .before .before .before .before .before .before .before .pre .1 .1 .0) _ (c .before .before .before .before .fields-at .ensures) _ (c .before .index4 .ensures) _ (c .before .before .before .match .keys6) (c .leave .ensures)
+    let p = c .before .before .before .before .before .before .before .before .before .before .before .pre in
+    let f = c .before .before .before .before .fields-at .ensures in
+    ends _ (p .0) _ _ (p .1 .0) (p .1 .1 .0) _ f _ (c .before .index4 .ensures) _ (c .before .before .before .match .keys6) (c .leave .ensures)
 
 same-length-7 : tie.Need-same-length-7
 same-length-7 c = search needs
@@ -200,7 +241,9 @@ same-length-9 c = search needs
 
 returns-7 : tie.Need-returns-7
 returns-7 c =
-    outputs _ (c .before .before .before .before .before .before .before .before .before .before .before .before .before .before .pre .0) _ _ (c .before .before .before .before .before .before .before .before .before .before .before .before .before .before .pre .1 .0) (c .before .before .before .before .before .before .before .before .before .before .before .before .before .before .pre .1 .1 .0) _ (c .before .before .before .before .before .before .before .fields-at .ensures) _ refl _ _ _ _ (c .before .before .before .before .before .before .before .before .top .ensures)
+    let p = c .before .before .before .before .before .before .before .before .before .before .before .before .before .before .pre in
+    let f = c .before .before .before .before .before .before .before .fields-at .ensures in
+    outputs _ (p .0) _ _ (p .1 .0) (p .1 .1 .0) _ f _ refl _ _ _ _ (c .before .before .before .before .before .before .before .before .top .ensures)
     (record { words = refl; levels = refl; values = refl; board = c .before .lines .given })
     (c .onward3 .ensures) (c .before .before .before .before .before .before .match .keys7)
     (c .before .before .output .ensures)
@@ -213,14 +256,18 @@ same-length-11 c = search needs
 
 returns-8 : tie.Need-returns-8
 returns-8 c =
-    writes _ (c .before .before .before .before .before .before .before .before .before .before .before .before .before .before .pre .0) _ _ (c .before .before .before .before .before .before .before .before .before .before .before .before .before .before .pre .1 .0) (c .before .before .before .before .before .before .before .before .before .before .before .before .before .before .pre .1 .1 .0) _ (c .before .before .before .before .before .before .before .fields-at .ensures) _ refl _ _ _ _ (c .before .before .before .before .before .before .before .before .top .ensures)
+    let p = c .before .before .before .before .before .before .before .before .before .before .before .before .before .before .pre in
+    let f = c .before .before .before .before .before .before .before .fields-at .ensures in
+    writes _ (p .0) _ _ (p .1 .0) (p .1 .1 .0) _ f _ refl _ _ _ _ (c .before .before .before .before .before .before .before .before .top .ensures)
     (record { words = c .before .before .words .given; levels = refl; values = refl; board = refl })
     (c .onward4 .ensures) (c .before .before .before .before .before .before .match .keys8)
     (c .before .before .before .write .ensures _)
 
 returns-9 : tie.Need-returns-9
 returns-9 c =
-    raises _ (c .before .before .before .before .before .before .before .before .before .before .pre .0) _ _ (c .before .before .before .before .before .before .before .before .before .before .pre .1 .0) (c .before .before .before .before .before .before .before .before .before .before .pre .1 .1 .0) _ (c .before .before .before .fields-at .ensures) _ refl _ _ _ _ (c .before .before .before .before .top .ensures)
+    let p = c .before .before .before .before .before .before .before .before .before .before .pre in
+    let f = c .before .before .before .fields-at .ensures in
+    raises _ (p .0) _ _ (p .1 .0) (p .1 .1 .0) _ f _ refl _ _ _ _ (c .before .before .before .before .top .ensures)
     (record { words = refl; levels = refl; values = refl; board = refl })
     (c .onward5 .ensures) (c .before .before .match .keys9)
     (c .before .raise .ensures _ _ _ _ _)
@@ -230,9 +277,14 @@ same-length-12 c = search needs
 
 returns-10 : tie.Need-returns-10
 returns-10 c =
-    goes _ (c .before .before .before .before .before .before .before .before .before .before .before .before .pre .0) _ _ (c .before .before .before .before .before .before .before .before .before .before .before .before .pre .1 .0) (c .before .before .before .before .before .before .before .before .before .before .before .before .pre .1 .1 .0) _ (c .before .before .before .before .before .fields-at .ensures) _ refl _ _ _ _ (c .before .before .before .before .before .before .top .ensures)
+    let p = c .before .before .before .before .before .before .before .before .before .before .before .before .pre in
+    let f = c .before .before .before .before .before .fields-at .ensures in
+    goes _ (p .0) _ _ (p .1 .0) (p .1 .1 .0) _ f _ refl _ _ _ _ (c .before .before .before .before .before .before .top .ensures)
     (record { words = refl; levels = refl; values = refl; board = refl })
-    (c .onward6 .ensures) (from-seven _ (c .before .before .before .before .match .rest .0 .0 .0 .0 .0 .0 .0 .0 .1) (c .before .before .before .before .match .rest .0 .0 .0 .0 .0 .0 .0 .1) (c .before .before .before .before .match .rest .0 .0 .0 .0 .0 .0 .1) (c .before .before .before .before .match .rest .0 .0 .0 .0 .0 .1) (c .before .before .before .before .match .rest .0 .0 .0 .0 .1) (c .before .before .before .before .match .rest .0 .0 .0 .1) (c .before .before .before .before .match .rest .0 .0 .1)) (omega (arith, c .before .before .before .if1 .taken))
+    (c .onward6 .ensures) (from-seven _ (c .before .before .before .before .match .rest .0 .0 .0 .0 .0 .0 .0 .0 .1) (c .before .before .before .before
+    .match .rest .0 .0 .0 .0 .0 .0 .0 .1) (c .before .before .before .before .match .rest .0 .0 .0 .0 .0 .0 .1) (c .before .before .before .before
+    .match .rest .0 .0 .0 .0 .0 .1) (c .before .before .before .before .match .rest .0 .0 .0 .0 .1) (c .before .before .before .before .match .rest .0
+    .0 .0 .1) (c .before .before .before .before .match .rest .0 .0 .1)) (omega (arith, c .before .before .before .if1 .taken))
     (c .before .go .ensures _ _ _ _)
 
 same-length-13 : tie.Need-same-length-13
@@ -243,9 +295,14 @@ same-length-14 c = search needs
 
 returns-11 : tie.Need-returns-11
 returns-11 c =
-    inserts _ (c .before .before .before .before .before .before .before .before .before .before .before .before .before .before .before .before .before .pre .0) _ _ (c .before .before .before .before .before .before .before .before .before .before .before .before .before .before .before .before .before .pre .1 .0) (c .before .before .before .before .before .before .before .before .before .before .before .before .before .before .before .before .before .pre .1 .1 .0) _ (c .before .before .before .before .before .before .before .before .before .before .fields-at .ensures) _ refl _ _ _ _ (c .before .before .before .before .before .before .before .before .before .before .before .top .ensures)
+    let p = c .before .before .before .before .before .before .before .before .before .before .before .before .before .before .before .before .before .pre in
+    let f = c .before .before .before .before .before .before .before .before .before .before .fields-at .ensures in
+    inserts _ (p .0) _ _ (p .1 .0) (p .1 .1 .0) _ f _ refl _ _ _ _ (c .before .before .before .before .before .before .before .before .before .before
+    .before .top .ensures)
     (record { words = c .before .before .words2 .given; levels = refl; values = refl; board = refl })
-    (c .onward7 .ensures) _ (omega (arith, c .before .before .before .before .before .before .side .ensures, c .before .before .before .before .before .before .before .before .if1 .left)) (omega (arith, c .before .before .before .before .before .before .side .ensures, c .before .before .before .before .before .before .before .before .if1 .left, c .before .before .before .before .before .before .before .if2 .taken))
+    (c .onward7 .ensures) _ (omega (arith, c .before .before .before .before .before .before .side .ensures, c .before .before .before .before .before
+    .before .before .before .if1 .left)) (omega (arith, c .before .before .before .before .before .before .side .ensures, c .before .before .before
+    .before .before .before .before .before .if1 .left, c .before .before .before .before .before .before .before .if2 .taken))
     (c .before .before .before .insert .ensures _)
 
 same-length-15 : tie.Need-same-length-15
@@ -253,14 +310,22 @@ same-length-15 c = search needs
 
 returns-12 : tie.Need-returns-12
 returns-12 c =
-    removes _ (c .before .before .before .before .before .before .before .before .before .before .before .before .before .before .before .before .before .pre .0) _ _ (c .before .before .before .before .before .before .before .before .before .before .before .before .before .before .before .before .before .pre .1 .0) (c .before .before .before .before .before .before .before .before .before .before .before .before .before .before .before .before .before .pre .1 .1 .0) _ (c .before .before .before .before .before .before .before .before .before .before .fields-at .ensures) _ refl _ _ _ _ (c .before .before .before .before .before .before .before .before .before .before .before .top .ensures)
+    let p = c .before .before .before .before .before .before .before .before .before .before .before .before .before .before .before .before .before .pre in
+    let f = c .before .before .before .before .before .before .before .before .before .before .fields-at .ensures in
+    removes _ (p .0) _ _ (p .1 .0) (p .1 .1 .0) _ f _ refl _ _ _ _ (c .before .before .before .before .before .before .before .before .before .before
+    .before .top .ensures)
     (record { words = c .before .before .words3 .given; levels = refl; values = refl; board = refl })
-    (c .onward8 .ensures) _ (omega (arith, c .before .before .before .before .before .side2 .ensures, c .before .before .before .before .before .before .before .if2 .left)) (omega (arith, c .before .before .before .before .before .side2 .ensures, c .before .before .before .before .before .before .before .if2 .left, c .before .before .before .before .before .before .if3 .taken))
+    (c .onward8 .ensures) _ (omega (arith, c .before .before .before .before .before .side2 .ensures, c .before .before .before .before .before
+    .before .before .if2 .left)) (omega (arith, c .before .before .before .before .before .side2 .ensures, c .before .before .before .before .before
+    .before .before .if2 .left, c .before .before .before .before .before .before .if3 .taken))
     (c .before .before .before .remove .ensures _ _ _ _)
 
 returns-13 : tie.Need-returns-13
 returns-13 c =
-    absurd (no-rest _ (c .before .before .before .before .before .before .before .before .before .before .before .before .pre .0) _ _ (c .before .before .before .before .before .before .before .before .before .before .before .before .pre .1 .0) (c .before .before .before .before .before .before .before .before .before .before .before .before .pre .1 .1 .0) _ (c .before .before .before .before .before .fields-at .ensures) (c .before .if3 .left) (c .before .before .before .before .match .rest .0 .1) (c .before .before .before .before .match .rest .1))
+    let p = c .before .before .before .before .before .before .before .before .before .before .before .before .pre in
+    let f = c .before .before .before .before .before .fields-at .ensures in
+    absurd (no-rest _ (p .0) _ _ (p .1 .0) (p .1 .1 .0) _ f (c .before .if3 .left) (c .before .before .before .before .match .rest .0 .1) (c .before
+    .before .before .before .match .rest .1))
 
 pub step-spec : {M : Type 1} → statement M
 step-spec =
