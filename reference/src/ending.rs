@@ -1,0 +1,72 @@
+//! The ways a job can end, with the paper's numbers.
+
+/// Finished, a job turned back (1 to 10), or a run that stopped (21 to 26).
+#[derive(Clone, Copy, Debug, PartialEq, Eq, PartialOrd, Ord)]
+pub enum Ending {
+    Finished = 0,
+    /// "under 8 or over 23,048 bytes"
+    Size = 1,
+    /// "not 0 = variables ≤ nodes ≤ script ≤ trailer = length − 8, or a part record"
+    Layout = 2,
+    /// "a count out of range"
+    Count = 3,
+    /// "variable level above 1"
+    VariableLevel = 4,
+    /// "parent rule broken"
+    Parent = 5,
+    /// "level above 1, or a tree rule broken"
+    Tree = 6,
+    /// "command above 16, or a field read is out of range"
+    Field = 7,
+    /// else, end or opening that does not fit, or an unclosed block
+    Block = 8,
+    /// "budget not 1 to 1,000,000"
+    Budget = 9,
+    /// "table not of 1 to 512 places or below the node count, or variable
+    /// buffer below the variable count"
+    Buffer = 10,
+    /// "a rule above"
+    Rule = 21,
+    /// "the node moved to or removed does not exist, or command 12 at the root"
+    Missing = 22,
+    /// "every table place holds a live node"
+    TableFull = 23,
+    /// "line buffer full"
+    LinesFull = 24,
+    /// "steps equal budget"
+    BudgetUsed = 25,
+    /// "C below the working node's existence"
+    BelowExistence = 26,
+}
+
+impl Ending {
+    pub const ALL: [Ending; 17] = [
+        Ending::Finished,
+        Ending::Size,
+        Ending::Layout,
+        Ending::Count,
+        Ending::VariableLevel,
+        Ending::Parent,
+        Ending::Tree,
+        Ending::Field,
+        Ending::Block,
+        Ending::Budget,
+        Ending::Buffer,
+        Ending::Rule,
+        Ending::Missing,
+        Ending::TableFull,
+        Ending::LinesFull,
+        Ending::BudgetUsed,
+        Ending::BelowExistence,
+    ];
+
+    /// "ending (0 for finished, else the number)"
+    pub fn number(self) -> u32 {
+        self as u32
+    }
+
+    /// Endings 1 to 10: no step was made and no lent buffer changed.
+    pub fn turned_back(self) -> bool {
+        (1..=10).contains(&self.number())
+    }
+}

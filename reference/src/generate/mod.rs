@@ -1,0 +1,164 @@
+//! Cases and pairs of cases from a seed. The same seed gives the same case.
+
+mod damage;
+mod nodes;
+mod pairs;
+mod script;
+
+pub use damage::damaged;
+pub use nodes::renumber;
+use nodes::Growth;
+pub use pairs::{pair, Pair};
+
+use crate::ending::Ending;
+use crate::job::{Job, Record, Variable, MAX_VARIABLES};
+use crate::mistake::{Mistake, RULED_COMMANDS};
+use crate::random::Random;
+use crate::run::{self, Limits, MAX_BUDGET, MAX_PLACES};
+use crate::{Level, HOUSE, PUBLIC};
+
+/// The bytes of a job, with a budget and the sizes of the buffers.
+#[derive(Clone, Debug, PartialEq, Eq)]
+pub struct Case {
+    pub bytes: Vec<u8>,
+    pub limits: Limits,
+}
+
+/// A valid case three times out of five, else a damaged one.
+pub fn case(seed: u64) -> Case {
+    match seed % 5 {
+        0..=2 => valid(seed),
+        _ => damaged(seed),
+    }
+}
+
+/// A case that no check turns back.
+pub fn valid(seed: u64) -> Case {
+    let mut random = Random::new(seed);
+    let (job, limits) = valid_job(&mut random);
+    Case {
+        bytes: job.encode(),
+        limits,
+    }
+}
+
+/// An accepted job, with limits accepted for it.
+fn valid_job(random: &mut Random) -> (Job, Limits) {
+    let growth = Growth::some(random, Random::value);
+    let mut job = Job {
+        variables: variables(random),
+        nodes: nodes::any(random, growth),
+        script: Vec::new(),
+    };
+    let levels = levels(&job.variables);
+    let mistake = likely_mistake(random);
+    let goes_on = &mut |script: &[Record]| {
+        let ending = trial_ending(&job, script, mistake);
+        ending != Ending::Rule && ending != Ending::Missing
+    };
+    let script = match random.below(30) {
+        0..=9 => script::any(random, &levels, &mut |_| true),
+        10 | 11 => script::endless(random, &levels, goes_on),
+        _ => script::short(random, &levels, goes_on),
+    };
+    job.script = script;
+    let limits = limits(random, &job);
+    if random.chance(1, 2) {
+        add_noise(random, &mut job);
+    }
+    (job, limits)
+}
+
+/// How `script` ends on the job's variables and tree within a few steps, by a
+/// monitor with `mistake`. Scripts that grow by this trial run long, and go on
+/// where a wrong monitor would go on.
+fn trial_ending(job: &Job, script: &[Record], mistake: Mistake) -> Ending {
+    let job = Job {
+        script: script.to_vec(),
+        ..job.clone()
+    };
+    run::run_job(&job, &Limits::ample(400), mistake, &mut |_, _| {}).ending
+}
+
+/// None, or one by which more scripts finish.
+fn likely_mistake(random: &mut Random) -> Mistake {
+    match random.below(5) {
+        0 => Mistake::None,
+        1..=3 => random.pick(&Mistake::LEAKING),
+        _ => Mistake::NoRule(random.pick(&RULED_COMMANDS)),
+    }
+}
+
+fn variables(random: &mut Random) -> Vec<Variable> {
+    let count = match random.below(40) {
+        0 => 0,
+        1 => MAX_VARIABLES,
+        2 => random.between(1, MAX_VARIABLES),
+        _ => random.between(2, 6),
+    };
+    let variable = |random: &mut Random| Variable {
+        level: random.pick(&[PUBLIC, HOUSE]),
+        value: random.value(),
+        ..Variable::default()
+    };
+    (0..count).map(|_| variable(random)).collect()
+}
+
+fn levels(variables: &[Variable]) -> Vec<Level> {
+    variables.iter().map(|variable| variable.level).collect()
+}
+
+/// Limits that are accepted for `job`, some of them tight.
+fn limits(random: &mut Random, job: &Job) -> Limits {
+    let budget = match random.below(1_000) {
+        0..=9 => MAX_BUDGET,
+        10..=59 => 100_000,
+        60..=249 => random.between(1, 30) as u64,
+        _ => 2_000,
+    };
+    let places = match random.below(4) {
+        0 => (job.nodes.len() + random.below(3)).min(MAX_PLACES),
+        _ => MAX_PLACES,
+    };
+    let variables = match random.below(4) {
+        0 => job.variables.len(),
+        _ => MAX_VARIABLES,
+    };
+    let lines = match random.below(6) {
+        0 => random.below(4),
+        _ => 256,
+    };
+    Limits {
+        budget,
+        places,
+        variables,
+        lines,
+    }
+}
+
+/// Fills every byte that nobody reads.
+fn add_noise(random: &mut Random, job: &mut Job) {
+    for variable in &mut job.variables {
+        variable.spare = noise(random);
+    }
+    for node in &mut job.nodes {
+        node.spare = noise(random);
+    }
+    for record in &mut job.script {
+        let unread = Record {
+            command: 0,
+            target: random.byte(),
+            operator: random.byte(),
+            left_kind: random.byte(),
+            right_kind: random.byte(),
+            spare: noise(random),
+            left: random.draw() as u32,
+            right: random.draw() as u32,
+        };
+        *record = record.over(&unread);
+    }
+}
+
+fn noise(random: &mut Random) -> [u8; 3] {
+    [random.byte(), random.byte(), random.byte()]
+}

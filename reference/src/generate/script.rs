@@ -1,0 +1,401 @@
+//! Scripts: simple commands, nested blocks, counted loops, loops over
+//! children, and excursions of the cursor under cover.
+//!
+//! A script grows by pieces put in at one place; whoever asks for it may turn
+//! a piece down, after a look at the whole script with the piece in it.
+
+use crate::job::{command, Record, MAX_BLOCKS, MAX_RECORDS};
+use crate::random::Random;
+use crate::source::*;
+use crate::{join, Level, HOUSE, PUBLIC};
+
+/// Commands that open, turn or close a block.
+pub const BLOCK_COMMANDS: [u8; 4] = [command::IF, command::ELSE, command::WHILE, command::END];
+
+/// No statement starts beyond this length.
+const ROOM: usize = MAX_RECORDS - 24;
+
+/// Draws for a place before it is left empty.
+const DRAWS: usize = 6;
+
+/// Tells whether a script may stay as it has become.
+pub type Accept<'a> = &'a mut dyn FnMut(&[Record]) -> bool;
+
+/// A script of any size for variables of these levels.
+pub fn any(random: &mut Random, levels: &[Level], accept: Accept) -> Vec<Record> {
+    let statements = match random.below(100) {
+        0 => 0,
+        1 => 400,
+        2..=9 => random.between(20, 60),
+        _ => random.between(1, 12),
+    };
+    let depth = match random.below(50) {
+        0 => MAX_BLOCKS,
+        _ => random.between(1, 4),
+    };
+    let mut writer = Writer::new(random, levels, accept);
+    if depth == MAX_BLOCKS {
+        writer.nest(depth, PUBLIC);
+    }
+    for _ in 0..statements {
+        writer.statement(depth, PUBLIC);
+    }
+    writer.script
+}
+
+/// A script of a few statements.
+pub fn short(random: &mut Random, levels: &[Level], accept: Accept) -> Vec<Record> {
+    let statements = random.between(2, 12);
+    let mut writer = Writer::new(random, levels, accept);
+    for _ in 0..statements {
+        writer.statement(3, PUBLIC);
+    }
+    writer.script
+}
+
+/// A loop without an end.
+pub fn endless(random: &mut Random, levels: &[Level], accept: Accept) -> Vec<Record> {
+    let statements = random.between(1, 8);
+    let mut writer = Writer::new(random, levels, accept);
+    for _ in 0..writer.random.below(3) {
+        writer.statement(2, PUBLIC);
+    }
+    if writer.put(&[repeat(1), end()]) {
+        writer.place -= 1;
+    }
+    for _ in 0..statements {
+        writer.statement(2, PUBLIC);
+    }
+    writer.script
+}
+
+/// A script that goes on excursions and shows what it can see afterwards.
+pub fn probing(random: &mut Random, levels: &[Level], accept: Accept) -> Vec<Record> {
+    let mut writer = Writer::new(random, levels, accept);
+    for _ in 0..writer.random.between(1, 4) {
+        for _ in 0..writer.random.below(2) {
+            writer.statement(1, PUBLIC);
+        }
+        writer.excursion(PUBLIC);
+        writer.show();
+    }
+    writer.script
+}
+
+/// How often a script makes each choice. Scripts that favour one choice reach
+/// more than scripts that all favour the same.
+struct Taste {
+    /// House variable, children, value, any expression.
+    guards: [usize; 4],
+    /// Root, up, first child, right sibling.
+    moves: [usize; 4],
+    /// The commands 11 to 15.
+    changes: [usize; 5],
+    /// Out of ten expressions, those that read house variables where a rule
+    /// may forbid it.
+    daring: usize,
+}
+
+impl Taste {
+    fn some(random: &mut Random) -> Taste {
+        Taste {
+            guards: random.pick(&[[4, 2, 1, 1], [1, 0, 0, 0], [1, 6, 0, 1], [2, 1, 4, 1]]),
+            moves: random.pick(&[[2, 2, 4, 3], [1, 1, 6, 2], [1, 1, 3, 6], [4, 4, 4, 4]]),
+            changes: random.pick(&[
+                [3, 3, 2, 2, 4],
+                [1, 1, 0, 0, 6],
+                [5, 1, 5, 1, 1],
+                [1, 4, 1, 4, 1],
+                [1, 1, 4, 4, 2],
+            ]),
+            daring: random.pick(&[0, 1, 4]),
+        }
+    }
+}
+
+struct Writer<'a> {
+    random: &'a mut Random,
+    levels: &'a [Level],
+    accept: Accept<'a>,
+    taste: Taste,
+    script: Vec<Record>,
+    /// Where the next piece goes.
+    place: usize,
+    /// Variables that count the loops now open.
+    counters: Vec<usize>,
+}
+
+impl<'a> Writer<'a> {
+    fn new(random: &'a mut Random, levels: &'a [Level], accept: Accept<'a>) -> Writer<'a> {
+        let (script, counters) = (Vec::new(), Vec::new());
+        let taste = Taste::some(random);
+        Writer {
+            random,
+            levels,
+            accept,
+            taste,
+            script,
+            place: 0,
+            counters,
+        }
+    }
+
+    /// Puts a piece in and goes past it, unless it is turned down.
+    fn put(&mut self, piece: &[Record]) -> bool {
+        let (start, end) = (self.place, self.place + piece.len());
+        self.script.splice(start..start, piece.iter().copied());
+        let stays = (self.accept)(&self.script);
+        if stays {
+            self.place = end;
+        } else {
+            self.script.drain(start..end);
+        }
+        stays
+    }
+
+    /// The first of a few draws that is not turned down.
+    fn put_some(&mut self, draw: &mut dyn FnMut(&mut Self) -> Record) {
+        for _ in 0..DRAWS {
+            let record = draw(self);
+            if self.put(&[record]) {
+                return;
+            }
+        }
+    }
+
+    /// One statement, with at most `depth` blocks inside each other; `context`
+    /// is the least context level it will run in.
+    fn statement(&mut self, depth: usize, context: Level) {
+        if self.script.len() > ROOM {
+            return;
+        }
+        let choice = match depth {
+            0 => 0,
+            _ => self.random.weighted(&[14, 4, 3, 1, 2]),
+        };
+        match choice {
+            0 => self.put_some(&mut |writer| writer.simple(context)),
+            1 => self.branch(depth, context),
+            2 => self.counted_loop(depth, context),
+            3 => drop(self.put(&[repeat(children()), remove_first_child(), end()])),
+            _ => self.excursion(context),
+        }
+    }
+
+    fn body(&mut self, depth: usize, context: Level) {
+        for _ in 0..self.random.between(0, 3) {
+            self.statement(depth, context);
+        }
+    }
+
+    /// If, with or without else.
+    fn branch(&mut self, depth: usize, context: Level) {
+        self.branch_with(context, &mut |writer, inner| writer.body(depth - 1, inner));
+    }
+
+    fn branch_with(&mut self, context: Level, body: &mut dyn FnMut(&mut Self, Level)) {
+        let (guard, level) = self.guard();
+        let inner = join(context, level);
+        if self.random.chance(1, 2) {
+            if self.put(&[when(guard), end()]) {
+                self.place -= 1;
+                body(self, inner);
+                self.place += 1;
+            }
+        } else if self.put(&[when(guard), otherwise(), end()]) {
+            self.place -= 2;
+            body(self, inner);
+            self.place += 1;
+            body(self, inner);
+            self.place += 1;
+        }
+    }
+
+    /// `depth` blocks, one inside the other.
+    fn nest(&mut self, depth: usize, context: Level) {
+        if depth == 0 {
+            return self.body(0, context);
+        }
+        let (guard, level) = self.guard();
+        if self.put(&[when(guard), end()]) {
+            self.place -= 1;
+            self.nest(depth - 1, join(context, level));
+            self.place += 1;
+        }
+    }
+
+    /// A loop that runs a number of times, by a variable that counts down.
+    fn counted_loop(&mut self, depth: usize, context: Level) {
+        let Some(counter) = self.free_variable(context) else {
+            return self.branch(depth, context);
+        };
+        let turns = match self.random.below(10) {
+            0 => self.random.between(20, 300),
+            _ => self.random.between(0, 4),
+        };
+        let guard = match self.random.chance(1, 2) {
+            true => less(constant(0), variable(counter)),
+            false => variable(counter).into(),
+        };
+        let count_down = assign(counter, difference(variable(counter), constant(1)));
+        if self.put(&[
+            assign(counter, turns as i32),
+            repeat(guard),
+            count_down,
+            end(),
+        ]) {
+            self.counters.push(counter);
+            self.place -= 2;
+            self.body(depth - 1, join(context, self.levels[counter]));
+            self.place += 2;
+            self.counters.pop();
+        }
+    }
+
+    /// A variable of level `least` or above that counts no open loop.
+    fn free_variable(&mut self, least: Level) -> Option<usize> {
+        let free: Vec<usize> = (0..self.levels.len())
+            .filter(|index| !self.counters.contains(index) && self.levels[*index] >= least)
+            .collect();
+        (!free.is_empty()).then(|| self.random.pick(&free))
+    }
+
+    /// The shape of trial 6: a branch that moves or changes the tree, work where
+    /// the cursor is then, and the root again; half of the time under cover.
+    fn excursion(&mut self, context: Level) {
+        for _ in 0..self.random.below(3) {
+            self.put_some(&mut Self::some_move);
+        }
+        if self.random.chance(1, 2) {
+            self.put(&[cover()]);
+        }
+        let weights = self.random.pick(&[[4, 1, 1], [1, 4, 1], [1, 1, 4]]);
+        self.branch_with(context, &mut |writer, inner| {
+            if writer.random.chance(1, 8) {
+                writer.put(&[cover()]);
+            }
+            for _ in 0..writer.random.between(1, 2) {
+                match writer.random.weighted(&weights) {
+                    0 => writer.put_some(&mut Self::some_move),
+                    1 => writer.put_some(&mut Self::some_change),
+                    _ => writer.put_some(&mut |writer| writer.simple(inner)),
+                }
+            }
+        });
+        for _ in 0..self.random.between(0, 3) {
+            match self.random.chance(3, 4) {
+                true => self.put_some(&mut Self::some_change),
+                false => self.put_some(&mut Self::some_move),
+            }
+        }
+        self.put(&[root()]);
+    }
+
+    /// Prints what is public at the root and on a way down from it.
+    fn show(&mut self) {
+        self.put(&[root()]);
+        for _ in 0..self.random.between(1, 3) {
+            self.put(&[print(value())]);
+            self.put(&[print(children())]);
+            self.put_some(&mut Self::some_move);
+        }
+        for index in 0..self.levels.len().min(6) {
+            if self.levels[index] == PUBLIC {
+                self.put(&[print(variable(index))]);
+            }
+        }
+    }
+
+    fn simple(&mut self, context: Level) -> Record {
+        // A command that the context would stop, one time in ten.
+        let house = context == HOUSE && !self.random.chance(1, 10);
+        match self
+            .random
+            .weighted(&[1, 5, if house { 0 } else { 5 }, 12, 12, 1])
+        {
+            0 => nothing(),
+            1 => self.assignment(if house { HOUSE } else { PUBLIC }),
+            2 => {
+                let most = self.usual_level();
+                print(self.expression(most))
+            }
+            3 => self.some_move(),
+            4 => self.some_change(),
+            _ => cover(),
+        }
+    }
+
+    fn some_move(&mut self) -> Record {
+        let moves = [root(), up(), first_child(), right_sibling()];
+        moves[self.random.weighted(&self.taste.moves)]
+    }
+
+    /// A command that changes the tree.
+    fn some_change(&mut self) -> Record {
+        let mark = self.random.below(4) as u8;
+        let most = self.random.pick(&[PUBLIC, HOUSE]);
+        let expression = self.expression(most);
+        let changes = [
+            new_first_child(mark, expression),
+            new_right_sibling(mark, expression),
+            remove_first_child(),
+            remove_right_sibling(),
+            set_value(expression),
+        ];
+        changes[self.random.weighted(&self.taste.changes)]
+    }
+
+    /// An assignment to a variable of level `least` or above.
+    fn assignment(&mut self, least: Level) -> Record {
+        let Some(target) = self.free_variable(least) else {
+            return nothing();
+        };
+        let most = join(self.levels[target], self.usual_level());
+        assign(target, self.expression(most))
+    }
+
+    /// 0, now and then 1.
+    fn usual_level(&mut self) -> Level {
+        self.random.chance(self.taste.daring, 10) as Level
+    }
+
+    /// A guard, and the part of its level that the text shows.
+    fn guard(&mut self) -> (Expression, Level) {
+        let house: Vec<usize> = (0..self.levels.len())
+            .filter(|&index| self.levels[index] == HOUSE)
+            .collect();
+        match self.random.weighted(&self.taste.guards) {
+            0 if !house.is_empty() => (variable(self.random.pick(&house)).into(), HOUSE),
+            1 => (children().into(), PUBLIC),
+            2 => (value().into(), PUBLIC),
+            _ => (self.expression(PUBLIC), PUBLIC),
+        }
+    }
+
+    /// An expression whose variables have level `most` or below.
+    fn expression(&mut self, most: Level) -> Expression {
+        let left = self.operand(most);
+        let right = self.operand(most);
+        let operators = [
+            left.into(),
+            sum(left, right),
+            difference(left, right),
+            equal(left, right),
+            less(left, right),
+            mean(left, right),
+        ];
+        operators[self.random.weighted(&[5, 1, 1, 1, 1, 1])]
+    }
+
+    fn operand(&mut self, most: Level) -> Operand {
+        let readable: Vec<usize> = (0..self.levels.len())
+            .filter(|&index| self.levels[index] <= most)
+            .collect();
+        match self.random.weighted(&[3, 3, 2, 2]) {
+            1 if !readable.is_empty() => variable(self.random.pick(&readable)),
+            2 => value(),
+            3 => children(),
+            _ => constant(self.random.value()),
+        }
+    }
+}

@@ -1,0 +1,513 @@
+//! The job's bytes: three sections and a trailer, and the checks 1 to 8.
+
+use crate::ending::Ending;
+use crate::mistake::Mistake;
+use crate::Level;
+
+pub const VARIABLE_BYTES: usize = 8;
+pub const NODE_BYTES: usize = 12;
+pub const RECORD_BYTES: usize = 16;
+pub const TRAILER_BYTES: usize = 8;
+
+pub const MAX_VARIABLES: usize = 64;
+pub const MAX_NODES: usize = 512;
+pub const MAX_RECORDS: usize = 1_024;
+pub const MAX_BYTES: usize = 23_048;
+pub const MAX_BLOCKS: usize = 16;
+
+/// The parent's index of record 0, the root.
+pub const NO_PARENT: u16 = 65_535;
+
+/// Command numbers.
+pub mod command {
+    pub const NOTHING: u8 = 0;
+    pub const ASSIGN: u8 = 1;
+    pub const IF: u8 = 2;
+    pub const ELSE: u8 = 3;
+    pub const WHILE: u8 = 4;
+    pub const END: u8 = 5;
+    pub const PRINT: u8 = 6;
+    pub const ROOT: u8 = 7;
+    pub const UP: u8 = 8;
+    pub const FIRST_CHILD: u8 = 9;
+    pub const RIGHT_SIBLING: u8 = 10;
+    pub const NEW_FIRST_CHILD: u8 = 11;
+    pub const NEW_RIGHT_SIBLING: u8 = 12;
+    pub const REMOVE_FIRST_CHILD: u8 = 13;
+    pub const REMOVE_RIGHT_SIBLING: u8 = 14;
+    pub const SET_VALUE: u8 = 15;
+    pub const COVER: u8 = 16;
+    pub const COUNT: usize = 17;
+}
+
+/// Kinds of operands.
+pub mod kind {
+    pub const CONSTANT: u8 = 0;
+    pub const VARIABLE: u8 = 1;
+    pub const VALUE: u8 = 2;
+    pub const CHILDREN: u8 = 3;
+}
+
+/// Operators.
+pub mod operator {
+    pub const LEFT: u8 = 0;
+    pub const SUM: u8 = 1;
+    pub const DIFFERENCE: u8 = 2;
+    pub const EQUAL: u8 = 3;
+    pub const LESS: u8 = 4;
+    pub const MEAN: u8 = 5;
+}
+
+/// "Variable, 8 bytes: byte 0 level, 1 to 3 ignored, 4 to 7 value."
+#[derive(Clone, Copy, Debug, Default, PartialEq, Eq)]
+pub struct Variable {
+    pub level: Level,
+    pub spare: [u8; 3],
+    pub value: i32,
+}
+
+/// "Node, 12 bytes: 0 and 1 parent's index (65535 for record 0, the root),
+/// 2 existence, 3 content, 4 list, 5 to 7 ignored, 8 to 11 value."
+#[derive(Clone, Copy, Debug, Default, PartialEq, Eq)]
+pub struct Node {
+    pub parent: u16,
+    pub existence: Level,
+    pub content: Level,
+    pub list: Level,
+    pub spare: [u8; 3],
+    pub value: i32,
+}
+
+/// "Script record, 16 bytes: 0 command, 1 target, 2 operator, 3 left kind,
+/// 4 right kind, 5 to 7 ignored, 8 to 11 left number, 12 to 15 right number."
+#[derive(Clone, Copy, Debug, Default, PartialEq, Eq)]
+pub struct Record {
+    pub command: u8,
+    pub target: u8,
+    pub operator: u8,
+    pub left_kind: u8,
+    pub right_kind: u8,
+    pub spare: [u8; 3],
+    pub left: u32,
+    pub right: u32,
+}
+
+/// A job with all its bytes, the ignored ones too; not always an accepted one.
+#[derive(Clone, Debug, Default, PartialEq, Eq)]
+pub struct Job {
+    pub variables: Vec<Variable>,
+    pub nodes: Vec<Node>,
+    pub script: Vec<Record>,
+}
+
+/// Why a job is turned back, and the index that goes with it.
+#[derive(Clone, Copy, Debug, PartialEq, Eq)]
+pub struct Refusal {
+    pub ending: Ending,
+    pub index: usize,
+}
+
+fn refuse<T>(ending: Ending, index: usize) -> Result<T, Refusal> {
+    Err(Refusal { ending, index })
+}
+
+/// What a command's target is.
+#[derive(Clone, Copy, Debug, PartialEq, Eq)]
+pub enum Target {
+    Ignored,
+    /// The index of a variable.
+    Variable,
+    /// "the target is a mark, 0 to 3"
+    Mark,
+}
+
+/// Which fields a command reads besides its number.
+#[derive(Clone, Copy, Debug, PartialEq, Eq)]
+pub struct Reads {
+    pub target: Target,
+    pub expression: bool,
+}
+
+const fn reads(target: Target, expression: bool) -> Reads {
+    Reads { target, expression }
+}
+
+/// "One fixed table of seventeen rows says which fields each command reads;
+/// the others are ignored." "Commands 1, 2, 4, 6, 11, 12 and 15 read an
+/// expression."
+pub const READS: [Reads; command::COUNT] = [
+    reads(Target::Ignored, false),
+    reads(Target::Variable, true),
+    reads(Target::Ignored, true),
+    reads(Target::Ignored, false),
+    reads(Target::Ignored, true),
+    reads(Target::Ignored, false),
+    reads(Target::Ignored, true),
+    reads(Target::Ignored, false),
+    reads(Target::Ignored, false),
+    reads(Target::Ignored, false),
+    reads(Target::Ignored, false),
+    reads(Target::Mark, true),
+    reads(Target::Mark, true),
+    reads(Target::Ignored, false),
+    reads(Target::Ignored, false),
+    reads(Target::Ignored, true),
+    reads(Target::Ignored, false),
+];
+
+/// The job in `bytes`, or the first check of 1 to 8 that turns it back.
+pub fn decode(bytes: &[u8]) -> Result<Job, Refusal> {
+    decode_with(bytes, Mistake::None)
+}
+
+/// "Job checks go in order of number." Each goes over its whole section.
+pub fn decode_with(bytes: &[u8], mistake: Mistake) -> Result<Job, Refusal> {
+    let job = split(bytes)?;
+    check_counts(&job)?;
+    check_variables(&job)?;
+    check_parents(&job)?;
+    check_tree(&job, mistake)?;
+    check_fields(&job, mistake)?;
+    check_blocks(&job, mistake)?;
+    Ok(job)
+}
+
+/// Checks 1 and 2, and the three sections with whatever they hold.
+pub fn split(bytes: &[u8]) -> Result<Job, Refusal> {
+    if bytes.len() < TRAILER_BYTES || bytes.len() > MAX_BYTES {
+        return refuse(Ending::Size, 0);
+    }
+    let end = bytes.len() - TRAILER_BYTES;
+    let offset = |place: usize| u16_at(bytes, end + 2 * place) as usize;
+    let (variables, nodes, script, trailer) = (offset(0), offset(1), offset(2), offset(3));
+    let ordered = variables == 0 && nodes <= script && script <= trailer && trailer == end;
+    if !ordered {
+        return refuse(Ending::Layout, 0);
+    }
+    let whole = nodes % VARIABLE_BYTES == 0
+        && (script - nodes) % NODE_BYTES == 0
+        && (trailer - script) % RECORD_BYTES == 0;
+    if !whole {
+        return refuse(Ending::Layout, 0);
+    }
+    Ok(Job {
+        variables: bytes[..nodes]
+            .chunks(VARIABLE_BYTES)
+            .map(variable_from)
+            .collect(),
+        nodes: bytes[nodes..script]
+            .chunks(NODE_BYTES)
+            .map(node_from)
+            .collect(),
+        script: bytes[script..trailer]
+            .chunks(RECORD_BYTES)
+            .map(record_from)
+            .collect(),
+    })
+}
+
+/// Check 3: "At most 64", "1 to 512 nodes", "At most 1,024".
+fn check_counts(job: &Job) -> Result<(), Refusal> {
+    let in_range = job.variables.len() <= MAX_VARIABLES
+        && (1..=MAX_NODES).contains(&job.nodes.len())
+        && job.script.len() <= MAX_RECORDS;
+    if in_range {
+        Ok(())
+    } else {
+        refuse(Ending::Count, 0)
+    }
+}
+
+/// Check 4: "variable level above 1".
+fn check_variables(job: &Job) -> Result<(), Refusal> {
+    match job.variables.iter().position(|variable| variable.level > 1) {
+        Some(index) => refuse(Ending::VariableLevel, index),
+        None => Ok(()),
+    }
+}
+
+/// Check 5: 65535 for record 0; "A parent comes before its children".
+fn check_parents(job: &Job) -> Result<(), Refusal> {
+    for (index, node) in job.nodes.iter().enumerate() {
+        let right = match index {
+            0 => node.parent == NO_PARENT,
+            _ => (node.parent as usize) < index,
+        };
+        if !right {
+            return refuse(Ending::Parent, index);
+        }
+    }
+    Ok(())
+}
+
+/// Check 6: "level above 1, or a tree rule broken".
+fn check_tree(job: &Job, mistake: Mistake) -> Result<(), Refusal> {
+    for index in 0..job.nodes.len() {
+        if !node_keeps_rules(&job.nodes, index, mistake) {
+            return refuse(Ending::Tree, index);
+        }
+    }
+    Ok(())
+}
+
+/// "the root has existence 0; content and list are not below existence; a
+/// child's existence is not below its parent's existence, not above its
+/// parent's list level, and not below that of the sibling to its left."
+fn node_keeps_rules(nodes: &[Node], index: usize, mistake: Mistake) -> bool {
+    let node = &nodes[index];
+    if node.existence > 1 || node.content > 1 || node.list > 1 {
+        return false;
+    }
+    if node.content < node.existence || node.list < node.existence {
+        return false;
+    }
+    if index == 0 {
+        return node.existence == 0;
+    }
+    let parent = &nodes[node.parent as usize];
+    if node.existence < parent.existence || node.existence > parent.list {
+        return false;
+    }
+    match left_sibling(nodes, index, mistake) {
+        Some(left) => node.existence >= nodes[left].existence,
+        None => true,
+    }
+}
+
+/// "left means the nearest earlier record with the same parent"
+fn left_sibling(nodes: &[Node], index: usize, mistake: Mistake) -> Option<usize> {
+    let same_parent = |earlier: &usize| nodes[*earlier].parent == nodes[index].parent;
+    if mistake == Mistake::LeftIsPreviousRecord {
+        return index.checked_sub(1).filter(same_parent);
+    }
+    (0..index).rev().find(same_parent)
+}
+
+/// Check 7: "command above 16, or a field read is out of range (variable
+/// index, operator, kind, mark)".
+fn check_fields(job: &Job, mistake: Mistake) -> Result<(), Refusal> {
+    let in_range = |record: &Record| fields_in_range(record, job.variables.len(), mistake);
+    match job.script.iter().position(|record| !in_range(record)) {
+        Some(index) => refuse(Ending::Field, index),
+        None => Ok(()),
+    }
+}
+
+fn fields_in_range(record: &Record, variables: usize, mistake: Mistake) -> bool {
+    let Some(reads) = READS.get(record.command as usize) else {
+        return false;
+    };
+    let target = match reads.target {
+        Target::Ignored => true,
+        Target::Variable => (record.target as usize) < variables,
+        Target::Mark => record.target <= 3,
+    };
+    if !reads.expression {
+        return target;
+    }
+    // Operator 0: "left alone (right side ignored)".
+    let right_read =
+        record.operator != operator::LEFT || mistake == Mistake::RightSideAlwaysChecked;
+    target
+        && record.operator <= operator::MEAN
+        && operand_in_range(record.left_kind, record.left, variables)
+        && (!right_read || operand_in_range(record.right_kind, record.right, variables))
+}
+
+/// "For kinds 2 and 3 the number is ignored."
+fn operand_in_range(kind: u8, number: u32, variables: usize) -> bool {
+    match kind {
+        kind::CONSTANT | kind::VALUE | kind::CHILDREN => true,
+        kind::VARIABLE => (number as usize) < variables,
+        _ => false,
+    }
+}
+
+/// A block of an accepted script, by record indexes.
+#[derive(Clone, Copy, Debug, PartialEq, Eq)]
+pub struct Block {
+    pub opening: usize,
+    pub otherwise: Option<usize>,
+    pub end: usize,
+}
+
+/// Check 8.
+fn check_blocks(job: &Job, mistake: Mistake) -> Result<(), Refusal> {
+    match pair_blocks(&job.script, mistake) {
+        Ok(_) => Ok(()),
+        Err(index) => refuse(Ending::Block, index),
+    }
+}
+
+/// The blocks of a script in the order of their ends, or the index of check 8:
+/// "else with no block open or whose innermost open block is no if, end with
+/// none open, second else, unclosed block, 17th nested block"; "for an
+/// unclosed block, the number of records".
+pub fn pair_blocks(script: &[Record], mistake: Mistake) -> Result<Vec<Block>, usize> {
+    let most = match mistake {
+        Mistake::SeventeenBlocksAccepted => MAX_BLOCKS + 1,
+        _ => MAX_BLOCKS,
+    };
+    let mut open: Vec<Block> = Vec::new();
+    let mut closed = Vec::new();
+    for (index, record) in script.iter().enumerate() {
+        match record.command {
+            command::IF | command::WHILE => {
+                if open.len() == most {
+                    return Err(index);
+                }
+                open.push(Block {
+                    opening: index,
+                    otherwise: None,
+                    end: index,
+                });
+            }
+            command::ELSE => match open.last_mut() {
+                Some(block)
+                    if script[block.opening].command == command::IF
+                        && block.otherwise.is_none() =>
+                {
+                    block.otherwise = Some(index);
+                }
+                _ => return Err(index),
+            },
+            command::END => {
+                let block = open.pop().ok_or(index)?;
+                closed.push(Block {
+                    end: index,
+                    ..block
+                });
+            }
+            _ => {}
+        }
+    }
+    if open.is_empty() {
+        Ok(closed)
+    } else {
+        Err(script.len())
+    }
+}
+
+impl Record {
+    /// The fields that `self` reads, with all others taken from `other`.
+    pub fn over(&self, other: &Record) -> Record {
+        let mut record = Record {
+            command: self.command,
+            ..*other
+        };
+        let Some(reads) = READS.get(self.command as usize) else {
+            return record;
+        };
+        if reads.target != Target::Ignored {
+            record.target = self.target;
+        }
+        if !reads.expression {
+            return record;
+        }
+        record.operator = self.operator;
+        record.left_kind = self.left_kind;
+        if number_read(self.left_kind) {
+            record.left = self.left;
+        }
+        if self.operator == operator::LEFT {
+            return record;
+        }
+        record.right_kind = self.right_kind;
+        if number_read(self.right_kind) {
+            record.right = self.right;
+        }
+        record
+    }
+
+    /// The record with 0 in every field that is not read.
+    pub fn plain(&self) -> Record {
+        self.over(&Record::default())
+    }
+}
+
+/// "For kinds 2 and 3 the number is ignored."
+fn number_read(kind: u8) -> bool {
+    kind != kind::VALUE && kind != kind::CHILDREN
+}
+
+impl Job {
+    /// The bytes of the job: variables, nodes, script, trailer.
+    pub fn encode(&self) -> Vec<u8> {
+        let mut bytes = Vec::new();
+        for variable in &self.variables {
+            bytes.push(variable.level);
+            bytes.extend(variable.spare);
+            bytes.extend(variable.value.to_le_bytes());
+        }
+        let nodes = bytes.len();
+        for node in &self.nodes {
+            bytes.extend(node.parent.to_le_bytes());
+            bytes.extend([node.existence, node.content, node.list]);
+            bytes.extend(node.spare);
+            bytes.extend(node.value.to_le_bytes());
+        }
+        let script = bytes.len();
+        for record in &self.script {
+            bytes.extend([record.command, record.target, record.operator]);
+            bytes.extend([record.left_kind, record.right_kind]);
+            bytes.extend(record.spare);
+            bytes.extend(record.left.to_le_bytes());
+            bytes.extend(record.right.to_le_bytes());
+        }
+        let trailer = bytes.len();
+        for offset in [0, nodes, script, trailer] {
+            bytes.extend((offset as u16).to_le_bytes());
+        }
+        bytes
+    }
+}
+
+/// "Numbers are little-endian".
+fn u16_at(bytes: &[u8], place: usize) -> u16 {
+    u16::from_le_bytes([bytes[place], bytes[place + 1]])
+}
+
+fn u32_at(bytes: &[u8], place: usize) -> u32 {
+    u32::from_le_bytes([
+        bytes[place],
+        bytes[place + 1],
+        bytes[place + 2],
+        bytes[place + 3],
+    ])
+}
+
+fn spare_at(bytes: &[u8], place: usize) -> [u8; 3] {
+    [bytes[place], bytes[place + 1], bytes[place + 2]]
+}
+
+fn variable_from(bytes: &[u8]) -> Variable {
+    Variable {
+        level: bytes[0],
+        spare: spare_at(bytes, 1),
+        value: u32_at(bytes, 4) as i32,
+    }
+}
+
+fn node_from(bytes: &[u8]) -> Node {
+    Node {
+        parent: u16_at(bytes, 0),
+        existence: bytes[2],
+        content: bytes[3],
+        list: bytes[4],
+        spare: spare_at(bytes, 5),
+        value: u32_at(bytes, 8) as i32,
+    }
+}
+
+fn record_from(bytes: &[u8]) -> Record {
+    Record {
+        command: bytes[0],
+        target: bytes[1],
+        operator: bytes[2],
+        left_kind: bytes[3],
+        right_kind: bytes[4],
+        spare: spare_at(bytes, 5),
+        left: u32_at(bytes, 8),
+        right: u32_at(bytes, 12),
+    }
+}

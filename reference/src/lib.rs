@@ -1,0 +1,37 @@
+//! A reference of the labelled-tree script monitor, written from the paper's
+//! text alone. It is plain rather than fast: a tree of owned nodes, a cursor
+//! that is a path, and one function for each rule.
+//!
+//! - [`job`]: the job's bytes and checks 1 to 8.
+//! - [`run`]: checks 9 and 10, the steps, the whole outcome.
+//! - [`portal`]: the two programs around a run, as functions.
+//! - [`public`]: public parts, agreement, and what a leak is.
+//! - [`generate`]: cases and pairs of cases from a seed.
+//! - [`coverage`]: what a set of generated cases has reached.
+//! - [`mistake`]: planted mistakes for trying a harness.
+//! - [`print`] and [`shrink`]: for failing cases.
+
+pub mod coverage;
+pub mod ending;
+pub mod generate;
+pub mod job;
+pub mod mistake;
+pub mod portal;
+pub mod print;
+pub mod public;
+pub mod random;
+pub mod run;
+pub mod shrink;
+pub mod source;
+pub mod tree;
+
+/// "A level is 0 (public) or 1 (house)."
+pub type Level = u8;
+
+pub const PUBLIC: Level = 0;
+pub const HOUSE: Level = 1;
+
+/// "Joining takes the higher."
+pub fn join(a: Level, b: Level) -> Level {
+    a.max(b)
+}

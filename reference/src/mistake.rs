@@ -1,0 +1,87 @@
+//! Planted mistakes, so that a harness can show that it finds them.
+//!
+//! A monitor with a mistake is the reference with one rule changed, at the
+//! place that names the mistake.
+
+#[derive(Clone, Copy, Debug, Default, PartialEq, Eq)]
+pub enum Mistake {
+    #[default]
+    None,
+    // The five traps of the paper, in its order.
+    /// A move under a house guard raises the cursor level and goes on.
+    MoveRaisesCursorLevel,
+    /// The level of children is the join of the children present.
+    ChildrenLevelFromChildren,
+    /// Root sets the cursor level to 0 under a house guard too.
+    RootResetsCursorLevel,
+    /// A removal is tested against the working node. It stops too often and
+    /// leaks nothing: no child or right sibling exists below its neighbour.
+    RemovalTestsWorkingNode,
+    /// The else branch runs without the guard's level.
+    ElseForgetsGuard,
+    // Arithmetic.
+    MeanRoundsTowardZero,
+    MeanOfWrappedSum,
+    SumSaturates,
+    LessIsUnsigned,
+    // Other rules of a step.
+    /// An expression's level is that of its left operand.
+    RightLevelForgotten,
+    /// An insertion is not tested against the old neighbour.
+    InsertionIgnoresNeighbour,
+    /// If and while push L in place of E.
+    GuardJoinsCursorLevel,
+    /// A move is tested for its rule before its node.
+    RuleBeforeMissing,
+    /// 23 is given at 512 live nodes, whatever the places lent.
+    TableFullAt512,
+    /// A record that stops counts as a step.
+    StopCountsStep,
+    /// The rule of this command is not tested.
+    NoRule(u8),
+    // Checks of the bytes.
+    /// Left is the record just before, if it has the same parent.
+    LeftIsPreviousRecord,
+    /// The right side is checked for operator 0 too.
+    RightSideAlwaysChecked,
+    /// A 17th nested block is accepted.
+    SeventeenBlocksAccepted,
+}
+
+/// The commands that have a rule.
+pub const RULED_COMMANDS: [u8; 12] = [1, 6, 7, 8, 9, 10, 11, 12, 13, 14, 15, 16];
+
+impl Mistake {
+    /// Every mistake, without `None` and `NoRule`.
+    pub const ALL: [Mistake; 18] = [
+        Mistake::MoveRaisesCursorLevel,
+        Mistake::ChildrenLevelFromChildren,
+        Mistake::RootResetsCursorLevel,
+        Mistake::RemovalTestsWorkingNode,
+        Mistake::ElseForgetsGuard,
+        Mistake::MeanRoundsTowardZero,
+        Mistake::MeanOfWrappedSum,
+        Mistake::SumSaturates,
+        Mistake::LessIsUnsigned,
+        Mistake::RightLevelForgotten,
+        Mistake::InsertionIgnoresNeighbour,
+        Mistake::GuardJoinsCursorLevel,
+        Mistake::RuleBeforeMissing,
+        Mistake::TableFullAt512,
+        Mistake::StopCountsStep,
+        Mistake::LeftIsPreviousRecord,
+        Mistake::RightSideAlwaysChecked,
+        Mistake::SeventeenBlocksAccepted,
+    ];
+
+    /// The mistakes by which public lines come to depend on house parts of an
+    /// accepted job.
+    pub const LEAKING: [Mistake; 6] = [
+        Mistake::MoveRaisesCursorLevel,
+        Mistake::ChildrenLevelFromChildren,
+        Mistake::RootResetsCursorLevel,
+        Mistake::ElseForgetsGuard,
+        Mistake::RightLevelForgotten,
+        Mistake::InsertionIgnoresNeighbour,
+    ];
+}

@@ -1,0 +1,586 @@
+//! Checks 9 and 10, the steps of a run, and its whole outcome.
+
+use crate::ending::Ending;
+use crate::job::{self, command, kind, operator, Block, Job, Record};
+use crate::mistake::Mistake;
+use crate::tree::{Path, Row, Tree};
+use crate::{join, Level, HOUSE, PUBLIC};
+
+pub const MAX_BUDGET: u64 = 1_000_000;
+pub const MAX_PLACES: usize = 512;
+
+/// The budget and the sizes of the lent buffers.
+#[derive(Clone, Copy, Debug, PartialEq, Eq)]
+pub struct Limits {
+    pub budget: u64,
+    /// Places of the node table.
+    pub places: usize,
+    /// Length of the variable buffer; of several slices, the shortest.
+    pub variables: usize,
+    /// Length of the line buffer.
+    pub lines: usize,
+}
+
+impl Limits {
+    /// A budget with buffers that every job fits into.
+    pub fn ample(budget: u64) -> Limits {
+        Limits {
+            budget,
+            places: MAX_PLACES,
+            variables: job::MAX_VARIABLES,
+            lines: 256,
+        }
+    }
+}
+
+/// "Answer: ending (0 for finished, else the number), record index, steps,
+/// line count", with the lines themselves and the last state.
+#[derive(Clone, Debug, PartialEq, Eq)]
+pub struct Outcome {
+    pub ending: Ending,
+    pub index: usize,
+    pub steps: u64,
+    pub lines: Vec<i32>,
+    /// None for a job turned back: it "changes no lent buffer".
+    pub last: Option<Last>,
+}
+
+/// "Its last variables and tree are those that stand when it has ended."
+#[derive(Clone, Debug, PartialEq, Eq)]
+pub struct Last {
+    /// Level and value of each variable.
+    pub variables: Vec<(Level, i32)>,
+    /// The tree in preorder.
+    pub tree: Vec<Row>,
+}
+
+/// What stands between two steps.
+#[derive(Clone, Debug)]
+pub struct State {
+    pub variables: Vec<(Level, i32)>,
+    pub tree: Tree,
+    /// The working node.
+    pub cursor: Path,
+    pub cursor_level: Level,
+    /// The guards of all open blocks, the outermost first.
+    pub guards: Vec<Level>,
+    /// The record to be carried out next.
+    pub next: usize,
+    pub steps: u64,
+    pub lines: Vec<i32>,
+}
+
+/// Called after each record carried out, with the state that it left.
+pub type Observer<'a> = &'a mut dyn FnMut(&State, &Record);
+
+/// The whole outcome of the job in `bytes` under `limits`.
+pub fn outcome(bytes: &[u8], limits: &Limits) -> Outcome {
+    outcome_with(bytes, limits, Mistake::None)
+}
+
+/// The same, by a monitor with a planted mistake.
+pub fn outcome_with(bytes: &[u8], limits: &Limits, mistake: Mistake) -> Outcome {
+    observed(bytes, limits, mistake, &mut |_, _| {})
+}
+
+/// The same, with an observer of every step.
+pub fn observed(bytes: &[u8], limits: &Limits, mistake: Mistake, observer: Observer) -> Outcome {
+    match job::decode_with(bytes, mistake) {
+        Ok(job) => run_job(&job, limits, mistake, observer),
+        Err(refusal) => turned_back(refusal.ending, refusal.index),
+    }
+}
+
+/// The outcome of an accepted job: checks 9 and 10, then the run.
+pub fn run_job(job: &Job, limits: &Limits, mistake: Mistake, observer: Observer) -> Outcome {
+    match check_limits(job, limits) {
+        Some(ending) => turned_back(ending, 0),
+        None => Monitor::new(job, limits, mistake).run(observer),
+    }
+}
+
+/// "steps and lines are 0 for 1 to 10"
+fn turned_back(ending: Ending, index: usize) -> Outcome {
+    Outcome {
+        ending,
+        index,
+        steps: 0,
+        lines: Vec::new(),
+        last: None,
+    }
+}
+
+/// Checks 9 and 10.
+fn check_limits(job: &Job, limits: &Limits) -> Option<Ending> {
+    if !(1..=MAX_BUDGET).contains(&limits.budget) {
+        return Some(Ending::Budget);
+    }
+    let table = (1..=MAX_PLACES).contains(&limits.places) && limits.places >= job.nodes.len();
+    let variables = limits.variables >= job.variables.len();
+    if table && variables {
+        None
+    } else {
+        Some(Ending::Buffer)
+    }
+}
+
+/// An expression's value and its level E.
+struct Evaluated {
+    value: i32,
+    level: Level,
+}
+
+/// A run: what is fixed, and the state.
+struct Monitor<'a> {
+    script: &'a [Record],
+    /// For each if, else, while and end, the block that it belongs to.
+    blocks: Vec<Option<Block>>,
+    limits: &'a Limits,
+    mistake: Mistake,
+    state: State,
+}
+
+impl<'a> Monitor<'a> {
+    fn new(job: &'a Job, limits: &'a Limits, mistake: Mistake) -> Monitor<'a> {
+        let mut blocks = vec![None; job.script.len()];
+        for block in job::pair_blocks(&job.script, mistake).expect("the job is accepted") {
+            blocks[block.opening] = Some(block);
+            blocks[block.end] = Some(block);
+            if let Some(otherwise) = block.otherwise {
+                blocks[otherwise] = Some(block);
+            }
+        }
+        let state = State {
+            variables: job.variables.iter().map(|v| (v.level, v.value)).collect(),
+            tree: Tree::from_records(&job.nodes),
+            // "The cursor starts at the root with cursor level 0."
+            cursor: Path::new(),
+            cursor_level: PUBLIC,
+            guards: Vec::new(),
+            next: 0,
+            steps: 0,
+            lines: Vec::new(),
+        };
+        Monitor {
+            script: &job.script,
+            blocks,
+            limits,
+            mistake,
+            state,
+        }
+    }
+
+    /// "At the script's end the run has finished, even with the budget used
+    /// up. Otherwise, if the steps equal the budget, stop 25."
+    fn run(mut self, observer: Observer) -> Outcome {
+        loop {
+            let next = self.state.next;
+            if next == self.script.len() {
+                return self.ended(Ending::Finished, 0);
+            }
+            if self.state.steps == self.limits.budget {
+                return self.ended(Ending::BudgetUsed, next);
+            }
+            let record = self.script[next];
+            if let Err(ending) = self.carry_out(&record) {
+                if self.mistake == Mistake::StopCountsStep {
+                    self.state.steps += 1;
+                }
+                return self.ended(ending, next);
+            }
+            // "Each record carried out is one step".
+            self.state.steps += 1;
+            observer(&self.state, &record);
+        }
+    }
+
+    fn ended(self, ending: Ending, index: usize) -> Outcome {
+        Outcome {
+            ending,
+            index,
+            steps: self.state.steps,
+            lines: self.state.lines,
+            last: Some(Last {
+                variables: self.state.variables,
+                tree: self.state.tree.preorder(),
+            }),
+        }
+    }
+
+    /// One record. A stop leaves the state as it was.
+    fn carry_out(&mut self, record: &Record) -> Result<(), Ending> {
+        match record.command {
+            command::NOTHING => {}
+            command::ASSIGN => self.assign(record)?,
+            command::IF => return self.open_if(record),
+            command::ELSE => return self.reach_else(),
+            command::WHILE => return self.open_while(record),
+            command::END => return self.close(),
+            command::PRINT => self.print(record)?,
+            command::ROOT => self.go_to_root()?,
+            command::UP | command::FIRST_CHILD | command::RIGHT_SIBLING => {
+                self.go_to_neighbour(record)?
+            }
+            command::NEW_FIRST_CHILD => self.new_first_child(record)?,
+            command::NEW_RIGHT_SIBLING => self.new_right_sibling(record)?,
+            command::REMOVE_FIRST_CHILD => self.remove_first_child()?,
+            command::REMOVE_RIGHT_SIBLING => self.remove_right_sibling()?,
+            command::SET_VALUE => self.set_value(record)?,
+            command::COVER => self.cover()?,
+            other => unreachable!("command {other} does not pass check 7"),
+        }
+        self.state.next += 1;
+        Ok(())
+    }
+
+    /// "The context level joins the guards of all open blocks."
+    fn context(&self) -> Level {
+        self.state.guards.iter().copied().fold(PUBLIC, join)
+    }
+
+    /// "C is context joined with cursor level."
+    fn c(&self) -> Level {
+        join(self.context(), self.state.cursor_level)
+    }
+
+    /// A stop 21 where the rule of the record does not hold.
+    fn rule(&self, holds: bool) -> Result<(), Ending> {
+        let command = self.script[self.state.next].command;
+        if holds || self.mistake == Mistake::NoRule(command) {
+            Ok(())
+        } else {
+            Err(Ending::Rule)
+        }
+    }
+
+    fn working_node(&self) -> &Tree {
+        self.state.tree.at(&self.state.cursor)
+    }
+
+    fn block(&self) -> Block {
+        self.blocks[self.state.next].expect("a record of a block")
+    }
+
+    /// Command 1: "L not above its level".
+    fn assign(&mut self, record: &Record) -> Result<(), Ending> {
+        let expression = self.evaluate(record);
+        let l = join(expression.level, self.c());
+        let target = record.target as usize;
+        self.rule(l <= self.state.variables[target].0)?;
+        self.state.variables[target].1 = expression.value;
+        Ok(())
+    }
+
+    /// Command 2: "push E; zero goes past else, or to end if none".
+    fn open_if(&mut self, record: &Record) -> Result<(), Ending> {
+        let guard = self.evaluate(record);
+        let block = self.block();
+        self.push_guard(guard.level);
+        self.state.next = match (guard.value, block.otherwise) {
+            (0, Some(otherwise)) => {
+                if self.mistake == Mistake::ElseForgetsGuard {
+                    self.state.guards.pop();
+                    self.state.guards.push(PUBLIC);
+                }
+                otherwise + 1
+            }
+            (0, None) => block.end,
+            _ => self.state.next + 1,
+        };
+        Ok(())
+    }
+
+    /// Command 3: "when reached, go to end".
+    fn reach_else(&mut self) -> Result<(), Ending> {
+        self.state.next = self.block().end;
+        Ok(())
+    }
+
+    /// Command 4: "nonzero: push E; zero: go past end, no push".
+    fn open_while(&mut self, record: &Record) -> Result<(), Ending> {
+        let guard = self.evaluate(record);
+        if guard.value == 0 {
+            self.state.next = self.block().end + 1;
+        } else {
+            self.push_guard(guard.level);
+            self.state.next += 1;
+        }
+        Ok(())
+    }
+
+    fn push_guard(&mut self, level: Level) {
+        let level = match self.mistake {
+            Mistake::GuardJoinsCursorLevel => join(level, self.c()),
+            _ => level,
+        };
+        self.state.guards.push(level);
+    }
+
+    /// Command 5: "pop; of a while: back to it".
+    fn close(&mut self) -> Result<(), Ending> {
+        let block = self.block();
+        self.state.guards.pop();
+        self.state.next = match self.script[block.opening].command {
+            command::WHILE => block.opening,
+            _ => self.state.next + 1,
+        };
+        Ok(())
+    }
+
+    /// Command 6: "L is 0"; 24 where the line buffer is full.
+    fn print(&mut self, record: &Record) -> Result<(), Ending> {
+        let expression = self.evaluate(record);
+        self.rule(join(expression.level, self.c()) == PUBLIC)?;
+        if self.state.lines.len() == self.limits.lines {
+            return Err(Ending::LinesFull);
+        }
+        self.state.lines.push(expression.value);
+        Ok(())
+    }
+
+    /// The rule of 7 to 10 and 16: "context not above cursor level".
+    fn move_rule(&self) -> Result<(), Ending> {
+        self.rule(self.context() <= self.state.cursor_level)
+    }
+
+    /// Command 7: "cursor level becomes the context".
+    fn go_to_root(&mut self) -> Result<(), Ending> {
+        if self.mistake != Mistake::MoveRaisesCursorLevel {
+            self.move_rule()?;
+        }
+        self.state.cursor_level = match self.mistake {
+            Mistake::RootResetsCursorLevel => PUBLIC,
+            _ => self.context(),
+        };
+        self.state.cursor = Path::new();
+        Ok(())
+    }
+
+    /// Commands 8, 9, 10: "cursor level joins the new node's existence"; 22
+    /// before 21.
+    fn go_to_neighbour(&mut self, record: &Record) -> Result<(), Ending> {
+        if self.mistake == Mistake::RuleBeforeMissing {
+            self.move_rule()?;
+        }
+        let destination = match record.command {
+            command::UP => self.up(),
+            command::FIRST_CHILD => self.first_child(),
+            _ => self.right_sibling(),
+        }
+        .ok_or(Ending::Missing)?;
+        if self.mistake == Mistake::MoveRaisesCursorLevel {
+            self.state.cursor_level = self.c();
+        }
+        self.move_rule()?;
+        let existence = self.state.tree.at(&destination).existence;
+        self.state.cursor = destination;
+        self.state.cursor_level = join(self.state.cursor_level, existence);
+        Ok(())
+    }
+
+    fn up(&self) -> Option<Path> {
+        let (_, above) = self.state.cursor.split_last()?;
+        Some(above.to_vec())
+    }
+
+    fn first_child(&self) -> Option<Path> {
+        self.working_node().children.first()?;
+        let mut path = self.state.cursor.clone();
+        path.push(0);
+        Some(path)
+    }
+
+    fn right_sibling(&self) -> Option<Path> {
+        let (place, above) = self.state.cursor.split_last()?;
+        self.state.tree.at(above).children.get(place + 1)?;
+        let mut path = above.to_vec();
+        path.push(place + 1);
+        Some(path)
+    }
+
+    /// Command 11: "C not above the list level of the parent, nor the
+    /// existence of the old first child". The parent is the working node.
+    fn new_first_child(&mut self, record: &Record) -> Result<(), Ending> {
+        let expression = self.evaluate(record);
+        let parent = self.working_node();
+        self.insertion_rule(parent, parent.children.first())?;
+        self.insertion_room()?;
+        let node = self.new_node(record, &expression);
+        let cursor = &self.state.cursor;
+        self.state.tree.at_mut(cursor).children.insert(0, node);
+        Ok(())
+    }
+
+    /// Command 12: "C not above the parent's list level, nor the existence of
+    /// the old right neighbour"; 22 at the root.
+    fn new_right_sibling(&mut self, record: &Record) -> Result<(), Ending> {
+        let expression = self.evaluate(record);
+        let (place, above) = self.state.cursor.split_last().ok_or(Ending::Missing)?;
+        let parent = self.state.tree.at(above);
+        self.insertion_rule(parent, parent.children.get(place + 1))?;
+        self.insertion_room()?;
+        let node = self.new_node(record, &expression);
+        self.state
+            .tree
+            .at_mut(above)
+            .children
+            .insert(place + 1, node);
+        Ok(())
+    }
+
+    fn insertion_rule(&self, parent: &Tree, neighbour: Option<&Tree>) -> Result<(), Ending> {
+        let c = self.c();
+        self.rule(c <= parent.list)?;
+        match neighbour {
+            Some(old) if self.mistake != Mistake::InsertionIgnoresNeighbour => {
+                self.rule(c <= old.existence)
+            }
+            _ => Ok(()),
+        }
+    }
+
+    /// 26: "C below the working node's existence"; then 23: "every table place
+    /// holds a live node".
+    fn insertion_room(&self) -> Result<(), Ending> {
+        if self.c() < self.working_node().existence {
+            return Err(Ending::BelowExistence);
+        }
+        let places = match self.mistake {
+            Mistake::TableFullAt512 => MAX_PLACES,
+            _ => self.limits.places,
+        };
+        if self.state.tree.count() == places {
+            return Err(Ending::TableFull);
+        }
+        Ok(())
+    }
+
+    /// "content is L, and 1 if the mark is odd; list is C, and 1 if the mark
+    /// is 2 or 3"
+    fn new_node(&self, record: &Record, expression: &Evaluated) -> Tree {
+        let c = self.c();
+        let l = join(expression.level, c);
+        let mark = record.target;
+        Tree {
+            value: expression.value,
+            existence: c,
+            content: if mark % 2 == 1 { HOUSE } else { l },
+            list: if mark == 2 || mark == 3 { HOUSE } else { c },
+            children: Vec::new(),
+        }
+    }
+
+    /// Command 13: "with its subtree".
+    fn remove_first_child(&mut self) -> Result<(), Ending> {
+        let child = self.first_child().ok_or(Ending::Missing)?;
+        self.removal_rule(&child)?;
+        let cursor = &self.state.cursor;
+        self.state.tree.at_mut(cursor).children.remove(0);
+        Ok(())
+    }
+
+    /// Command 14: "with its subtree".
+    fn remove_right_sibling(&mut self) -> Result<(), Ending> {
+        let sibling = self.right_sibling().ok_or(Ending::Missing)?;
+        self.removal_rule(&sibling)?;
+        let (place, above) = sibling.split_last().expect("not the root");
+        self.state.tree.at_mut(above).children.remove(*place);
+        Ok(())
+    }
+
+    /// "C not above its existence": of the node removed.
+    fn removal_rule(&self, removed: &Path) -> Result<(), Ending> {
+        let tested = match self.mistake {
+            Mistake::RemovalTestsWorkingNode => &self.state.cursor,
+            _ => removed,
+        };
+        self.rule(self.c() <= self.state.tree.at(tested).existence)
+    }
+
+    /// Command 15: "L not above its content".
+    fn set_value(&mut self, record: &Record) -> Result<(), Ending> {
+        let expression = self.evaluate(record);
+        self.rule(join(expression.level, self.c()) <= self.working_node().content)?;
+        let cursor = &self.state.cursor;
+        self.state.tree.at_mut(cursor).value = expression.value;
+        Ok(())
+    }
+
+    /// Command 16: "cursor level becomes 1", with the rule of 7.
+    fn cover(&mut self) -> Result<(), Ending> {
+        self.move_rule()?;
+        self.state.cursor_level = HOUSE;
+        Ok(())
+    }
+
+    /// "E is an expression's level: the join over the operands read".
+    fn evaluate(&self, record: &Record) -> Evaluated {
+        let left = self.operand(record.left_kind, record.left);
+        if record.operator == operator::LEFT {
+            return left;
+        }
+        let right = self.operand(record.right_kind, record.right);
+        Evaluated {
+            value: combine(record.operator, left.value, right.value, self.mistake),
+            level: match self.mistake {
+                Mistake::RightLevelForgotten => left.level,
+                _ => join(left.level, right.level),
+            },
+        }
+    }
+
+    /// "a constant is 0, a variable its level, value the cursor level with the
+    /// node's content, children the cursor level with its list level"
+    fn operand(&self, kind: u8, number: u32) -> Evaluated {
+        let node = self.working_node();
+        match kind {
+            kind::CONSTANT => Evaluated {
+                value: number as i32,
+                level: PUBLIC,
+            },
+            kind::VARIABLE => {
+                let (level, value) = self.state.variables[number as usize];
+                Evaluated { value, level }
+            }
+            kind::VALUE => Evaluated {
+                value: node.value,
+                level: join(self.state.cursor_level, node.content),
+            },
+            kind::CHILDREN => Evaluated {
+                value: node.children.len() as i32,
+                level: join(self.state.cursor_level, self.children_level(node)),
+            },
+            other => unreachable!("kind {other} does not pass check 7"),
+        }
+    }
+
+    fn children_level(&self, node: &Tree) -> Level {
+        match self.mistake {
+            Mistake::ChildrenLevelFromChildren => node
+                .children
+                .iter()
+                .map(|child| child.existence)
+                .fold(PUBLIC, join),
+            _ => node.list,
+        }
+    }
+}
+
+/// "Sums and differences wrap at 32 bits. The mean is rounded down, below zero
+/// too, of the exact sum."
+fn combine(operator: u8, left: i32, right: i32, mistake: Mistake) -> i32 {
+    match (operator, mistake) {
+        (operator::SUM, Mistake::SumSaturates) => left.saturating_add(right),
+        (operator::LESS, Mistake::LessIsUnsigned) => ((left as u32) < right as u32) as i32,
+        (operator::MEAN, Mistake::MeanOfWrappedSum) => left.wrapping_add(right).div_euclid(2),
+        (operator::MEAN, Mistake::MeanRoundsTowardZero) => {
+            ((i64::from(left) + i64::from(right)) / 2) as i32
+        }
+        (operator::SUM, _) => left.wrapping_add(right),
+        (operator::DIFFERENCE, _) => left.wrapping_sub(right),
+        (operator::EQUAL, _) => (left == right) as i32,
+        (operator::LESS, _) => (left < right) as i32,
+        (operator::MEAN, _) => (i64::from(left) + i64::from(right)).div_euclid(2) as i32,
+        (other, _) => unreachable!("operator {other} does not pass check 7"),
+    }
+}

@@ -1,0 +1,413 @@
+//! The smallest failing case, or pair, for a predicate: takes the first
+//! smaller one that still fails, until there is none.
+
+use crate::generate::{renumber, Case, Pair};
+use crate::job::{
+    self, command, kind, operator, Block, Job, Node, Record, Target, Variable, READS,
+};
+use crate::mistake::Mistake;
+use crate::run::Limits;
+
+/// Shrinks `start`, for which `failing` holds.
+pub fn case(start: &Case, failing: &dyn Fn(&Case) -> bool) -> Case {
+    let mut best = start.clone();
+    loop {
+        let found = smaller_cases(&best).find(failing);
+        match found {
+            Some(smaller) => best = smaller,
+            None => return best,
+        }
+    }
+}
+
+/// Shrinks `start`, for which `failing` holds; what comes out is a pair still.
+pub fn pair(start: &Pair, failing: &dyn Fn(&Pair) -> bool) -> Pair {
+    let mut best = start.clone();
+    loop {
+        let found = smaller_pairs(&best).find(|pair| pair.well_formed() && failing(pair));
+        match found {
+            Some(smaller) => best = smaller,
+            None => return best,
+        }
+    }
+}
+
+/// One way to make a job smaller.
+#[derive(Clone, Copy, Debug)]
+enum Edit {
+    RemoveRecords {
+        first: usize,
+        count: usize,
+    },
+    /// If, else and end, or while and end, without what is inside.
+    RemoveFrame(Block),
+    SetRecord(usize, Record),
+    /// With its subtree.
+    RemoveNode(usize),
+    SetNode(usize, Node),
+    RemoveVariable(usize),
+    SetVariable(usize, Variable),
+}
+
+fn smaller_cases(case: &Case) -> Box<dyn Iterator<Item = Case> + '_> {
+    let limits = smaller_limits(&case.limits).into_iter();
+    let limited = limits.map(|limits| Case {
+        limits,
+        bytes: case.bytes.clone(),
+    });
+    match job::split(&case.bytes) {
+        Ok(job) => {
+            let edited = edits(&job).into_iter().flat_map(move |edit| {
+                let smaller = apply(&job, edit);
+                // With as many free places as before, or with more.
+                let removed = job.nodes.len() - smaller.nodes.len();
+                let places = case.limits.places.saturating_sub(removed);
+                [places, case.limits.places].map(|places| Case {
+                    bytes: smaller.encode(),
+                    limits: Limits {
+                        places,
+                        ..case.limits
+                    },
+                })
+            });
+            Box::new(edited.chain(limited))
+        }
+        Err(_) => {
+            let bytes = smaller_bytes(&case.bytes).into_iter();
+            let cut = bytes.map(|bytes| Case {
+                bytes,
+                limits: case.limits,
+            });
+            Box::new(cut.chain(limited))
+        }
+    }
+}
+
+/// Edits of both sides, then of one. House nodes come last in both, so that a
+/// node of existence 0 has the same index on the left and on the right.
+fn smaller_pairs(pair: &Pair) -> Box<dyn Iterator<Item = Pair> + '_> {
+    let sorted = |case: &Case| public_first(&job::split(&case.bytes).expect("accepted"));
+    let (left, right) = (sorted(&pair.left), sorted(&pair.right));
+    let build = |left: &Job, right: &Job| Pair {
+        left: Case {
+            bytes: left.encode(),
+            limits: pair.left.limits,
+        },
+        right: Case {
+            bytes: right.encode(),
+            limits: pair.right.limits,
+        },
+    };
+    let in_order = build(&left, &right);
+    let (left_edits, right_edits) = (edits(&left), edits(&right));
+    let edited = left_edits
+        .clone()
+        .into_iter()
+        .map(|edit| (Some(edit), Some(edit)))
+        .chain(left_edits.into_iter().map(|edit| (Some(edit), None)))
+        .chain(right_edits.into_iter().map(|edit| (None, Some(edit))))
+        .map(move |(on_left, on_right)| {
+            let edit = |job: &Job, edit: Option<Edit>| match edit {
+                Some(edit) if fits(job, edit) => apply(job, edit),
+                _ => job.clone(),
+            };
+            build(&edit(&left, on_left), &edit(&right, on_right))
+        });
+    let limited = smaller_limits(&pair.left.limits).into_iter().map(|limits| {
+        let mut smaller = pair.clone();
+        smaller.left.limits = limits;
+        smaller.right.limits = limits;
+        smaller
+    });
+    let candidates = std::iter::once(in_order).chain(edited).chain(limited);
+    Box::new(candidates.filter(move |candidate| candidate != pair))
+}
+
+/// The nodes of existence 0 before all others.
+fn public_first(job: &Job) -> Job {
+    let (public, house): (Vec<usize>, Vec<usize>) =
+        (0..job.nodes.len()).partition(|&index| job.nodes[index].existence == 0);
+    let order = [preorder_of(job, &public), house].concat();
+    Job {
+        nodes: renumber(&job.nodes, &order),
+        ..job.clone()
+    }
+}
+
+/// `indexes` in preorder, which does not depend on the record order.
+fn preorder_of(job: &Job, indexes: &[usize]) -> Vec<usize> {
+    let mut order = Vec::new();
+    let mut open = vec![0];
+    while let Some(index) = open.pop() {
+        order.push(index);
+        let is_child = |child: &&usize| **child > 0 && job.nodes[**child].parent as usize == index;
+        open.extend(indexes.iter().rev().filter(is_child));
+    }
+    order
+}
+
+fn edits(job: &Job) -> Vec<Edit> {
+    let mut edits = Vec::new();
+    let length = job.script.len();
+    let mut count = length;
+    while count > 0 {
+        let starts = (0..=length - count).step_by(count.div_ceil(4));
+        edits.extend(starts.map(|first| Edit::RemoveRecords { first, count }));
+        count /= 2;
+    }
+    for block in job::pair_blocks(&job.script, Mistake::None).unwrap_or_default() {
+        let count = block.end - block.opening + 1;
+        edits.push(Edit::RemoveRecords {
+            first: block.opening,
+            count,
+        });
+        edits.push(Edit::RemoveFrame(block));
+    }
+    edits.extend((0..job.nodes.len()).rev().map(Edit::RemoveNode));
+    edits.extend((0..job.variables.len()).rev().map(Edit::RemoveVariable));
+    for (index, record) in job.script.iter().enumerate() {
+        edits.extend(
+            simpler_records(record)
+                .into_iter()
+                .map(|r| Edit::SetRecord(index, r)),
+        );
+    }
+    for (index, node) in job.nodes.iter().enumerate() {
+        edits.extend(
+            simpler_nodes(node)
+                .into_iter()
+                .map(|n| Edit::SetNode(index, n)),
+        );
+    }
+    for (index, variable) in job.variables.iter().enumerate() {
+        let simpler = simpler_variables(variable).into_iter();
+        edits.extend(simpler.map(|v| Edit::SetVariable(index, v)));
+    }
+    edits
+}
+
+/// Whether the edit's indexes exist in `job`, which may be the other side of
+/// the pair that the edit was made for.
+fn fits(job: &Job, edit: Edit) -> bool {
+    match edit {
+        Edit::RemoveNode(index) | Edit::SetNode(index, _) => index < job.nodes.len(),
+        _ => true,
+    }
+}
+
+fn apply(job: &Job, edit: Edit) -> Job {
+    let mut job = job.clone();
+    match edit {
+        Edit::RemoveRecords { first, count } => drop(job.script.drain(first..first + count)),
+        Edit::RemoveFrame(block) => {
+            job.script.remove(block.end);
+            if let Some(otherwise) = block.otherwise {
+                job.script.remove(otherwise);
+            }
+            job.script.remove(block.opening);
+        }
+        Edit::SetRecord(index, record) => job.script[index] = record,
+        Edit::RemoveNode(index) => job.nodes = without_subtree(&job.nodes, index),
+        Edit::SetNode(index, node) => {
+            let parent = job.nodes[index].parent;
+            job.nodes[index] = Node { parent, ..node };
+        }
+        Edit::RemoveVariable(index) => remove_variable(&mut job, index),
+        Edit::SetVariable(index, variable) => job.variables[index] = variable,
+    }
+    job
+}
+
+fn without_subtree(nodes: &[Node], index: usize) -> Vec<Node> {
+    let mut removed = vec![index];
+    for (later, node) in nodes.iter().enumerate().skip(index + 1) {
+        if removed.contains(&(node.parent as usize)) {
+            removed.push(later);
+        }
+    }
+    let kept: Vec<usize> = (0..nodes.len()).filter(|i| !removed.contains(i)).collect();
+    renumber(nodes, &kept)
+}
+
+/// Takes a variable away; the indexes above it in the script go down by one.
+fn remove_variable(job: &mut Job, index: usize) {
+    job.variables.remove(index);
+    for record in &mut job.script {
+        let target = READS.get(record.command as usize).map(|reads| reads.target);
+        if target == Some(Target::Variable) && record.target as usize > index {
+            record.target -= 1;
+        }
+        if record.left_kind == kind::VARIABLE && record.left as usize > index {
+            record.left -= 1;
+        }
+        if record.right_kind == kind::VARIABLE && record.right as usize > index {
+            record.right -= 1;
+        }
+    }
+}
+
+fn simpler_records(record: &Record) -> Vec<Record> {
+    let mut simpler = vec![record.plain()];
+    let opens = matches!(record.command, command::IF | command::WHILE);
+    if !opens && !matches!(record.command, command::ELSE | command::END) {
+        simpler.push(Record {
+            command: command::NOTHING,
+            ..Record::default()
+        });
+    }
+    if READS
+        .get(record.command as usize)
+        .is_some_and(|reads| reads.expression)
+    {
+        simpler.extend(simpler_expressions(record));
+    }
+    simpler.retain(|candidate| candidate != record);
+    simpler
+}
+
+fn simpler_expressions(record: &Record) -> Vec<Record> {
+    let mut simpler = Vec::new();
+    if record.operator != operator::LEFT {
+        let swapped = Record {
+            left_kind: record.right_kind,
+            left: record.right,
+            ..*record
+        };
+        for side in [*record, swapped] {
+            simpler.push(Record {
+                operator: operator::LEFT,
+                right_kind: 0,
+                right: 0,
+                ..side
+            });
+        }
+    }
+    for number in smaller_numbers(record.left_kind, record.left) {
+        simpler.push(Record {
+            left_kind: kind::CONSTANT,
+            left: number,
+            ..*record
+        });
+    }
+    if record.operator != operator::LEFT {
+        for number in smaller_numbers(record.right_kind, record.right) {
+            simpler.push(Record {
+                right_kind: kind::CONSTANT,
+                right: number,
+                ..*record
+            });
+        }
+    }
+    simpler
+}
+
+fn smaller_numbers(kind: u8, number: u32) -> Vec<u32> {
+    match (kind, number) {
+        (kind::CONSTANT, 0) => vec![],
+        (kind::CONSTANT, 1) => vec![0],
+        _ => vec![0, 1],
+    }
+}
+
+fn simpler_nodes(node: &Node) -> Vec<Node> {
+    let mut simpler = vec![
+        Node {
+            spare: [0; 3],
+            ..*node
+        },
+        Node { value: 0, ..*node },
+        Node {
+            existence: 0,
+            ..*node
+        },
+        Node {
+            content: 0,
+            ..*node
+        },
+        Node { list: 0, ..*node },
+        Node {
+            existence: 0,
+            content: 0,
+            list: 0,
+            ..*node
+        },
+    ];
+    simpler.retain(|candidate| candidate != node);
+    simpler
+}
+
+fn simpler_variables(variable: &Variable) -> Vec<Variable> {
+    let mut simpler = vec![
+        Variable {
+            spare: [0; 3],
+            ..*variable
+        },
+        Variable {
+            level: 0,
+            ..*variable
+        },
+        Variable {
+            value: 0,
+            ..*variable
+        },
+    ];
+    if variable.value != 0 {
+        simpler.push(Variable {
+            value: 1,
+            ..*variable
+        });
+    }
+    simpler.retain(|candidate| candidate != variable);
+    simpler
+}
+
+/// Ample buffers, and lower budgets.
+fn smaller_limits(limits: &Limits) -> Vec<Limits> {
+    let ample = Limits::ample(limits.budget);
+    let mut smaller = vec![
+        Limits {
+            places: ample.places,
+            ..*limits
+        },
+        Limits {
+            variables: ample.variables,
+            ..*limits
+        },
+        Limits {
+            lines: ample.lines,
+            ..*limits
+        },
+        Limits {
+            budget: limits.budget.min(100),
+            ..*limits
+        },
+        Limits {
+            budget: limits.budget / 2,
+            ..*limits
+        },
+        Limits {
+            budget: limits.budget.saturating_sub(1),
+            ..*limits
+        },
+    ];
+    smaller.retain(|candidate| candidate != limits);
+    smaller
+}
+
+/// Fewer bytes, or a byte set to 0.
+fn smaller_bytes(bytes: &[u8]) -> Vec<Vec<u8>> {
+    let mut smaller = Vec::new();
+    let mut count = bytes.len();
+    while count > 0 {
+        for first in (0..=bytes.len() - count).step_by(count) {
+            smaller.push([&bytes[..first], &bytes[first + count..]].concat());
+        }
+        count /= 2;
+    }
+    for place in (0..bytes.len()).filter(|&place| bytes[place] != 0) {
+        let mut zeroed = bytes.to_vec();
+        zeroed[place] = 0;
+        smaller.push(zeroed);
+    }
+    smaller
+}

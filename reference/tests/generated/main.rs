@@ -1,0 +1,24 @@
+//! What the generated cases and pairs reach and find.
+
+mod coverage;
+mod mistakes;
+mod pairs;
+mod shrinking;
+
+use std::sync::OnceLock;
+
+use reference::generate::{self, Case, Pair};
+
+const SEEDS: u64 = 20_000;
+
+/// The cases of all seeds, made once.
+fn cases() -> &'static [Case] {
+    static CASES: OnceLock<Vec<Case>> = OnceLock::new();
+    CASES.get_or_init(|| (0..SEEDS).map(generate::case).collect())
+}
+
+/// The pairs of all seeds, made once.
+fn pairs() -> &'static [Pair] {
+    static PAIRS: OnceLock<Vec<Pair>> = OnceLock::new();
+    PAIRS.get_or_init(|| (0..SEEDS).map(generate::pair).collect())
+}

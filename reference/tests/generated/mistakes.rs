@@ -1,0 +1,28 @@
+use reference::mistake::{Mistake, RULED_COMMANDS};
+use reference::run::{self, Outcome};
+
+use super::cases;
+
+/// Every mistake shows in the outcome of some generated case.
+#[test]
+fn every_mistake_is_found_by_comparison() {
+    let right: Vec<Outcome> = cases()
+        .iter()
+        .map(|case| run::outcome(&case.bytes, &case.limits))
+        .collect();
+    for mistake in Mistake::ALL
+        .into_iter()
+        .chain(RULED_COMMANDS.map(Mistake::NoRule))
+    {
+        let found = cases().iter().zip(&right).position(|(case, right)| {
+            run::outcome_with(&case.bytes, &case.limits, mistake) != *right
+        });
+        println!("{mistake:?}: case {found:?}");
+        assert!(found.is_some(), "{mistake:?}");
+    }
+}
+
+#[test]
+fn no_mistake_is_the_default() {
+    assert_eq!(Mistake::default(), Mistake::None);
+}
