@@ -1,6 +1,4 @@
 // Puts jobs in text form, one to a line of standard input, through the checks, and prints what each comes to.
-mod text;
-
 use job::Checked;
 use libc::STDIN_FILENO;
 use libc::STDOUT_FILENO;

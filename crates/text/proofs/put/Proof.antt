@@ -2,8 +2,8 @@
 use native.Mathlib.Omega.{arith}
 use lib.ListN.{length-set}
 use borrow.Author.Needs.{needs}
-use Rattle.vectors.proofs.text.put.Statement.{statement}
-use Rattle.vectors.proofs.text.put.Tie as tie
+use Rattle.text.proofs.put.Statement.{statement}
+use Rattle.text.proofs.put.Tie as tie
 
 returns-4 : tie.Need-returns-4
 returns-4 c = (simp length-set (omega arith), search needs)

@@ -3,8 +3,8 @@ use mathlib.Core.Path.{_≡_}
 use Prim.Native.Nat.{_-_, _≤_}
 use lib.ListN.{length}
 use borrow.Author.Needs.{needs}
-use Rattle.vectors.proofs.text.append.Statement.{statement}
-use Rattle.vectors.proofs.text.append.Tie as tie
+use Rattle.text.proofs.append.Statement.{statement}
+use Rattle.text.proofs.append.Tie as tie
 
 abbrev Inv-loop : tie.InvT-loop
 Inv-loop text bytes₀ n s₀ i₀ bytes s i = (length bytes ≡ length bytes₀) × (s .count ≤ length bytes) × (s .high ≤ 16)

@@ -4,8 +4,8 @@ use Prim.Native.Nat.{_-_, _≤_}
 use lib.ListN.{length}
 use Rattle.io.proofs.Counting.{counts}
 use borrow.Author.Needs.{needs}
-use Rattle.vectors.proofs.text.expand.Statement.{statement}
-use Rattle.vectors.proofs.text.expand.Tie as tie
+use Rattle.text.proofs.expand.Statement.{statement}
+use Rattle.text.proofs.expand.Tie as tie
 
 abbrev Inv-loop : tie.InvT-loop
 Inv-loop text bytes₀ n₀ i₀ bytes n i = (length bytes ≡ length bytes₀) × (n ≤ length bytes)

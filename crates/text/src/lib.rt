@@ -29,12 +29,12 @@ fn digit(c: u8) -> u8
     }
 }
 
-// A number with one digit more. What follows five digits is left out.
+// A number with one digit more. What follows eight digits is left out.
 fn more(value: usize, d: u8) -> usize
-    requires { ⌜ value < 100000 ⌝ }
-    ensures { λ r. ⌜ r < 100000 ⌝ }
+    requires { ⌜ value < 100000000 ⌝ }
+    ensures { λ r. ⌜ r < 100000000 ⌝ }
 {
-    if value < 10000 {
+    if value < 10000000 {
         if d < 10 {
             return value * 10 + (d as usize);
         }
@@ -42,9 +42,9 @@ fn more(value: usize, d: u8) -> usize
     value
 }
 
-// The number that the decimal digits spell.
-fn decimal(text: &[u8]) -> usize
-    ensures { λ r. ⌜ r < 100000 ⌝ }
+// The number that the decimal digits spell, whatever else stands among them.
+pub fn decimal(text: &[u8]) -> usize
+    ensures { λ r. ⌜ r < 100000000 ⌝ }
 {
     let mut value = 0;
     let mut i = 0;

@@ -3,8 +3,8 @@ use mathlib.Core.Path.{_≡_}
 use Prim.Native.Nat.{_≤_}
 use lib.ListN.{length}
 use borrow.Author.Needs.{needs}
-use Rattle.vectors.proofs.text.repeat.Statement.{statement}
-use Rattle.vectors.proofs.text.repeat.Tie as tie
+use Rattle.text.proofs.repeat.Statement.{statement}
+use Rattle.text.proofs.repeat.Tie as tie
 
 abbrev Inv-loop : tie.InvT-loop
 Inv-loop text times bytes₀ n count₀ left₀ bytes count left = (length bytes ≡ length bytes₀) × (count ≤ length bytes)
