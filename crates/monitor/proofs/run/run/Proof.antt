@@ -41,9 +41,21 @@ returns c =
 step-requires : tie.Need-step-requires Inv-loop μ-loop
 step-requires c κs =
     let p = c .before .before .before .before .before .before .before .before .before .before .before .before .pre in
-    let h = c .before .before .before .before .before .before .before .loop .inv in
-    (p .0, (h .0 .safe, (c .before .before .before .if1 .left, omega (arith, h .0 .early, c .before .before .before .before .before .before .loop-test
-    .taken))))
+    let h = c .before .before .before .before .before .before .before .loop .inv in (
+      p .0,
+      (
+        h .0 .safe,
+        (
+          c .before .before .before .if1 .left,
+          omega (
+            arith,
+            h .0 .early,
+            c .before .before .before .before .before .before .loop-test
+                .taken,
+          ),
+        ),
+      ),
+    )
 
 same-length-4 : tie.Need-same-length-4 Inv-loop μ-loop
 same-length-4 c = search needs
@@ -73,15 +85,14 @@ loop-again : tie.Need-loop-again Inv-loop μ-loop
 loop-again c =
     let p = c .before .before .before .before .before .before .before .before .before .before .before .before .before .before .before .before .before .before .before .before .pre in
     let h = c .before .before .before .before .before .before .before .before .before .before .before .before .before .before .before .loop .inv in
-    let s = c .before .before .before .before .before .before .before .step .ensures in
-    (
-  goes-on _ (p .0) _ _ _ _ _ _ (h .0) (c .before .before .before .before .before .before .before .before .before .before .before .before .before
-  .before .loop-test .taken) (c .before .before .before .before .before .before .before .before .before .before .before .if1 .left) _ _ s (c .if2
-  .left),
-  c .before .before .before .before .before .before .words .given ∙ h .1,
-  c .before .before .before .before .values .given ∙ h .2,
-  c .before .before .before .lines .given ∙ h .3,
-)
+    let s = c .before .before .before .before .before .before .before .step .ensures in (
+      goes-on _ (p .0) _ _ _ _ _ _ (h .0) (c .before .before .before .before .before .before .before .before .before .before .before .before .before
+          .before .loop-test .taken) (c .before .before .before .before .before .before .before .before .before .before .before .if1 .left) _ _ s (c .if2
+          .left),
+      c .before .before .before .before .before .before .words .given ∙ h .1,
+      c .before .before .before .before .values .given ∙ h .2,
+      c .before .before .before .lines .given ∙ h .3,
+    )
 
 same-length-7 : tie.Need-same-length-7 Inv-loop μ-loop
 same-length-7 c = search needs

@@ -21,9 +21,13 @@ assign-requires : tie.Need-assign-requires
 unfolding rows
 assign-requires c κs =
     let p = c .before .before .before .before .before .before .before .before .before .before .pre in
-    let f = c .before .before .before .fields-at .ensures in
-    (readable _ (p .0) _ _ (p .1 .0) (p .1 .1 .0), (reads-by _ (p .0) _ _ (p .1 .0) (p .1 .1 .0) _ f 1 (c .before .before .match .keys2) refl,
-    target-by _ (p .0) _ _ (p .1 .0) (p .1 .1 .0) _ f (c .before .before .match .keys2)))
+    let f = c .before .before .before .fields-at .ensures in (
+      readable _ (p .0) _ _ (p .1 .0) (p .1 .1 .0),
+      (
+        reads-by _ (p .0) _ _ (p .1 .0) (p .1 .1 .0) _ f 1 (c .before .before .match .keys2) refl,
+        target-by _ (p .0) _ _ (p .1 .0) (p .1 .1 .0) _ f (c .before .before .match .keys2),
+      ),
+    )
 
 onward-requires-2 : tie.Need-onward-requires-2
 onward-requires-2 c κs =
@@ -96,9 +100,13 @@ output-requires : tie.Need-output-requires
 unfolding rows
 output-requires c κs =
     let p = c .before .before .before .before .before .before .before .before .before .before .before .pre in
-    let f = c .before .before .before .before .fields-at .ensures in
-    (readable _ (p .0) _ _ (p .1 .0) (p .1 .1 .0), (reads-by _ (p .0) _ _ (p .1 .0) (p .1 .1 .0) _ f 6 (c .before .before .before .match .keys7) refl,
-    p .1 .0 .room))
+    let f = c .before .before .before .before .fields-at .ensures in (
+      readable _ (p .0) _ _ (p .1 .0) (p .1 .1 .0),
+      (
+        reads-by _ (p .0) _ _ (p .1 .0) (p .1 .1 .0) _ f 6 (c .before .before .before .match .keys7) refl,
+        p .1 .0 .room,
+      ),
+    )
 
 onward-requires-3 : tie.Need-onward-requires-3
 onward-requires-3 c κs =
@@ -125,11 +133,18 @@ onward-requires-5 c κs = search needs
 
 go-requires : tie.Need-go-requires
 go-requires c κs =
-    let p = c .before .before .before .before .before .before .before .before .before .before .pre in
-    (at-cursor _ (p .0) _ _ (p .1 .0) (p .1 .1 .0), (from-seven _ (c .before .before .match .rest .0 .0 .0 .0 .0 .0 .0 .0 .1) (c .before .before
-    .match .rest .0 .0 .0 .0 .0 .0 .0 .1) (c .before .before .match .rest .0 .0 .0 .0 .0 .0 .1) (c .before .before .match .rest .0 .0 .0 .0 .0 .1) (c
-    .before .before .match .rest .0 .0 .0 .0 .1) (c .before .before .match .rest .0 .0 .0 .1) (c .before .before .match .rest .0 .0 .1), omega (arith,
-    c .before .if1 .taken)))
+    let p = c .before .before .before .before .before .before .before .before .before .before .pre in (
+      at-cursor _ (p .0) _ _ (p .1 .0) (p .1 .1 .0),
+      (
+        from-seven _ (c .before .before .match .rest .0 .0 .0 .0 .0 .0 .0 .0 .1) (c .before .before
+            .match .rest .0 .0 .0 .0 .0 .0 .0 .1) (c .before .before .match .rest .0 .0 .0 .0 .0 .0 .1) (c .before .before .match .rest .0 .0 .0 .0 .0 .1) (c
+            .before .before .match .rest .0 .0 .0 .0 .1) (c .before .before .match .rest .0 .0 .0 .1) (c .before .before .match .rest .0 .0 .1),
+        omega (
+          arith,
+          c .before .if1 .taken,
+        ),
+      ),
+    )
 
 onward-requires-6 : tie.Need-onward-requires-6
 onward-requires-6 c κs =
@@ -142,10 +157,20 @@ side-requires c κs = search needs
 insert-requires : tie.Need-insert-requires
 insert-requires c κs =
     let p = c .before .before .before .before .before .before .before .before .before .before .before .before .before .pre in
-    let f = c .before .before .before .before .before .before .fields-at .ensures in
-    (readable _ (p .0) _ _ (p .1 .0) (p .1 .1 .0), (reads-insert _ (p .0) _ _ (p .1 .0) (p .1 .1 .0) _ f (c .before .before .before .before .if1
-    .left) (c .before .before .before .if2 .taken), omega (arith, c .before .before .side .ensures, c .before .before .before .before .if1 .left, c
-    .before .before .before .if2 .taken)))
+    let f = c .before .before .before .before .before .before .fields-at .ensures in (
+      readable _ (p .0) _ _ (p .1 .0) (p .1 .1 .0),
+      (
+        reads-insert _ (p .0) _ _ (p .1 .0) (p .1 .1 .0) _ f (c .before .before .before .before .if1
+            .left) (c .before .before .before .if2 .taken),
+        omega (
+          arith,
+          c .before .before .side .ensures,
+          c .before .before .before .before .if1 .left,
+          c
+              .before .before .before .if2 .taken,
+        ),
+      ),
+    )
 
 onward-requires-7 : tie.Need-onward-requires-7
 onward-requires-7 c κs =
@@ -157,9 +182,16 @@ side-requires-2 c κs = search needs
 
 remove-requires : tie.Need-remove-requires
 remove-requires c κs =
-    let p = c .before .before .before .before .before .before .before .before .before .before .before .before .before .pre in
-    (at-cursor _ (p .0) _ _ (p .1 .0) (p .1 .1 .0), omega (arith, c .before .side2 .ensures, c .before .before .before .if2 .left, c .before .before
-    .if3 .taken))
+    let p = c .before .before .before .before .before .before .before .before .before .before .before .before .before .pre in (
+      at-cursor _ (p .0) _ _ (p .1 .0) (p .1 .1 .0),
+      omega (
+        arith,
+        c .before .side2 .ensures,
+        c .before .before .before .if2 .left,
+        c .before .before
+            .if3 .taken,
+      ),
+    )
 
 onward-requires-8 : tie.Need-onward-requires-8
 onward-requires-8 c κs =
@@ -300,9 +332,18 @@ returns-11 c =
     inserts _ (p .0) _ _ (p .1 .0) (p .1 .1 .0) _ f _ refl _ _ _ _ (c .before .before .before .before .before .before .before .before .before .before
     .before .top .ensures)
     (record { words = c .before .before .words2 .given; levels = refl; values = refl; board = refl })
-    (c .onward7 .ensures) _ (omega (arith, c .before .before .before .before .before .before .side .ensures, c .before .before .before .before .before
-    .before .before .before .if1 .left)) (omega (arith, c .before .before .before .before .before .before .side .ensures, c .before .before .before
-    .before .before .before .before .before .if1 .left, c .before .before .before .before .before .before .before .if2 .taken))
+    (c .onward7 .ensures) _ (omega (
+      arith,
+      c .before .before .before .before .before .before .side .ensures,
+      c .before .before .before .before .before
+          .before .before .before .if1 .left,
+    )) (omega (
+      arith,
+      c .before .before .before .before .before .before .side .ensures,
+      c .before .before .before
+          .before .before .before .before .before .if1 .left,
+      c .before .before .before .before .before .before .before .if2 .taken,
+    ))
     (c .before .before .before .insert .ensures _)
 
 same-length-15 : tie.Need-same-length-15
@@ -315,9 +356,18 @@ returns-12 c =
     removes _ (p .0) _ _ (p .1 .0) (p .1 .1 .0) _ f _ refl _ _ _ _ (c .before .before .before .before .before .before .before .before .before .before
     .before .top .ensures)
     (record { words = c .before .before .words3 .given; levels = refl; values = refl; board = refl })
-    (c .onward8 .ensures) _ (omega (arith, c .before .before .before .before .before .side2 .ensures, c .before .before .before .before .before
-    .before .before .if2 .left)) (omega (arith, c .before .before .before .before .before .side2 .ensures, c .before .before .before .before .before
-    .before .before .if2 .left, c .before .before .before .before .before .before .if3 .taken))
+    (c .onward8 .ensures) _ (omega (
+      arith,
+      c .before .before .before .before .before .side2 .ensures,
+      c .before .before .before .before .before
+          .before .before .if2 .left,
+    )) (omega (
+      arith,
+      c .before .before .before .before .before .side2 .ensures,
+      c .before .before .before .before .before
+          .before .before .if2 .left,
+      c .before .before .before .before .before .before .if3 .taken,
+    ))
     (c .before .before .before .remove .ensures _ _ _ _)
 
 returns-13 : tie.Need-returns-13
