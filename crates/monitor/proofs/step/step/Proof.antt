@@ -8,15 +8,6 @@ use borrow.Author.Needs.{needs}
 use Rattle.monitor.proofs.step.step.Statement.{statement}
 use Rattle.monitor.proofs.step.step.Tie as tie
 
-top-requires : tie.Need-top-requires
-top-requires c κs = search needs
-
-fields-at-requires : tie.Need-fields-at-requires
-fields-at-requires c κs = search needs
-
-onward-requires : tie.Need-onward-requires
-onward-requires c κs = search needs
-
 assign-requires : tie.Need-assign-requires
 unfolding rows
 assign-requires c κs =
@@ -41,60 +32,12 @@ evaluate-requires c κs =
     let f = c .before .before .before .fields-at .ensures in
     (readable _ (p .0) _ _ (p .1 .0) (p .1 .1 .0), reads-by _ (p .0) _ _ (p .1 .0) (p .1 .1 .0) _ f 2 (c .before .before .match .keys3) refl)
 
-mul-index : tie.Need-mul-index
-mul-index c = search needs
-
-shared-slice-read-index : tie.Need-shared-slice-read-index
-shared-slice-read-index c = search needs
-
-index-requires : tie.Need-index-requires
-index-requires c κs = search needs
-
-enter-if-requires : tie.Need-enter-if-requires
-enter-if-requires c κs = search needs
-
-mul-index-2 : tie.Need-mul-index-2
-mul-index-2 c = search needs
-
-shared-slice-read-index-2 : tie.Need-shared-slice-read-index-2
-shared-slice-read-index-2 c = search needs
-
-index-requires-2 : tie.Need-index-requires-2
-index-requires-2 c κs = search needs
-
-jump-requires : tie.Need-jump-requires
-jump-requires c κs = search needs
-
 evaluate-requires-2 : tie.Need-evaluate-requires-2
 unfolding rows
 evaluate-requires-2 c κs =
     let p = c .before .before .before .before .before .before .before .before .before .before .pre in
     let f = c .before .before .before .fields-at .ensures in
     (readable _ (p .0) _ _ (p .1 .0) (p .1 .1 .0), reads-by _ (p .0) _ _ (p .1 .0) (p .1 .1 .0) _ f 4 (c .before .before .match .keys5) refl)
-
-mul-index-3 : tie.Need-mul-index-3
-mul-index-3 c = search needs
-
-shared-slice-read-index-3 : tie.Need-shared-slice-read-index-3
-shared-slice-read-index-3 c = search needs
-
-index-requires-3 : tie.Need-index-requires-3
-index-requires-3 c κs = search needs
-
-enter-while-requires : tie.Need-enter-while-requires
-enter-while-requires c κs = search needs
-
-mul-index-4 : tie.Need-mul-index-4
-mul-index-4 c = search needs
-
-shared-slice-read-index-4 : tie.Need-shared-slice-read-index-4
-shared-slice-read-index-4 c = search needs
-
-index-requires-4 : tie.Need-index-requires-4
-index-requires-4 c κs = search needs
-
-leave-requires : tie.Need-leave-requires
-leave-requires c κs = search needs
 
 output-requires : tie.Need-output-requires
 unfolding rows
@@ -125,12 +68,6 @@ onward-requires-4 c κs =
     let p = c .before .before .before .before .before .before .before .before .before .before .before .before .before .pre in
     timely _ (p .0) _ _ (p .1 .0) (p .1 .1 .0) (p .1 .1 .1)
 
-raise-requires : tie.Need-raise-requires
-raise-requires c κs = search needs
-
-onward-requires-5 : tie.Need-onward-requires-5
-onward-requires-5 c κs = search needs
-
 go-requires : tie.Need-go-requires
 go-requires c κs =
     let p = c .before .before .before .before .before .before .before .before .before .before .pre in (
@@ -150,9 +87,6 @@ onward-requires-6 : tie.Need-onward-requires-6
 onward-requires-6 c κs =
     let p = c .before .before .before .before .before .before .before .before .before .before .before .pre in
     timely _ (p .0) _ _ (p .1 .0) (p .1 .1 .0) (p .1 .1 .1)
-
-side-requires : tie.Need-side-requires
-side-requires c κs = search needs
 
 insert-requires : tie.Need-insert-requires
 insert-requires c κs =
@@ -177,9 +111,6 @@ onward-requires-7 c κs =
     let p = c .before .before .before .before .before .before .before .before .before .before .before .before .before .before .before .before .pre in
     timely _ (p .0) _ _ (p .1 .0) (p .1 .1 .0) (p .1 .1 .1)
 
-side-requires-2 : tie.Need-side-requires-2
-side-requires-2 c κs = search needs
-
 remove-requires : tie.Need-remove-requires
 remove-requires c κs =
     let p = c .before .before .before .before .before .before .before .before .before .before .before .before .before .pre in (
@@ -198,9 +129,6 @@ onward-requires-8 c κs =
     let p = c .before .before .before .before .before .before .before .before .before .before .before .before .before .before .before .before .pre in
     timely _ (p .0) _ _ (p .1 .0) (p .1 .1 .0) (p .1 .1 .1)
 
-onward-requires-9 : tie.Need-onward-requires-9
-onward-requires-9 c κs = search needs
-
 returns : tie.Need-returns
 returns c =
     let p = c .before .before .before .before .before .before .before .before .before .pre in
@@ -208,12 +136,6 @@ returns c =
     (record { words = refl; levels = refl; values = refl; board = refl })
     (c .onward .ensures) (c .before .match .keys1)
     (stays (p .1 .0 .cursor) (λ μ s. does-next μ refl s))
-
-same-length : tie.Need-same-length
-same-length c = search needs
-
-same-length-2 : tie.Need-same-length-2
-same-length-2 c = search needs
 
 returns-2 : tie.Need-returns-2
 returns-2 c =
@@ -223,12 +145,6 @@ returns-2 c =
     (record { words = refl; levels = refl; values = c .before .values .given; board = refl })
     (c .onward2 .ensures) (c .before .before .before .before .before .match .keys2)
     (c .before .before .assign .ensures _)
-
-same-length-3 : tie.Need-same-length-3
-same-length-3 c = search needs
-
-same-length-4 : tie.Need-same-length-4
-same-length-4 c = search needs
 
 returns-3 : tie.Need-returns-3
 returns-3 c =
@@ -243,12 +159,6 @@ returns-4 c =
     let f = c .before .before .before .before .fields-at .ensures in
     elses _ (p .0) _ _ (p .1 .0) (p .1 .1 .0) _ f _ (c .before .index2 .ensures) _ (c .before .before .before .match .keys4) (c .jump .ensures)
 
-same-length-5 : tie.Need-same-length-5
-same-length-5 c = search needs
-
-same-length-6 : tie.Need-same-length-6
-same-length-6 c = search needs
-
 returns-5 : tie.Need-returns-5
 returns-5 c =
     let p = c .before .before .before .before .before .before .before .before .before .before .before .before .before .before .pre in
@@ -262,15 +172,6 @@ returns-6 c =
     let f = c .before .before .before .before .fields-at .ensures in
     ends _ (p .0) _ _ (p .1 .0) (p .1 .1 .0) _ f _ (c .before .index4 .ensures) _ (c .before .before .before .match .keys6) (c .leave .ensures)
 
-same-length-7 : tie.Need-same-length-7
-same-length-7 c = search needs
-
-same-length-8 : tie.Need-same-length-8
-same-length-8 c = search needs
-
-same-length-9 : tie.Need-same-length-9
-same-length-9 c = search needs
-
 returns-7 : tie.Need-returns-7
 returns-7 c =
     let p = c .before .before .before .before .before .before .before .before .before .before .before .before .before .before .pre in
@@ -279,12 +180,6 @@ returns-7 c =
     (record { words = refl; levels = refl; values = refl; board = c .before .lines .given })
     (c .onward3 .ensures) (c .before .before .before .before .before .before .match .keys7)
     (c .before .before .output .ensures)
-
-same-length-10 : tie.Need-same-length-10
-same-length-10 c = search needs
-
-same-length-11 : tie.Need-same-length-11
-same-length-11 c = search needs
 
 returns-8 : tie.Need-returns-8
 returns-8 c =
@@ -304,9 +199,6 @@ returns-9 c =
     (c .onward5 .ensures) (c .before .before .match .keys9)
     (c .before .raise .ensures _ _ _ _ _)
 
-same-length-12 : tie.Need-same-length-12
-same-length-12 c = search needs
-
 returns-10 : tie.Need-returns-10
 returns-10 c =
     let p = c .before .before .before .before .before .before .before .before .before .before .before .before .pre in
@@ -318,12 +210,6 @@ returns-10 c =
     .match .rest .0 .0 .0 .0 .0 .1) (c .before .before .before .before .match .rest .0 .0 .0 .0 .1) (c .before .before .before .before .match .rest .0
     .0 .0 .1) (c .before .before .before .before .match .rest .0 .0 .1)) (omega (arith, c .before .before .before .if1 .taken))
     (c .before .go .ensures _ _ _ _)
-
-same-length-13 : tie.Need-same-length-13
-same-length-13 c = search needs
-
-same-length-14 : tie.Need-same-length-14
-same-length-14 c = search needs
 
 returns-11 : tie.Need-returns-11
 returns-11 c =
@@ -345,9 +231,6 @@ returns-11 c =
       c .before .before .before .before .before .before .before .if2 .taken,
     ))
     (c .before .before .before .insert .ensures _)
-
-same-length-15 : tie.Need-same-length-15
-same-length-15 c = search needs
 
 returns-12 : tie.Need-returns-12
 returns-12 c =
@@ -381,69 +264,12 @@ pub step-spec : {M : Type 1} → statement M
 step-spec =
     tie.close
     (tie.spec
-    top-requires
-    fields-at-requires
-    onward-requires
-    assign-requires
-    onward-requires-2
-    evaluate-requires
-    mul-index
-    shared-slice-read-index
-    index-requires
-    enter-if-requires
-    mul-index-2
-    shared-slice-read-index-2
-    index-requires-2
-    jump-requires
-    evaluate-requires-2
-    mul-index-3
-    shared-slice-read-index-3
-    index-requires-3
-    enter-while-requires
-    mul-index-4
-    shared-slice-read-index-4
-    index-requires-4
-    leave-requires
-    output-requires
-    onward-requires-3
-    write-requires
-    onward-requires-4
-    raise-requires
-    onward-requires-5
-    go-requires
-    onward-requires-6
-    side-requires
-    insert-requires
-    onward-requires-7
-    side-requires-2
-    remove-requires
-    onward-requires-8
-    onward-requires-9
-    returns
-    same-length
-    same-length-2
-    returns-2
-    same-length-3
-    same-length-4
-    returns-3
-    returns-4
-    same-length-5
-    same-length-6
-    returns-5
-    returns-6
-    same-length-7
-    same-length-8
-    same-length-9
-    returns-7
-    same-length-10
-    same-length-11
-    returns-8
-    returns-9
-    same-length-12
-    returns-10
-    same-length-13
-    same-length-14
-    returns-11
-    same-length-15
-    returns-12
-    returns-13)
+    (λ c κs. search needs) (λ c κs. search needs) (λ c κs. search needs) assign-requires onward-requires-2 evaluate-requires (λ c. search needs)
+    (λ c. search needs) (λ c κs. search needs) (λ c κs. search needs) (λ c. search needs) (λ c. search needs) (λ c κs. search needs)
+    (λ c κs. search needs) evaluate-requires-2 (λ c. search needs) (λ c. search needs) (λ c κs. search needs) (λ c κs. search needs)
+    (λ c. search needs) (λ c. search needs) (λ c κs. search needs) (λ c κs. search needs) output-requires onward-requires-3 write-requires
+    onward-requires-4 (λ c κs. search needs) (λ c κs. search needs) go-requires onward-requires-6 (λ c κs. search needs) insert-requires
+    onward-requires-7 (λ c κs. search needs) remove-requires onward-requires-8 (λ c κs. search needs) returns (λ c. search needs) (λ c. search needs)
+    returns-2 (λ c. search needs) (λ c. search needs) returns-3 returns-4 (λ c. search needs) (λ c. search needs) returns-5 returns-6
+    (λ c. search needs) (λ c. search needs) (λ c. search needs) returns-7 (λ c. search needs) (λ c. search needs) returns-8 returns-9
+    (λ c. search needs) returns-10 (λ c. search needs) (λ c. search needs) returns-11 (λ c. search needs) returns-12 returns-13)
