@@ -1,5 +1,7 @@
 // The table's operations at the cursor, each counted, in a table of 512 places.
-ghost use Prim.Native.Nat.{_<_};
+ghost use mathlib.Core.Path.{_≡_};
+ghost use mathlib.Core.Bool.{true, false};
+ghost use Prim.Native.Nat.{_+_, _%_, _^_, _<_};
 use table::node;
 use table::shape;
 use table::walk;
@@ -18,7 +20,9 @@ pub struct Run {
     pub faults: u64,
 }
 
-fn more(n: u64) -> u64 {
+fn more(n: u64) -> u64
+    ensures { λ r. ⌜ r ≡ (n + 1) % 2 ^ 64 ⌝ }
+{
     std::num::wrapping_add_u64(n, 1)
 }
 
@@ -30,7 +34,9 @@ fn place(at: u32) -> u32
 }
 
 // Counts a fault unless all is well.
-pub fn judge(run: Run, well: bool) -> Run {
+pub fn judge(run: Run, well: bool) -> Run
+    ensures { λ r. ⌜ (r .at ≡ run .at) × ((well ≡ true → r .faults ≡ run .faults) × (well ≡ false → r .faults ≡ (run .faults + 1) % 2 ^ 64)) ⌝ }
+{
     let mut r = run;
     if !well {
         r.faults = more(run.faults);
@@ -39,7 +45,9 @@ pub fn judge(run: Run, well: bool) -> Run {
 }
 
 // Goes to the root.
-pub fn home(run: Run) -> Run {
+pub fn home(run: Run) -> Run
+    ensures { λ r. ⌜ (r .at ≡ 0) × (r .faults ≡ run .faults) ⌝ }
+{
     let mut r = run;
     r.operations = more(run.operations);
     r.at = 0;
@@ -77,7 +85,9 @@ pub fn try_up(words: &[u32; 4096], run: Run) -> Moved {
 }
 
 // Goes where there must be a node.
-pub fn must(m: Moved) -> Run {
+pub fn must(m: Moved) -> Run
+    ensures { λ r. ⌜ (r .at ≡ m .run .at) × ((m .ok ≡ true → r .faults ≡ m .run .faults) × (m .ok ≡ false → r .faults ≡ (m .run .faults + 1) % 2 ^ 64)) ⌝ }
+{
     judge(m.run, m.ok)
 }
 
