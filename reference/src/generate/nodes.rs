@@ -3,6 +3,7 @@
 
 use crate::job::{Node, MAX_NODES, NO_PARENT};
 use crate::random::Random;
+use crate::source::node;
 use crate::{Level, HOUSE, PUBLIC};
 
 /// How one tree grows.
@@ -151,12 +152,5 @@ fn labelled(random: &mut Random, parent: u16, existence: Level, growth: Growth) 
     let mut level = |share: usize| existence.max(random.chance(share, 5) as Level);
     let (content, list) = (level(growth.content), level(growth.list));
     let value = (growth.value)(random);
-    Node {
-        parent,
-        existence,
-        content,
-        list,
-        value,
-        ..Node::default()
-    }
+    node(parent, [existence, content, list], value)
 }
