@@ -142,7 +142,7 @@ fn run_accepted(
 
 // The run over a job's bytes, with a budget and what the caller lends: a node table of eight words to a place, the variables' levels and values, and
 // places for board lines.
-pub fn run_job(
+pub fn run_words(
     job: &[u8],
     budget: u64,
     words: &mut [u32],

@@ -11,4 +11,4 @@ mod step;
 mod variables;
 
 pub use entry::Outcome;
-pub use entry::run_job;
+pub use entry::run_words;

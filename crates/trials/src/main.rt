@@ -5,7 +5,7 @@ mod settings;
 ghost use Prim.Native.Nat.{_≤_};
 use job::Checked;
 use libc::STDIN_FILENO;
-use monitor::run_job;
+use monitor::run_words;
 use settings::Settings;
 use text::expand;
 use text::find;
@@ -28,7 +28,7 @@ fn run_lent(
     values: &mut [i32],
     lines: &mut [i32],
 ) {
-    let o = run_job(bytes, budget, words, levels, values, lines);
+    let o = run_words(bytes, budget, words, levels, values, lines);
     print::show(name, o, lines, values, variables(bytes));
 }
 

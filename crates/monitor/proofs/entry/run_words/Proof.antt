@@ -1,4 +1,4 @@
--- `entry::run_job` meets its contract: what the checks answer decides. Assumes nothing.
+-- `entry::run_words` meets its contract: what the checks answer decides. Assumes nothing.
 use mathlib.Core.Path.{_≡_, sym, _∙_}
 use Rattle.rules.specs.Check.{accepted, checkBytes}
 use Rattle.job.specs.Layout.{layoutOf}
@@ -7,8 +7,8 @@ use Rattle.monitor.specs.Shows.{Slices, slices}
 use Rattle.monitor.proofs.Doing.{refused, allowed}
 use Rattle.monitor.proofs.Answered.{turned-back, bad-budget, bad-buffers, within, few, begun, is-run}
 use borrow.Author.Needs.{needs}
-use Rattle.monitor.proofs.entry.run_job.Statement.{statement}
-use Rattle.monitor.proofs.entry.run_job.Tie as tie
+use Rattle.monitor.proofs.entry.run_words.Statement.{statement}
+use Rattle.monitor.proofs.entry.run_words.Tie as tie
 
 -- the slices that were lent
 abbrev lent : tie.Start → Slices
@@ -63,8 +63,8 @@ returns-4 c =
     is-run _ _ (slices _ _ _ _) (t .0) _ (t .1) w _ (d .before .before .smaller .ensures) (allowed (d .before .buffers-ok .ensures) (d .if2 .left))
     (slices _ _ _ _) _ (c .before .before .before .before .before .before .run-accepted .ensures)
 
-pub run-job-spec : {M : Type 1} → statement M
-run-job-spec =
+pub run-words-spec : {M : Type 1} → statement M
+run-words-spec =
     tie.close (tie.spec
     (λ c. search needs) (λ c κs. search needs) (λ c. search needs) (λ c. search needs) (λ c κs. search needs) returns (λ c κs. search needs)
     (λ c κs. search needs) returns-2 (λ c. search needs) cast-run-accepted cast-run-accepted-2 run-accepted-requires returns-3
