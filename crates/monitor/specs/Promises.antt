@@ -25,6 +25,7 @@ use Rattle.monitor.specs.declared.control.Stepped.{Stepped}
 use Rattle.monitor.specs.declared.entry.Outcome.{Outcome}
 use Rattle.monitor.specs.declared.entry.Outcome.the-variants.{Refused, Finished, Stopped}
 use Rattle.monitor.specs.Shows.{Slices, Variables}
+use Rattle.monitor.specs.Stands.{ended}
 
 -- the paper's answer of each outcome: ending, record index, steps, line count
 unfoldable pub answerOf : Outcome → Answer
@@ -35,7 +36,7 @@ answerOf (Stopped k i s n) = record { ending = k; index = i; steps = s; lines = 
 -- the outcome of a run that has ended
 unfoldable pub outcomeOf : Stepped → Outcome
 outcomeOf a =
-    cond (eqb (a .stop) 0) (Finished (a .running .steps) (a .running .memory .lines))
+    cond (eqb (a .stop) ended) (Finished (a .running .steps) (a .running .memory .lines))
     (Stopped (a .stop) (a .running .at) (a .running .steps) (a .running .memory .lines))
 
 -- what the caller lends, as the rules count it: eight words to a place of the table; both slices of the variables take part in 10
