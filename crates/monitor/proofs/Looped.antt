@@ -3,9 +3,10 @@
 use mathlib.Core.Path.{_≡_, refl, sym, _∙_, ap, subst}
 use mathlib.Core.Bool.{Bool, true, false, cond}
 use mathlib.Core.List.{List}
-use Prim.Native.Nat.{ℕ, zero, suc, _+_, _-_, _^_, _<_, _≤_}
+use Prim.Native.Nat.{ℕ, zero, suc, _+_, _-_, _*_, _/_, _^_, _<_, _≤_}
 use native.Mathlib.Omega.{arith}
-use lib.ListN.{length, getD}
+use lib.ListN.{length, drop}
+use lib.Seq.{drop-drop}
 use lib.Dec.{ltb, eqb}
 use lib.IntN.{ℤ}
 use borrow.Author.Tests.{lt-ltb, le-ltb, eq-eqb, eqb-true}
@@ -27,12 +28,18 @@ use Rattle.monitor.proofs.Doing.{kept-refl}
 use Rattle.monitor.proofs.Stepping.{stop-number}
 
 kept-trans : {vars : ℕ} {x y z : Slices} {k m n : ℕ} → Kept vars x y k m → Kept vars y z m n → Kept vars x z k n
-kept-trans {k = k} {m = m} {n = n} a b =
+kept-trans {x = x} {y = y} {k = k} {m = m} {n = n} a b =
     record {
       grown = omega (arith, a .grown, b .grown);
       values = λ j h. b .values j h ∙ a .values j h;
-      board = λ j h. b .board j h ∙ a .board j (omega (arith, b .grown));
+      board = b .board ∙ further;
     }
+  where
+    -- behind 4 * n is behind 4 * m
+    further : drop (4 * n) (y .board) ≡ drop (4 * n) (x .board)
+    further =
+        let e : 4 * n ≡ 4 * m + 4 * (n - m) = omega (arith, b .grown) in
+        rw (e, ← drop-drop (4 * (n - m)) (4 * m) (y .board), ← drop-drop (4 * (n - m)) (4 * m) (x .board), a .board)
 
 module _ (h : Held) (sc : Script h) where
   closed : Closed (scriptIn h)
@@ -127,7 +134,7 @@ module _ (h : Held) (sc : Script h) where
 -- what was reached from there was reached from the start
 module _ {h : Held} {x₀ x : Slices} {r₀ r : Running} {budget left : ℕ} (d : Reached h x₀ r₀ budget x r left) where
   lent-now : (lent : Buffers) → Lent h x₀ lent → Lent h x lent
-  lent-now lent l = record { places = l .places; board = l .board ∙ sym (d .board) }
+  lent-now lent l = record { places = l .places; board = l .board ∙ ap (λ (n : ℕ). n / 4) (sym (d .board)) }
 
   pub further : {x′ : Slices} {r′ : Running} {left′ : ℕ} → Reached h x r left x′ r′ left′ → Reached h x₀ r₀ budget x′ r′ left′
   further {x′} {r′} {left′} t =
@@ -156,7 +163,7 @@ module _ (h : Held) (x₀ : Slices) (r₀ : Running) (limit : ℕ) where
     pub running : Running
     pub words : List ℕ
     pub values : List ℤ
-    pub board : List ℤ
+    pub board : List ℕ
     pub ending : ℕ
     pub small : ending < 2 ^ 8
     pub long-words : length words ≡ length (x₀ .words)
@@ -194,7 +201,7 @@ module _ (h : Held) (x₀ : Slices) (r₀ : Running) (limit : ℕ) where
     startable w z = record { script = p .script; safe = w .reached z .safe; early = w .early z; limited = p .limited }
 
   -- after one step more
-  abbrev pub stride : (w : Way) → w .ending ≡ 0 → (ws : List ℕ) (vs bs : List ℤ) (c : ℕ) (r : Running) → c < 2 ^ 8 → length ws ≡ length (w .words)
+  abbrev pub stride : (w : Way) → w .ending ≡ 0 → (ws : List ℕ) (vs : List ℤ) (bs : List ℕ) (c : ℕ) (r : Running) → c < 2 ^ 8 → length ws ≡ length (w .words)
       → length vs ≡ length (w .values) → length bs ≡ length (w .board) → Turns h (slicesAt w) (slices ws (x₀ .levels) vs bs) (w .running) limit (stepped c r) → Way
   stride w z ws vs bs c r small ew ev eb t =
       record {

@@ -21,7 +21,7 @@ fn turn(
     limit: u32,
     words: &mut [u32],
     values: &mut [i32],
-    lines: &mut [i32],
+    lines: &mut [u8],
 ) -> Stepped
     requires { ⌜ Startable (held (now job) (now jumps) f) (slices (now words) (now levels) (now values) (now lines)) r limit ⌝ }
     ensures { λ a. ⌜ Turns (held (now (job .entry)) (now (jumps .entry)) f)
@@ -53,7 +53,7 @@ fn step(
     limit: u32,
     words: &mut [u32],
     values: &mut [i32],
-    lines: &mut [i32],
+    lines: &mut [u8],
 ) -> u8
     requires { ⌜ Startable (held (now job) (now jumps) f) (slices (now words) (now levels) (now values) (now lines)) (now r) limit ⌝ }
     ensures { λ c. ⌜ Turns (held (now (job .entry)) (now (jumps .entry)) f)
@@ -77,7 +77,7 @@ fn run(
     limit: u32,
     words: &mut [u32],
     values: &mut [i32],
-    lines: &mut [i32],
+    lines: &mut [u8],
 ) -> u8
     requires { ⌜ Startable (held (now job) (now jumps) f) (slices (now words) (now levels) (now values) (now lines)) (now r) limit ⌝ }
     ensures { λ c. ⌜ Runs (held (now (job .entry)) (now (jumps .entry)) f)
@@ -108,7 +108,7 @@ pub fn run_from(
     limit: u32,
     words: &mut [u32],
     values: &mut [i32],
-    lines: &mut [i32],
+    lines: &mut [u8],
 ) -> Stepped
     requires { ⌜ Startable (held (now job) (now jumps) f) (slices (now words) (now levels) (now values) (now lines)) start limit ⌝ }
     ensures { λ a. ⌜ Runs (held (now (job .entry)) (now (jumps .entry)) f)

@@ -39,7 +39,7 @@ stayed = (
           stay-dropped (plain (λ _. F.the-row)) yes,
           (
             stay-dropped (plain (λ _. u32)) yes,
-            (stay-slice (4 ∷ []) tt (plain (λ _. u32)), (stay-slice (5 ∷ []) tt (plain (λ _. i32)), (stay-slice (6 ∷ []) tt (plain (λ _. i32)), tt))),
+            (stay-slice (4 ∷ []) tt (plain (λ _. u32)), (stay-slice (5 ∷ []) tt (plain (λ _. i32)), (stay-slice (6 ∷ []) tt (plain (λ _. u8)), tt))),
           ),
         ),
       ),
@@ -54,7 +54,7 @@ abbrev Step : {M : Type 1} (𝓤 : URA M) (H : Heap 𝓤) (A : Atoms 𝓤) (at-m
 Step 𝓤 H A at-mem run = tripleOf 𝓤 H A st.signature (st.spec 𝓤 H A at-mem run)
 
 abbrev Lasts : Type 0
-Lasts = Running × (Unit {0} × (Unit {0} × (Unit {0} × (Unit {0} × (Unit {0} × (List ℕ × (List ℤ × (List ℤ × Unit {0}))))))))
+Lasts = Running × (Unit {0} × (Unit {0} × (Unit {0} × (Unit {0} × (Unit {0} × (List ℕ × (List ℤ × (List ℕ × Unit {0}))))))))
 
 -- what is left of a run, as an order on ways
 abbrev Less : (hd : Held) (x₀ : Slices) (r₀ : Running) (limit : ℕ) → Way hd x₀ r₀ limit → Way hd x₀ r₀ limit → Type 0
@@ -76,14 +76,14 @@ lent-ty τ = sliceTy (lent-ref τ)
 -- r is behind (b, o) under γ, with h; the slices are job, jumps, levels, words, values and lines
 module _ {M : Type 1} (𝓤 : URA M) (H : Heap 𝓤) (A : Atoms 𝓤) (W : Given 𝓤 H A) (at-mem : Memory → SProp 𝓤) (run : Routine → Fun 𝓤)
     (κ κ₁ κ₂ κ₃ κ₄ κ₅ κ₆ : Lft) (q q₁ q₂ q₃ q₄ q₅ q₆ : Share) (b o : ℕ) (γ : GName) (h : Running)
-    (job jumps levels : RefT (List ℕ)) (f : Frame) (limit : ℕ) (words : RefT (List ℕ)) (values : RefT (List ℤ)) (lines : RefT (List ℤ)) where
+    (job jumps levels : RefT (List ℕ)) (f : Frame) (limit : ℕ) (words : RefT (List ℕ)) (values : RefT (List ℤ)) (lines : RefT (List ℕ)) where
   abbrev x : GName → Running → RefT Running
   x δ r = record { ptr = (b, o); name = δ; now = r }
 
   abbrev ref : {X : Type 0} → RefT (List X) → GName → List X → RefT (List X)
   ref s δ l = record { ptr = s .ptr; name = δ; now = l }
 
-  abbrev a : RefT Running × (RefT (List ℕ) × (RefT (List ℕ) × (RefT (List ℕ) × (Frame × (ℕ × (RefT (List ℕ) × (RefT (List ℤ) × (RefT (List ℤ) × Unit {0}))))))))
+  abbrev a : RefT Running × (RefT (List ℕ) × (RefT (List ℕ) × (RefT (List ℕ) × (Frame × (ℕ × (RefT (List ℕ) × (RefT (List ℤ) × (RefT (List ℕ) × Unit {0}))))))))
   a = (x γ h, (job, (jumps, (levels, (f, (limit, (words, (values, (lines, tt)))))))))
 
   abbrev sj : Val
@@ -132,8 +132,8 @@ module _ {M : Type 1} (𝓤 : URA M) (H : Heap 𝓤) (A : Atoms 𝓤) (W : Given
   abbrev Va : Lft → GName → List ℤ → Fml
   Va κ′ δ l = MutSlice (named 5) κ′ i32 .own (ref values δ l) (sv ∷ [])
 
-  abbrev Li : Lft → GName → List ℤ → Fml
-  Li κ′ δ l = MutSlice (named 6) κ′ i32 .own (ref lines δ l) (sb ∷ [])
+  abbrev Li : Lft → GName → List ℕ → Fml
+  Li κ′ δ l = MutSlice (named 6) κ′ u8 .own (ref lines δ l) (sb ∷ [])
 
   abbrev Jo : Fml
   Jo = ShrSlice (named 1) κ₁ u8 .own job (sj ∷ [])
@@ -146,7 +146,7 @@ module _ {M : Type 1} (𝓤 : URA M) (H : Heap 𝓤) (A : Atoms 𝓤) (W : Given
 
   -- the call of `step` from a way w, with r and the slices lent on
   module _ (w : On) (ν ν₄ ν₅ ν₆ : ℕ) (δ δ₄ δ₅ δ₆ : GName) where
-    abbrev args : RefT Running × (RefT (List ℕ) × (RefT (List ℕ) × (RefT (List ℕ) × (Frame × (ℕ × (RefT (List ℕ) × (RefT (List ℤ) × (RefT (List ℤ) × Unit {0}))))))))
+    abbrev args : RefT Running × (RefT (List ℕ) × (RefT (List ℕ) × (RefT (List ℕ) × (Frame × (ℕ × (RefT (List ℕ) × (RefT (List ℤ) × (RefT (List ℕ) × Unit {0}))))))))
     args = (x δ (w .running), (job, (jumps, (levels, (f, (limit, (ref words δ₄ (w .words), (ref values δ₅ (w .values), (ref lines δ₆ (w .board), tt)))))))))
 
     abbrev to-step : Step 𝓤 H A at-mem run .Ghost
@@ -157,15 +157,15 @@ module _ {M : Type 1} (𝓤 : URA M) (H : Heap 𝓤) (A : Atoms 𝓤) (W : Given
 
     abbrev Owned : Fml
     Owned = owns (MutRef (named 0) (ν ∷ []) R.the-row ∷ ShrSlice (named 1) κ₁ u8 ∷ ShrSlice (named 2) κ₂ u16 ∷ ShrSlice (named 3) κ₃ u8 ∷ F.the-row ∷ u32 ∷ MutSlice (named 4) (ν₄ ∷ []) u32
-        ∷ MutSlice (named 5) (ν₅ ∷ []) i32 ∷ MutSlice (named 6) (ν₆ ∷ []) i32 ∷ []) args vals
+        ∷ MutSlice (named 5) (ν₅ ∷ []) i32 ∷ MutSlice (named 6) (ν₆ ∷ []) u8 ∷ []) args vals
 
     goes-step : Startable hd (slicesAt hd _ h limit w) (w .running) limit → ent 𝓤 (sep 𝓤 (⋆ 𝓤 H A (Tokens ∷ [])) (sem 𝓤 H A Owned)) (Step 𝓤 H A at-mem run .pre to-step)
     goes-step pre = qed W (Tokens ∷ ‵ Owned ∷ []) ∵ says ! pre $ done !
 
-    abbrev After : Running → List ℕ → List ℤ → List ℤ → ℕ → Type 0
+    abbrev After : Running → List ℕ → List ℤ → List ℕ → ℕ → Type 0
     After r ws vs ls c = Turns hd (slicesAt hd _ h limit w) (slices ws (levels .now) vs ls) (w .running) limit (stepped c r)
 
-  abbrev Left : Running → List ℕ → List ℤ → List ℤ → List (Item 𝓤)
+  abbrev Left : Running → List ℕ → List ℤ → List ℕ → List (Item 𝓤)
   Left r ws vs ls =
       ‵ (Rn κ γ r) ∷ ‵ (Wo κ₄ (words .name) ws) ∷ ‵ (Va κ₅ (values .name) vs) ∷ ‵ (Li κ₆ (lines .name) ls)
       ∷ ‵ (flft κ q) ∷ ‵ (flft κ₁ q₁) ∷ ‵ (flft κ₂ q₂) ∷ ‵ (flft κ₃ q₃) ∷ ‵ (flft κ₄ q₄) ∷ ‵ (flft κ₅ q₅) ∷ ‵ (flft κ₆ q₆) ∷ []
@@ -218,8 +218,8 @@ module _ {M : Type 1} (𝓤 : URA M) (H : Heap 𝓤) (A : Atoms 𝓤) (W : Given
     At l₀ l₁ l₂ l₃ l₄ l₅ l₆ l₇ l₈ l₉ l₁₀ l₁₁ l₁₂ l₁₃ l₁₄ l₁₅ l₁₆ l₁₇ l₁₈ w =
         ‵ (Rn κ γ (w .running)) ∷ ‵ (Wo κ₄ (words .name) (w .words)) ∷ ‵ (Va κ₅ (values .name) (w .values)) ∷ ‵ (Li κ₆ (lines .name) (w .board)) ∷ ‵ Jo ∷ ‵ Ju ∷ ‵ Le
         ∷ ‵ (flft κ q) ∷ ‵ (flft κ₁ q₁) ∷ ‵ (flft κ₂ q₂) ∷ ‵ (flft κ₃ q₃) ∷ ‵ (flft κ₄ q₄) ∷ ‵ (flft κ₅ q₅) ∷ ‵ (flft κ₆ q₆)
-        ∷ ‵ (froom (lent-ty (tyInt w32)) l₁₈ 0) ∷ ‵ (fdies (lent-ty (tyInt w32)) l₁₈)
-        ∷ ‵ (froom (lent-ref (tyInt w32)) l₁₇ 0) ∷ ‵ (fdies (lent-ref (tyInt w32)) l₁₇)
+        ∷ ‵ (froom (lent-ty (tyInt w8)) l₁₈ 0) ∷ ‵ (fdies (lent-ty (tyInt w8)) l₁₈)
+        ∷ ‵ (froom (lent-ref (tyInt w8)) l₁₇ 0) ∷ ‵ (fdies (lent-ref (tyInt w8)) l₁₇)
         ∷ ‵ (froom (lent-ty (tyInt w32)) l₁₆ 0) ∷ ‵ (fdies (lent-ty (tyInt w32)) l₁₆)
         ∷ ‵ (froom (lent-ref (tyInt w32)) l₁₅ 0) ∷ ‵ (fdies (lent-ref (tyInt w32)) l₁₅)
         ∷ ‵ (froom (lent-ty (tyInt w32)) l₁₄ 0) ∷ ‵ (fdies (lent-ty (tyInt w32)) l₁₄)
@@ -227,7 +227,7 @@ module _ {M : Type 1} (𝓤 : URA M) (H : Heap 𝓤) (A : Atoms 𝓤) (W : Given
         ∷ ‵ (froom (tyRef erased mut (pointee (R.the-row .written))) l₁₂ 0) ∷ ‵ (fdies (tyRef erased mut (pointee (R.the-row .written))) l₁₂)
         ∷ ‵ (froom tyBool l₁₁ 0) ∷ ‵ (fdies tyBool l₁₁)
         ∷ ‵ (fat fullShare (tyInt w8) l₁₀ 0 (vint w8 (w .ending))) ∷ ‵ (fdies (tyInt w8) l₁₀)
-        ∷ ‵ (fat fullShare (sliceTy (tyRef (named 6) mut (tyInt w32))) l₉ 0 sb) ∷ ‵ (fdies (sliceTy (tyRef (named 6) mut (tyInt w32))) l₉)
+        ∷ ‵ (fat fullShare (sliceTy (tyRef (named 6) mut (tyInt w8))) l₉ 0 sb) ∷ ‵ (fdies (sliceTy (tyRef (named 6) mut (tyInt w8))) l₉)
         ∷ ‵ (fat fullShare (sliceTy (tyRef (named 5) mut (tyInt w32))) l₈ 0 sv) ∷ ‵ (fdies (sliceTy (tyRef (named 5) mut (tyInt w32))) l₈)
         ∷ ‵ (fat fullShare (sliceTy (tyRef (named 4) mut (tyInt w32))) l₇ 0 sw) ∷ ‵ (fdies (sliceTy (tyRef (named 4) mut (tyInt w32))) l₇)
         ∷ ‵ (fat fullShare (tyInt w32) l₆ 0 (vint w32 limit)) ∷ ‵ (fdies (tyInt w32) l₆)
@@ -239,12 +239,12 @@ module _ {M : Type 1} (𝓤 : URA M) (H : Heap 𝓤) (A : Atoms 𝓤) (W : Given
         ∷ ‵ (froom (tyInt w8) l₀ 0) ∷ ‵ (fdies (tyInt w8) l₀) ∷ []
 
     walk : Room u8 (length (job .now)) → Room u16 (length (jumps .now)) → Room u8 (length (levels .now)) → Is F.the-row f (frameVal f ∷ []) → limit < 2 ^ 32 → Room u32 (length (words .now)) → Room i32 (length (values .now))
-        → Room i32 (length (lines .now)) → Before
+        → Room u8 (length (lines .now)) → Before
         → ent 𝓤 (onEntry 𝓤 H A run′.signature (κ, (κ₁, (κ₂, (κ₃, (κ₄, (κ₅, (κ₆, tt))))))) (q, (q₁, (q₂, (q₃, (q₄, (q₅, (q₆, tt))))))) a vals)
         (WpFn 𝓤 H (𝓣 .C) (𝓣 .Λ) code.function (vptr b o ∷ sj ∷ sp ∷ sl ∷ frameVal f ∷ vint w32 limit ∷ sw ∷ sv ∷ sb ∷ []) Post)
     walk rj rp rl isf limit-fits rw rv rb pre =
         qed W ((‵ (flft κ q) ⊛ ‵ (flft κ₁ q₁) ⊛ ‵ (flft κ₂ q₂) ⊛ ‵ (flft κ₃ q₃) ⊛ ‵ (flft κ₄ q₄) ⊛ ‵ (flft κ₅ q₅) ⊛ ‵ (flft κ₆ q₆) ⊛ ‵ ftrue) ∷ ‵ (owns (MutRef (named 0) κ R.the-row
-        ∷ ShrSlice (named 1) κ₁ u8 ∷ ShrSlice (named 2) κ₂ u16 ∷ ShrSlice (named 3) κ₃ u8 ∷ F.the-row ∷ u32 ∷ MutSlice (named 4) κ₄ u32 ∷ MutSlice (named 5) κ₅ i32 ∷ MutSlice (named 6) κ₆ i32 ∷ []) a vals) ∷ []) ∵
+        ∷ ShrSlice (named 1) κ₁ u8 ∷ ShrSlice (named 2) κ₂ u16 ∷ ShrSlice (named 3) κ₃ u8 ∷ F.the-row ∷ u32 ∷ MutSlice (named 4) κ₄ u32 ∷ MutSlice (named 5) κ₅ i32 ∷ MutSlice (named 6) κ₆ u8 ∷ []) a vals) ∷ []) ∵
         split ! $
         move ! (1 ∷ []) $
         split ! $
@@ -321,7 +321,7 @@ module _ {M : Type 1} (𝓤 : URA M) (H : Heap 𝓤) (A : Atoms 𝓤) (W : Given
         split ! $
         lft-new ! tt (λ ν₆.
         move ! (10 ∷ 17 ∷ []) $
-        use2 W (later (some (λ (δ′ : GName). ‵ (Li (ν₆ ∷ []) δ′ (w .board)) ⊛ ‵ (on.Waits i32 κ₆ (ν₆ ∷ []) q₆ (lines .name) (lines .ptr .0) (lines .ptr .1) δ′ (w .board))))) (on.lends-on i32 κ₆ (ν₆ ∷ []) q₆ (lines .name) (lines .ptr .0) (lines .ptr .1) 𝓤 H A W (named 6) (named 6) sb (w .board)) $ await ! tt $ pick ! (λ δ₆.
+        use2 W (later (some (λ (δ′ : GName). ‵ (Li (ν₆ ∷ []) δ′ (w .board)) ⊛ ‵ (on.Waits u8 κ₆ (ν₆ ∷ []) q₆ (lines .name) (lines .ptr .0) (lines .ptr .1) δ′ (w .board))))) (on.lends-on u8 κ₆ (ν₆ ∷ []) q₆ (lines .name) (lines .ptr .0) (lines .ptr .1) 𝓤 H A W (named 6) (named 6) sb (w .board)) $ await ! tt $ pick ! (λ δ₆.
         split ! $
         move ! (12 ∷ []) $
         use1 W (‵ Jo ⊛ ‵ Jo) (shr-slice-copy 𝓤 H A W (named 1) κ₁ u8 .twice job (sj ∷ [])) $
@@ -444,7 +444,7 @@ module _ {M : Type 1} (𝓤 : URA M) (H : Heap 𝓤) (A : Atoms 𝓤) (W : Given
         move ! (6 ∷ []) $
         lft-end ! tt $
         move ! (0 ∷ 14 ∷ 10 ∷ []) $
-        use3 W (later (‵ (Li κ₆ (lines .name) (n .board)) ⊛ ‵ (flft κ₆ q₆))) (on.comes-back i32 κ₆ (ν₆ ∷ []) q₆ (lines .name) (lines .ptr .0) (lines .ptr .1) 𝓤 H A W (named 6) (named 6) sb (w .board) δ₆ (n .board) eb (ap (λ (m : ℕ). sliceVal (lines .ptr) m ∷ []) (sym (n .long-board))) (subst (Room i32) (sym (n .long-board)) rb)) $ await ! tt $
+        use3 W (later (‵ (Li κ₆ (lines .name) (n .board)) ⊛ ‵ (flft κ₆ q₆))) (on.comes-back u8 κ₆ (ν₆ ∷ []) q₆ (lines .name) (lines .ptr .0) (lines .ptr .1) 𝓤 H A W (named 6) (named 6) sb (w .board) δ₆ (n .board) eb (ap (λ (m : ℕ). sliceVal (lines .ptr) m ∷ []) (sym (n .long-board))) (subst (Room u8) (sym (n .long-board)) rb)) $ await ! tt $
         split ! $
         land-last ! (from ! (stop !)) (store ! 30 refl (uint-lawful 𝓤 H A W w8 .typed c _ is .0)) $
         rewrite ! 30 (λ (u : Val). ‵ (fat fullShare (tyInt w8) l₁₀ 0 u)) (ap only (uint-tells w8 c (v ∷ []) is)) refl $
@@ -536,7 +536,7 @@ module _ {M : Type 1} (𝓤 : URA M) (H : Heap 𝓤) (A : Atoms 𝓤) (W : Given
                     mut-slice-tells (named 4) (κs .1 .1 .1 .1 .0) u32,
                     (
                       mut-slice-tells (named 5) (κs .1 .1 .1 .1 .1 .0) i32,
-                      (mut-slice-tells (named 6) (κs .1 .1 .1 .1 .1 .1 .0) i32, tt),
+                      (mut-slice-tells (named 6) (κs .1 .1 .1 .1 .1 .1 .0) u8, tt),
                     ),
                   ),
                 ),
@@ -566,7 +566,7 @@ module _ {M : Type 1} (𝓤 : URA M) (H : Heap 𝓤) (A : Atoms 𝓤) (W : Given
             goes-dropped 𝓤 H A W 7 (plain (λ _. F.the-row)) yes (λ κs x f. refl),
             (
               goes-dropped 𝓤 H A W 7 (plain (λ _. u32)) yes (λ κs x f. refl),
-              (goes-slice 𝓤 H A W 7 4 tt (plain (λ _. u32)), (goes-slice 𝓤 H A W 7 5 tt (plain (λ _. i32)), (goes-slice 𝓤 H A W 7 6 tt (plain (λ _. i32)), tt))),
+              (goes-slice 𝓤 H A W 7 4 tt (plain (λ _. u32)), (goes-slice 𝓤 H A W 7 5 tt (plain (λ _. i32)), (goes-slice 𝓤 H A W 7 6 tt (plain (λ _. u8)), tt))),
             ),
           ),
         ),

@@ -44,7 +44,7 @@ stayed = (
           stay-dropped (plain (λ _. F.the-row)) yes,
           (
             stay-dropped (plain (λ _. u32)) yes,
-            (gave-slice (3 ∷ []) tt (plain (λ _. u32)), (gave-slice (4 ∷ []) tt (plain (λ _. i32)), (gave-slice (5 ∷ []) tt (plain (λ _. i32)), tt))),
+            (gave-slice (3 ∷ []) tt (plain (λ _. u32)), (gave-slice (4 ∷ []) tt (plain (λ _. i32)), (gave-slice (5 ∷ []) tt (plain (λ _. u8)), tt))),
           ),
         ),
       ),
@@ -60,7 +60,7 @@ abbrev frameVal : Frame → Val
 frameVal f = only (LL.vals F.the-type F′.the-laws f)
 
 abbrev Lasts : Type 0
-Lasts = Running × (Unit {0} × (Unit {0} × (Unit {0} × (Unit {0} × (Unit {0} × (List ℕ × (List ℤ × (List ℤ × Unit {0}))))))))
+Lasts = Running × (Unit {0} × (Unit {0} × (Unit {0} × (Unit {0} × (Unit {0} × (List ℕ × (List ℤ × (List ℕ × Unit {0}))))))))
 
 module _ {M : Type 1} (𝓤 : URA M) (H : Heap 𝓤) (A : Atoms 𝓤) (at-mem : Memory → SProp 𝓤) (run : Routine → Fun 𝓤) where
   -- the contracts that the proof cites
@@ -76,8 +76,8 @@ module _ {M : Type 1} (𝓤 : URA M) (H : Heap 𝓤) (A : Atoms 𝓤) (at-mem : 
 -- the record is h; the slices are job, jumps, levels, words, values and lines
 module _ {M : Type 1} (𝓤 : URA M) (H : Heap 𝓤) (A : Atoms 𝓤) (W : Given 𝓤 H A) (at-mem : Memory → SProp 𝓤) (run : Routine → Fun 𝓤)
     (κ₁ κ₂ κ₃ κ₄ κ₅ κ₆ : Lft) (q₁ q₂ q₃ q₄ q₅ q₆ : Share) (h : Running)
-    (job jumps levels : RefT (List ℕ)) (f : Frame) (limit : ℕ) (words : RefT (List ℕ)) (values : RefT (List ℤ)) (lines : RefT (List ℤ)) where
-  abbrev a : Running × (RefT (List ℕ) × (RefT (List ℕ) × (RefT (List ℕ) × (Frame × (ℕ × (RefT (List ℕ) × (RefT (List ℤ) × (RefT (List ℤ) × Unit {0}))))))))
+    (job jumps levels : RefT (List ℕ)) (f : Frame) (limit : ℕ) (words : RefT (List ℕ)) (values : RefT (List ℤ)) (lines : RefT (List ℕ)) where
+  abbrev a : Running × (RefT (List ℕ) × (RefT (List ℕ) × (RefT (List ℕ) × (Frame × (ℕ × (RefT (List ℕ) × (RefT (List ℤ) × (RefT (List ℕ) × Unit {0}))))))))
   a = (h, (job, (jumps, (levels, (f, (limit, (words, (values, (lines, tt)))))))))
 
   -- the values of all but the first parameter, and their types
@@ -100,7 +100,7 @@ module _ {M : Type 1} (𝓤 : URA M) (H : Heap 𝓤) (A : Atoms 𝓤) (W : Given
   )
 
   abbrev Rest : List RattleType
-  Rest = ShrSlice (named 0) κ₁ u8 ∷ ShrSlice (named 1) κ₂ u16 ∷ ShrSlice (named 2) κ₃ u8 ∷ F.the-row ∷ u32 ∷ MutSlice (named 3) κ₄ u32 ∷ MutSlice (named 4) κ₅ i32 ∷ MutSlice (named 5) κ₆ i32 ∷ []
+  Rest = ShrSlice (named 0) κ₁ u8 ∷ ShrSlice (named 1) κ₂ u16 ∷ ShrSlice (named 2) κ₃ u8 ∷ F.the-row ∷ u32 ∷ MutSlice (named 3) κ₄ u32 ∷ MutSlice (named 4) κ₅ i32 ∷ MutSlice (named 5) κ₆ u8 ∷ []
 
   abbrev bound : walkOf 𝓤 H A from′.ended stayed (from′.clauses 𝓤 H A at-mem run) .Ghost
   bound = (((κ₁, (κ₂, (κ₃, (κ₄, (κ₅, (κ₆, tt)))))), (q₁, (q₂, (q₃, (q₄, (q₅, (q₆, tt)))))), tt, a, (mach h ∷ [], rest)), tt)
@@ -115,12 +115,12 @@ module _ {M : Type 1} (𝓤 : URA M) (H : Heap 𝓤) (A : Atoms 𝓤) (W : Given
   abbrev Before : Type 0
   Before = Startable (held (job .now) (jumps .now) f) (slices (words .now) (levels .now) (values .now) (lines .now)) h limit
 
-  abbrev After : List ℕ → List ℤ → List ℤ → Stepped → Type 0
+  abbrev After : List ℕ → List ℤ → List ℕ → Stepped → Type 0
   After ws vs ls e = Runs (held (job .now) (jumps .now) f) (slices (words .now) (levels .now) (values .now) (lines .now)) (slices ws (levels .now) vs ls) h (limit - h .steps) e
 
   -- the local at p, lent under δ for ν
   module _ (p ν : ℕ) (δ : GName) where
-    abbrev args : RefT Running × (RefT (List ℕ) × (RefT (List ℕ) × (RefT (List ℕ) × (Frame × (ℕ × (RefT (List ℕ) × (RefT (List ℤ) × (RefT (List ℤ) × Unit {0}))))))))
+    abbrev args : RefT Running × (RefT (List ℕ) × (RefT (List ℕ) × (RefT (List ℕ) × (Frame × (ℕ × (RefT (List ℕ) × (RefT (List ℤ) × (RefT (List ℕ) × Unit {0}))))))))
     args = (record { ptr = (p, 0); name = δ; now = h }, (job, (jumps, (levels, (f, (limit, (words, (values, (lines, tt)))))))))
 
     abbrev to-run : Run 𝓤 H A at-mem run .Ghost
@@ -139,10 +139,10 @@ module _ {M : Type 1} (𝓤 : URA M) (H : Heap 𝓤) (A : Atoms 𝓤) (W : Given
   goes-halted c r v u isc isr =
       qed W [] ∵ nothing ! $ owned ! R.the-row (Is R.the-row) (LL.makes R.the-type R′.the-plain 𝓤 H A) r _ isr $ fjoin ! $ owned ! u8 (Is u8) (uint-makes 𝓤 H A W w8) c _ isc $ fjoin ! $ nothing ! $ join ! $ frame ! $ done !
 
-  abbrev Left : Stepped → Val → List ℕ → List ℤ → List ℤ → List (Item 𝓤)
-  Left e v ws vs ls = ‵ (S.the-row .own e (v ∷ [])) ∷ Tokens ∷ ‵ (finally u32 (words .name) ws) ∷ ‵ (finally i32 (values .name) vs) ∷ ‵ (finally i32 (lines .name) ls) ∷ []
+  abbrev Left : Stepped → Val → List ℕ → List ℤ → List ℕ → List (Item 𝓤)
+  Left e v ws vs ls = ‵ (S.the-row .own e (v ∷ [])) ∷ Tokens ∷ ‵ (finally u32 (words .name) ws) ∷ ‵ (finally i32 (values .name) vs) ∷ ‵ (finally u8 (lines .name) ls) ∷ []
 
-  exits : (e : Stepped) (v : Val) (ws : List ℕ) (vs : List ℤ) (ls : List ℤ) → After ws vs ls e → length ws ≡ length (words .now) → length vs ≡ length (values .now)
+  exits : (e : Stepped) (v : Val) (ws : List ℕ) (vs : List ℤ) (ls : List ℕ) → After ws vs ls e → length ws ≡ length (words .now) → length vs ≡ length (values .now)
       → length ls ≡ length (lines .now) → ent 𝓤 (⋆ 𝓤 H A (Left e v ws vs ls)) (Post v)
   exits e v ws vs ls t ew ev el =
       qed W (Left e v ws vs ls) ∵
@@ -173,7 +173,7 @@ module _ {M : Type 1} (𝓤 : URA M) (H : Heap 𝓤) (A : Atoms 𝓤) (W : Given
 
   module _ (𝓣 : Tables 𝓤 H) (known-run : Triple 𝓤 (𝓣 .C #run) (Run 𝓤 H A at-mem run)) (known-halted : Triple 𝓤 (𝓣 .C #halted) (Halted 𝓤 H A at-mem run)) where
     walk : Is R.the-row h (mach h ∷ []) → Room u8 (length (job .now)) → Room u16 (length (jumps .now)) → Room u8 (length (levels .now)) → Is F.the-row f (frameVal f ∷ []) → limit < 2 ^ 32 → Room u32 (length (words .now))
-        → Room i32 (length (values .now)) → Room i32 (length (lines .now)) → Before
+        → Room i32 (length (values .now)) → Room u8 (length (lines .now)) → Before
         → ent 𝓤 (onEntry 𝓤 H A from′.signature (κ₁, (κ₂, (κ₃, (κ₄, (κ₅, (κ₆, tt)))))) (q₁, (q₂, (q₃, (q₄, (q₅, (q₆, tt)))))) a (mach h ∷ [], rest))
         (WpFn 𝓤 H (𝓣 .C) (𝓣 .Λ) code.function (mach h ∷ sliceVal (job .ptr) (length (job .now)) ∷ sliceVal (jumps .ptr) (length (jumps .now)) ∷ sliceVal (levels .ptr) (length (levels .now)) ∷ frameVal f ∷ vint w32 limit
         ∷ sliceVal (words .ptr) (length (words .now)) ∷ sliceVal (values .ptr) (length (values .now)) ∷ sliceVal (lines .ptr) (length (lines .now)) ∷ []) Post)
@@ -361,7 +361,7 @@ module _ {M : Type 1} (𝓤 : URA M) (H : Heap 𝓤) (A : Atoms 𝓤) (W : Given
                     mut-slice-tells (named 3) (κs .1 .1 .1 .0) u32,
                     (
                       mut-slice-tells (named 4) (κs .1 .1 .1 .1 .0) i32,
-                      (mut-slice-tells (named 5) (κs .1 .1 .1 .1 .1 .0) i32, tt),
+                      (mut-slice-tells (named 5) (κs .1 .1 .1 .1 .1 .0) u8, tt),
                     ),
                   ),
                 ),
@@ -391,7 +391,7 @@ module _ {M : Type 1} (𝓤 : URA M) (H : Heap 𝓤) (A : Atoms 𝓤) (W : Given
             goes-dropped 𝓤 H A W 6 (plain (λ _. F.the-row)) yes (λ κs x f. refl),
             (
               goes-dropped 𝓤 H A W 6 (plain (λ _. u32)) yes (λ κs x f. refl),
-              (goes-gave-slice 𝓤 H A W 6 3 tt (plain (λ _. u32)), (goes-gave-slice 𝓤 H A W 6 4 tt (plain (λ _. i32)), (goes-gave-slice 𝓤 H A W 6 5 tt (plain (λ _. i32)), tt))),
+              (goes-gave-slice 𝓤 H A W 6 3 tt (plain (λ _. u32)), (goes-gave-slice 𝓤 H A W 6 4 tt (plain (λ _. i32)), (goes-gave-slice 𝓤 H A W 6 5 tt (plain (λ _. u8)), tt))),
             ),
           ),
         ),

@@ -37,7 +37,7 @@ stayed = (
           stay-dropped (plain (λ _. F.the-row)) yes,
           (
             stay-dropped (plain (λ _. u32)) yes,
-            (gave-slice (4 ∷ []) tt (plain (λ _. u32)), (gave-slice (5 ∷ []) tt (plain (λ _. i32)), (gave-slice (6 ∷ []) tt (plain (λ _. i32)), tt))),
+            (gave-slice (4 ∷ []) tt (plain (λ _. u32)), (gave-slice (5 ∷ []) tt (plain (λ _. i32)), (gave-slice (6 ∷ []) tt (plain (λ _. u8)), tt))),
           ),
         ),
       ),
@@ -59,13 +59,13 @@ abbrev Turn : {M : Type 1} (𝓤 : URA M) (H : Heap 𝓤) (A : Atoms 𝓤) (at-m
 Turn 𝓤 H A at-mem run = tripleOf 𝓤 H A tu.signature (tu.spec 𝓤 H A at-mem run)
 
 abbrev Lasts : Type 0
-Lasts = Unit {0} × (Unit {0} × (Unit {0} × (Unit {0} × (Unit {0} × (Unit {0} × (List ℕ × (List ℤ × (List ℤ × Unit {0}))))))))
+Lasts = Unit {0} × (Unit {0} × (Unit {0} × (Unit {0} × (Unit {0} × (Unit {0} × (List ℕ × (List ℤ × (List ℕ × Unit {0}))))))))
 
 -- r is behind (b, o) under γ, with h; the slices are job, jumps, levels, words, values and lines
 module _ {M : Type 1} (𝓤 : URA M) (H : Heap 𝓤) (A : Atoms 𝓤) (W : Given 𝓤 H A) (at-mem : Memory → SProp 𝓤) (run : Routine → Fun 𝓤)
     (κ κ₁ κ₂ κ₃ κ₄ κ₅ κ₆ : Lft) (q q₁ q₂ q₃ q₄ q₅ q₆ : Share) (b o : ℕ) (γ : GName) (h : Running)
-    (job jumps levels : RefT (List ℕ)) (f : Frame) (limit : ℕ) (words : RefT (List ℕ)) (values : RefT (List ℤ)) (lines : RefT (List ℤ)) where
-  abbrev a : RefT Running × (RefT (List ℕ) × (RefT (List ℕ) × (RefT (List ℕ) × (Frame × (ℕ × (RefT (List ℕ) × (RefT (List ℤ) × (RefT (List ℤ) × Unit {0}))))))))
+    (job jumps levels : RefT (List ℕ)) (f : Frame) (limit : ℕ) (words : RefT (List ℕ)) (values : RefT (List ℤ)) (lines : RefT (List ℕ)) where
+  abbrev a : RefT Running × (RefT (List ℕ) × (RefT (List ℕ) × (RefT (List ℕ) × (Frame × (ℕ × (RefT (List ℕ) × (RefT (List ℤ) × (RefT (List ℕ) × Unit {0}))))))))
   a = (record { ptr = (b, o); name = γ; now = h }, (job, (jumps, (levels, (f, (limit, (words, (values, (lines, tt)))))))))
 
   -- the values of all but the first parameter, and their types
@@ -88,7 +88,7 @@ module _ {M : Type 1} (𝓤 : URA M) (H : Heap 𝓤) (A : Atoms 𝓤) (W : Given
   )
 
   abbrev Rest : List RattleType
-  Rest = ShrSlice (named 1) κ₁ u8 ∷ ShrSlice (named 2) κ₂ u16 ∷ ShrSlice (named 3) κ₃ u8 ∷ F.the-row ∷ u32 ∷ MutSlice (named 4) κ₄ u32 ∷ MutSlice (named 5) κ₅ i32 ∷ MutSlice (named 6) κ₆ i32 ∷ []
+  Rest = ShrSlice (named 1) κ₁ u8 ∷ ShrSlice (named 2) κ₂ u16 ∷ ShrSlice (named 3) κ₃ u8 ∷ F.the-row ∷ u32 ∷ MutSlice (named 4) κ₄ u32 ∷ MutSlice (named 5) κ₅ i32 ∷ MutSlice (named 6) κ₆ u8 ∷ []
 
   abbrev bound : walkOf 𝓤 H A step′.ended stayed (step′.clauses 𝓤 H A at-mem run) .Ghost
   bound = (((κ, (κ₁, (κ₂, (κ₃, (κ₄, (κ₅, (κ₆, tt))))))), (q, (q₁, (q₂, (q₃, (q₄, (q₅, (q₆, tt))))))), tt, a, (vptr b o ∷ [], rest)), tt)
@@ -100,7 +100,7 @@ module _ {M : Type 1} (𝓤 : URA M) (H : Heap 𝓤) (A : Atoms 𝓤) (W : Given
   abbrev Tokens : Item 𝓤
   Tokens = ‵ (flft κ₁ q₁) ⊛ ‵ (flft κ₂ q₂) ⊛ ‵ (flft κ₃ q₃) ⊛ ‵ (flft κ₄ q₄) ⊛ ‵ (flft κ₅ q₅) ⊛ ‵ (flft κ₆ q₆) ⊛ ‵ ftrue
 
-  abbrev args : Running × (RefT (List ℕ) × (RefT (List ℕ) × (RefT (List ℕ) × (Frame × (ℕ × (RefT (List ℕ) × (RefT (List ℤ) × (RefT (List ℤ) × Unit {0}))))))))
+  abbrev args : Running × (RefT (List ℕ) × (RefT (List ℕ) × (RefT (List ℕ) × (Frame × (ℕ × (RefT (List ℕ) × (RefT (List ℤ) × (RefT (List ℕ) × Unit {0}))))))))
   args = (h, (job, (jumps, (levels, (f, (limit, (words, (values, (lines, tt)))))))))
 
   abbrev to-turn : Turn 𝓤 H A at-mem run .Ghost
@@ -109,17 +109,17 @@ module _ {M : Type 1} (𝓤 : URA M) (H : Heap 𝓤) (A : Atoms 𝓤) (W : Given
   abbrev Before : Type 0
   Before = Startable (held (job .now) (jumps .now) f) (slices (words .now) (levels .now) (values .now) (lines .now)) h limit
 
-  abbrev After : List ℕ → List ℤ → List ℤ → Stepped → Type 0
+  abbrev After : List ℕ → List ℤ → List ℕ → Stepped → Type 0
   After ws vs ls c = Turns (held (job .now) (jumps .now) f) (slices (words .now) (levels .now) (values .now) (lines .now)) (slices ws (levels .now) vs ls) h limit c
 
   goes-turn : Before → ent 𝓤 (sep 𝓤 (⋆ 𝓤 H A (Tokens ∷ [])) (sem 𝓤 H A (owns (R.the-row ∷ Rest) args (mach h ∷ [], rest)))) (Turn 𝓤 H A at-mem run .pre to-turn)
   goes-turn pre = qed W (Tokens ∷ ‵ (owns (R.the-row ∷ Rest) args (mach h ∷ [], rest)) ∷ []) ∵ says ! pre $ done !
 
-  abbrev Left : Running → List ℕ → List ℤ → List ℤ → List (Item 𝓤)
+  abbrev Left : Running → List ℕ → List ℤ → List ℕ → List (Item 𝓤)
   Left r ws vs ls =
-      ‵ (fobs γ (R.the-row .coded .code r)) ∷ ‵ (fbor κ (Body (mem R.the-row) b o γ)) ∷ ‵ (flft κ q) ∷ (Tokens) ∷ ‵ (finally u32 (words .name) ws) ∷ ‵ (finally i32 (values .name) vs) ∷ ‵ (finally i32 (lines .name) ls) ∷ []
+      ‵ (fobs γ (R.the-row .coded .code r)) ∷ ‵ (fbor κ (Body (mem R.the-row) b o γ)) ∷ ‵ (flft κ q) ∷ (Tokens) ∷ ‵ (finally u32 (words .name) ws) ∷ ‵ (finally i32 (values .name) vs) ∷ ‵ (finally u8 (lines .name) ls) ∷ []
 
-  exits : (c : Stepped) (ws : List ℕ) (vs : List ℤ) (ls : List ℤ) → After ws vs ls c → length ws ≡ length (words .now) → length vs ≡ length (values .now)
+  exits : (c : Stepped) (ws : List ℕ) (vs : List ℤ) (ls : List ℕ) → After ws vs ls c → length ws ≡ length (words .now) → length vs ≡ length (values .now)
       → length ls ≡ length (lines .now) → c .stop < 2 ^ 8 → ent 𝓤 (⋆ 𝓤 H A (Left (c .running) ws vs ls)) (Post (vint w8 (c .stop)))
   exits c ws vs ls e ew ev el fits =
       qed W (Left (c .running) ws vs ls) ∵
@@ -153,7 +153,7 @@ module _ {M : Type 1} (𝓤 : URA M) (H : Heap 𝓤) (A : Atoms 𝓤) (W : Given
 
   module _ (𝓣 : Tables 𝓤 H) (known : Triple 𝓤 (𝓣 .C #turn) (Turn 𝓤 H A at-mem run)) where
     walk : Room u8 (length (job .now)) → Room u16 (length (jumps .now)) → Room u8 (length (levels .now)) → Is F.the-row f (frameVal f ∷ []) → limit < 2 ^ 32 → Room u32 (length (words .now)) → Room i32 (length (values .now))
-        → Room i32 (length (lines .now)) → Before
+        → Room u8 (length (lines .now)) → Before
         → ent 𝓤 (onEntry 𝓤 H A step′.signature (κ, (κ₁, (κ₂, (κ₃, (κ₄, (κ₅, (κ₆, tt))))))) (q, (q₁, (q₂, (q₃, (q₄, (q₅, (q₆, tt))))))) a (vptr b o ∷ [], rest))
         (WpFn 𝓤 H (𝓣 .C) (𝓣 .Λ) code.function (vptr b o ∷ sliceVal (job .ptr) (length (job .now)) ∷ sliceVal (jumps .ptr) (length (jumps .now)) ∷ sliceVal (levels .ptr) (length (levels .now)) ∷ frameVal f ∷ vint w32 limit
         ∷ sliceVal (words .ptr) (length (words .now)) ∷ sliceVal (values .ptr) (length (values .now)) ∷ sliceVal (lines .ptr) (length (lines .now)) ∷ []) Post)
@@ -328,7 +328,7 @@ module _ {M : Type 1} (𝓤 : URA M) (H : Heap 𝓤) (A : Atoms 𝓤) (W : Given
                     mut-slice-tells (named 4) (κs .1 .1 .1 .1 .0) u32,
                     (
                       mut-slice-tells (named 5) (κs .1 .1 .1 .1 .1 .0) i32,
-                      (mut-slice-tells (named 6) (κs .1 .1 .1 .1 .1 .1 .0) i32, tt),
+                      (mut-slice-tells (named 6) (κs .1 .1 .1 .1 .1 .1 .0) u8, tt),
                     ),
                   ),
                 ),
@@ -358,7 +358,7 @@ module _ {M : Type 1} (𝓤 : URA M) (H : Heap 𝓤) (A : Atoms 𝓤) (W : Given
             goes-dropped 𝓤 H A W 7 (plain (λ _. F.the-row)) yes (λ κs x f. refl),
             (
               goes-dropped 𝓤 H A W 7 (plain (λ _. u32)) yes (λ κs x f. refl),
-              (goes-gave-slice 𝓤 H A W 7 4 tt (plain (λ _. u32)), (goes-gave-slice 𝓤 H A W 7 5 tt (plain (λ _. i32)), (goes-gave-slice 𝓤 H A W 7 6 tt (plain (λ _. i32)), tt))),
+              (goes-gave-slice 𝓤 H A W 7 4 tt (plain (λ _. u32)), (goes-gave-slice 𝓤 H A W 7 5 tt (plain (λ _. i32)), (goes-gave-slice 𝓤 H A W 7 6 tt (plain (λ _. u8)), tt))),
             ),
           ),
         ),
