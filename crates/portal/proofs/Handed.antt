@@ -22,8 +22,8 @@ area-after (Rules.rejected k i) n x x′ h = ap (λ y. y .board) h
 area-after (Rules.ran e) n x x′ h = h .board
 
 module _ (b : List ℕ) (budget : ℕ) (words levels : List ℕ) (values : List ℤ) (area : List ℕ) (x′ : Lent (List ℕ)) (o : Outcome)
-    (w : length words ≡ 4096) (l : length levels ≡ 64) (v : length values ≡ 64)
-    (p : Promises placesIn Tree b budget (lent words levels values area) x′ o) where
+    (p : Promises placesIn Tree b budget (lent words levels values area) x′ o) (w : length words ≡ 4096) (l : length levels ≡ 64)
+    (v : length values ≡ 64) where
   same-buffers : lentBy placesIn (lent words levels values area) ≡ buffersFor area
   unfolding lentBy buffersFor
   same-buffers = rw (w, l, v)
