@@ -25,7 +25,7 @@ returns-3 c =
     let s = c .before .before .before .before .before .before .before .before .before .before .before .before .before in
     let e = c .before .before .before .before .before .before .before .before .before .evaluate .ensures in
     did-output (s .args .pc) e (s .pre .0 .cursor) (c .before .before .before .before .before .before .before .before .flow .ensures) _ _ (sym (read (e .fits)))
-    (allowed (c .before .before .before .before .before .before .before .not-above .ensures) (c .before .before .before .before .before .before .if1 .left)) (c .before .before .before .before .before .if2 .left) _
+    (allowed (c .before .before .before .before .before .before .before .not-above .ensures) (c .before .before .before .before .before .before .if1 .left)) (omega (arith, c .before .before .before .before .before .if2 .left)) _
     (c .before .before .put-line .ensures)
 
 pub output-spec : {M : Type 1} → statement M
