@@ -19,7 +19,7 @@ returns-2 c = λ w l v places vars x inside e.
 returns-3 : tie.Need-returns-3
 returns-3 c = λ w l v places vars x inside e.
     did-output (c .before .before .before .before .before .before .before .before .before .before .args .pc) e inside (c .before .before .before .before .before .before .before .before .flow .ensures) _ _ (sym (read (e .fits)))
-    (allowed (c .before .before .before .before .before .before .before .not-above .ensures) (c .before .before .before .before .before .before .if1 .left)) (c .before .before .before .before .before .if2 .left) _ (c .before .before .put-line .ensures)
+    (allowed (c .before .before .before .before .before .before .before .not-above .ensures) (c .before .before .before .before .before .before .if1 .left)) (omega (arith, c .before .before .before .before .before .if2 .left)) _ (c .before .before .put-line .ensures)
 
 pub output-spec : {M : Type 1} → statement M
 output-spec =
