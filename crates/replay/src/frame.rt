@@ -5,7 +5,6 @@ use super::show;
 use super::show::Lent;
 use job::reads::full_at;
 use job::reads::half_at;
-use libc::STDOUT_FILENO;
 use print::Out;
 use print::SIZE;
 ghost use Prim.Native.Nat.{_≤_};
@@ -23,7 +22,7 @@ pub fn start() -> State
 {
     State {
         span: Span { from: 0, end: 0 },
-        out: print::to(STDOUT_FILENO),
+        out: print::to(print::OUTPUT),
         over: false,
     }
 }

@@ -1,5 +1,6 @@
 // A job's run, and the lines that say what became of it.
 use job::Checked;
+use monitor::Outcome;
 use monitor::run_words;
 use print::Out;
 use print::SIZE;
@@ -146,18 +147,19 @@ fn put_run(
     buf: &mut [u8; SIZE],
     out: Out,
     k: u64,
-    a: Answer,
+    o: Outcome,
     job: &[u8],
     words: &[u32],
     levels: &[u8; VARIABLES],
     values: &[i32; VARIABLES],
-    lines: &[i32],
+    lines: &[u8],
 ) -> Out
     requires { ⌜ out .used ≤ 65536 ⌝ }
     ensures { λ r. ⌜ r .used ≤ 65536 ⌝ }
 {
+    let a = answer::of(o);
     let mut r = put_answer(buf, out, k, a);
-    if !answer::was_run(a) {
+    if !answer::was_run(o) {
         return r;
     }
     r = print::lines(buf, r, b"line ", lines, a.lines);
@@ -172,7 +174,7 @@ fn run_lent(
     words: &mut [u32],
     levels: &mut [u8; VARIABLES],
     values: &mut [i32; VARIABLES],
-    lines: &mut [i32],
+    lines: &mut [u8],
     k: u64,
     buf: &mut [u8; SIZE],
     out: Out,
@@ -202,16 +204,16 @@ pub fn run(job: &[u8], l: Lent, k: u64, buf: &mut [u8; SIZE], out: Out) -> Out
     let mut words = [0u32; 4104];
     let mut levels = [0u8; VARIABLES];
     let mut values = [0i32; VARIABLES];
-    let mut lines = [0i32; 1024];
+    let mut lines = [0u8; 4096];
     let count = 8 * l.places;
-    let room = l.lines;
+    let area = 4 * l.lines;
     run_lent(
         job,
         l.budget as u64,
         &mut words[..count],
         &mut levels,
         &mut values,
-        &mut lines[..room],
+        &mut lines[..area],
         k,
         buf,
         out,
