@@ -1,0 +1,5 @@
+pub mod Walk
+mod While
+mod Slots
+mod Big
+mod Numbers

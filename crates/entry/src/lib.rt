@@ -1,0 +1,2 @@
+// The public run over what a caller lends, node records among it.
+mod copies;
