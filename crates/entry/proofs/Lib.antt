@@ -3,3 +3,4 @@ mod While
 mod Slots
 mod Big
 mod Numbers
+mod Runs
