@@ -3,6 +3,7 @@ ghost use mathlib.Core.Path.{_≡_};
 ghost use Prim.Native.Nat.{_*_, _≤_, min};
 ghost use lib.ListN.{length};
 ghost use Rattle.entry.specs.Runs.{keptOf, Did, Promised};
+
 mod copies;
 
 use copies::store;
@@ -35,7 +36,12 @@ fn kept(outcome: Outcome, n: usize) -> usize
     match outcome {
         Outcome::Refused { number, index } => 0,
         Outcome::Finished { steps, lines } => n,
-        Outcome::Stopped { number, index, steps, lines } => n,
+        Outcome::Stopped {
+            number,
+            index,
+            steps,
+            lines,
+        } => n,
     }
 }
 

@@ -41,9 +41,13 @@ use Rattle.entry.proofs.run_job.Code as code
 abbrev stayed : Stays (run′.ended .signature .params) (run′.ended .kept)
 stayed = (
   stay-none-slice (0 ∷ []) tt (plain (λ _. u8)) yes,
-  (stay-none (λ _. u64) yes,
-    (gave-slice (1 ∷ []) tt (plain (λ _. N.the-row)),
-      (gave-slice (2 ∷ []) tt (plain (λ _. u8)), (gave-slice (3 ∷ []) tt (plain (λ _. i32)), (gave-slice (4 ∷ []) tt (plain (λ _. u8)), tt))))),
+  (
+    stay-none (λ _. u64) yes,
+    (
+      gave-slice (1 ∷ []) tt (plain (λ _. N.the-row)),
+      (gave-slice (2 ∷ []) tt (plain (λ _. u8)), (gave-slice (3 ∷ []) tt (plain (λ _. i32)), (gave-slice (4 ∷ []) tt (plain (λ _. u8)), tt))),
+    ),
+  ),
 )
 
 abbrev arr-ty : Ty
@@ -151,8 +155,13 @@ module _ {M : Type 1} (𝓤 : URA M) (H : Heap 𝓤) (A : Atoms 𝓤) (W : Given
   -- the calls: what each callee's triple binds, and what it asks for
   abbrev to-core : ℕ → ℕ → GName → List ℕ → Core 𝓤 H A mem run .Ghost
   to-core ν p δ l = (
-    ((κ₀, (ν ∷ [], (κ₂, (κ₃, (κ₄, tt))))), (q₀, (fullShare, (q₂, (q₃, (q₄, tt))))), tt, (job, (budget, (n, (c p δ l, (le, (va, (li, tt))))))),
-      (sj ∷ [], (vint w64 budget ∷ [], (vint w64 n ∷ [], (sc p ∷ [], (sl ∷ [], (sv ∷ [], (sb ∷ [], tt)))))))),
+    (
+      (κ₀, (ν ∷ [], (κ₂, (κ₃, (κ₄, tt))))),
+      (q₀, (fullShare, (q₂, (q₃, (q₄, tt))))),
+      tt,
+      (job, (budget, (n, (c p δ l, (le, (va, (li, tt))))))),
+      (sj ∷ [], (vint w64 budget ∷ [], (vint w64 n ∷ [], (sc p ∷ [], (sl ∷ [], (sv ∷ [], (sb ∷ [], tt))))))),
+    ),
     tt,
   )
 
@@ -215,7 +224,6 @@ module _ {M : Type 1} (𝓤 : URA M) (H : Heap 𝓤) (A : Atoms 𝓤) (W : Given
         nothing ! $ move ! (5 ∷ 0 ∷ []) $ fjoin ! $ move ! (4 ∷ 0 ∷ []) $ fjoin ! $ move ! (3 ∷ 0 ∷ []) $ fjoin ! $ move ! (2 ∷ 0 ∷ []) $ fjoin ! $
         owned ! u64 (Is u64) (uint-makes 𝓤 H A W w64) budget _ (refl, budget-fits) $ fjoin ! $ move ! (1 ∷ 0 ∷ []) $ fjoin ! $ frame ! $
         owned ! O.the-row (Is O.the-row) (EL.makes O.the-type O′.the-plain 𝓤 H A) r _ isr $ done !
-
 
   module _ (𝓣 : Tables 𝓤 H) (known-core : Triple 𝓤 (𝓣 .C #core) (Core 𝓤 H A mem run)) (known-kept : Triple 𝓤 (𝓣 .C #kept) (Kept 𝓤 H A mem run))
       (known-store : Triple 𝓤 (𝓣 .C #store) (Store 𝓤 H A mem run)) where
@@ -324,8 +332,16 @@ module _ {M : Type 1} (𝓤 : URA M) (H : Heap 𝓤) (A : Atoms 𝓤) (W : Given
   walks =
       walked 𝓤 H A run′.ended stayed (run′.clauses 𝓤 H A mem run) (WpFn 𝓤 H (𝓣 .C) (𝓣 .Λ) code.function)
       (λ κs. (slice-vals, (uint-vals w64, (slice-vals, (slice-vals, (slice-vals, (slice-vals, tt)))))))
-      (λ κs. (shr-slice-tells (named 0) (κs .0) u8, (uint-tells w64, (mut-slice-tells (named 1) (κs .1 .0) N.the-row,
-      (mut-slice-tells (named 2) (κs .1 .1 .0) u8, (mut-slice-tells (named 3) (κs .1 .1 .1 .0) i32, (mut-slice-tells (named 4) (κs .1 .1 .1 .1 .0) u8, tt)))))))
+      (λ κs. (
+        shr-slice-tells (named 0) (κs .0) u8,
+        (
+          uint-tells w64,
+          (
+            mut-slice-tells (named 1) (κs .1 .0) N.the-row,
+            (mut-slice-tells (named 2) (κs .1 .1 .0) u8, (mut-slice-tells (named 3) (κs .1 .1 .1 .0) i32, (mut-slice-tells (named 4) (κs .1 .1 .1 .1 .0) u8, tt))),
+          ),
+        ),
+      ))
       (λ κs qs bounds a g are. via 𝓤 _ (fst∗ 𝓤 _ (emp 𝓤))
       (walk 𝓤 H A W mem run (κs .0) (κs .1 .0) (κs .1 .1 .0) (κs .1 .1 .1 .0) (κs .1 .1 .1 .1 .0) (qs .0) (qs .1 .0) (qs .1 .1 .0) (qs .1 .1 .1 .0) (qs .1 .1 .1 .1 .0)
       (a .0) (a .1 .0) (are .1 .0 .1) (a .1 .1 .0) (a .1 .1 .1 .0) (a .1 .1 .1 .1 .0) (a .1 .1 .1 .1 .1 .0) 𝓣 k₁ k₂ k₃
@@ -333,9 +349,19 @@ module _ {M : Type 1} (𝓤 : URA M) (H : Heap 𝓤) (A : Atoms 𝓤) (W : Given
 
   meets : Meets 𝓤 H A run′.signature (WpFn 𝓤 H (𝓣 .C) (𝓣 .Λ) code.function) (run′.spec 𝓤 H A mem run)
   meets =
-      walk-meets 𝓤 H A run′.ended stayed W (goes-none-slice 𝓤 H A W 5 (0 ∷ []) tt (plain (λ _. u8)) yes, (goes-none 𝓤 H A W 5 (λ _. u64) yes (λ κs x f. refl),
-      (goes-gave-slice 𝓤 H A W 5 1 tt (plain (λ _. N.the-row)), (goes-gave-slice 𝓤 H A W 5 2 tt (plain (λ _. u8)),
-      (goes-gave-slice 𝓤 H A W 5 3 tt (plain (λ _. i32)), (goes-gave-slice 𝓤 H A W 5 4 tt (plain (λ _. u8)), tt))))))
+      walk-meets 𝓤 H A run′.ended stayed W (
+        goes-none-slice 𝓤 H A W 5 (0 ∷ []) tt (plain (λ _. u8)) yes,
+        (
+          goes-none 𝓤 H A W 5 (λ _. u64) yes (λ κs x f. refl),
+          (
+            goes-gave-slice 𝓤 H A W 5 1 tt (plain (λ _. N.the-row)),
+            (
+              goes-gave-slice 𝓤 H A W 5 2 tt (plain (λ _. u8)),
+              (goes-gave-slice 𝓤 H A W 5 3 tt (plain (λ _. i32)), (goes-gave-slice 𝓤 H A W 5 4 tt (plain (λ _. u8)), tt)),
+            ),
+          ),
+        ),
+      )
       (run′.clauses 𝓤 H A mem run) (WpFn 𝓤 H (𝓣 .C) (𝓣 .Λ) code.function) (WpFn-mono 𝓤 H (W .laws) 𝓣 code.function) walks
 
 pub run-job-spec : {M : Type 1} → stated.statement M
