@@ -1,6 +1,7 @@
 -- Facts on numbers that the walks with a loop cite.
 use mathlib.Core.Path.{_≡_}
-use Prim.Native.Nat.{ℕ, suc, _+_, _*_, _-_, _^_, _<_, _≤_}
+use mathlib.Core.List.{List, [], _∷_}
+use Prim.Native.Nat.{ℕ, zero, suc, _+_, _*_, _-_, _^_, _<_, _≤_}
 use native.Mathlib.Omega.{arith}
 
 module _ (i n : ℕ) (h : i < n) where
@@ -26,3 +27,8 @@ module _ (i n : ℕ) (h : i < n) where
 
 pub one-more : (i : ℕ) → i + 1 ≡ suc i
 one-more i = omega arith
+
+-- n positions of a context, from a on
+abbrev pub span : ℕ → ℕ → List ℕ
+span a zero = []
+span a (suc n) = a ∷ span (suc a) n

@@ -1,37 +1,18 @@
 // The public run over what a caller lends, node records among it.
 ghost use mathlib.Core.Path.{_≡_};
-ghost use Prim.Native.Nat.{_*_, _≤_, min};
 ghost use lib.ListN.{length};
-ghost use Rattle.entry.specs.Runs.{keptOf, Did, Promised};
+ghost use Rattle.monitor.specs.Promises.{lent, Promises};
+ghost use Rattle.entry.specs.Promises.{Tree, keptOf};
+use copies::store;
+use monitor::Outcome;
+use monitor::run_places;
+use table::Node;
 
 mod copies;
 
-use copies::store;
-use monitor::Outcome;
-use table::Node;
-
-fn run_places(
-    job: &[u8],
-    budget: u64,
-    places: usize,
-    words: &mut [u32],
-    levels: &mut [u8],
-    values: &mut [i32],
-    lines: &mut [u8],
-) -> Outcome
-    requires { ⌜ 8 * min places 512 ≤ length (now words) ⌝ }
-    ensures { λ r. ⌜ Did (now (job .entry)) budget places (now (words .entry)) (now (words .exit)) (now (levels .entry)) (now (levels .exit))
-        (now (values .entry)) (now (values .exit)) (now (lines .entry)) (now (lines .exit)) r ⌝ }
-{
-    Outcome::Refused {
-        number: 1,
-        index: 0,
-    }
-}
-
-// How many places a run has filled: none where the job was turned back.
+// How many of n records a run fills: none where the job was turned back.
 fn kept(outcome: Outcome, n: usize) -> usize
-    ensures { λ k. ⌜ k ≡ keptOf outcome n ⌝ }
+    ensures { λ r. ⌜ r ≡ keptOf outcome n ⌝ }
 {
     match outcome {
         Outcome::Refused { number, index } => 0,
@@ -45,8 +26,8 @@ fn kept(outcome: Outcome, n: usize) -> usize
     }
 }
 
-// The run over a job's bytes, with a budget and what the caller lends: a node table, the variables' levels and values, and an area for board lines
-// of four bytes each.
+// The run over a job's bytes, with a budget and what the caller lends: a node table of a record to a place, the variables' levels and values, and an
+// area for board lines of four bytes each.
 pub fn run_job(
     job: &[u8],
     budget: u64,
@@ -55,13 +36,14 @@ pub fn run_job(
     values: &mut [i32],
     lines: &mut [u8],
 ) -> Outcome
-    ensures { λ r. ⌜ Promised (now (job .entry)) budget (now (table .entry)) (now (table .exit)) (now (levels .entry)) (now (levels .exit))
-        (now (values .entry)) (now (values .exit)) (now (lines .entry)) (now (lines .exit)) r ⌝ }
+    ensures { λ r. ⌜ Promises length Tree (now (job .entry)) budget
+        (lent (now (table .entry)) (now (levels .entry)) (now (values .entry)) (now (lines .entry)))
+        (lent (now (table .exit)) (now (levels .exit)) (now (values .exit)) (now (lines .exit))) r ⌝ }
 {
     let n = table.len();
     let mut words = [0u32; 4096];
     let outcome = run_places(job, budget, n, &mut words, levels, values, lines);
-    let k = kept(outcome, n);
-    store(table, &words, k);
+    let filled = kept(outcome, n);
+    store(table, &words, filled);
     outcome
 }

@@ -1,5 +1,5 @@
 -- `kept` meets its contract: in each arm the definition computes. Assumes nothing.
-use Rattle.entry.specs.Runs.{keptOf}
+use Rattle.entry.specs.Promises.{keptOf}
 use borrow.Author.Needs.{needs}
 use Rattle.entry.proofs.kept.Statement.{statement}
 use Rattle.entry.proofs.kept.Tie as tie

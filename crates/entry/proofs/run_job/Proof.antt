@@ -17,14 +17,17 @@ use Rattle.table.proofs.lent.Node as N
 use Rattle.monitor.specs.declared.entry.Outcome.{Outcome}
 use Rattle.monitor.proofs.entry.Outcome as O
 use Rattle.monitor.proofs.entry.Outcome.Laws as O′
-use Rattle.entry.specs.Runs.{keptOf, Did, Promised}
+use Rattle.monitor.specs.Promises as Words
+use Rattle.monitor.specs.Promises.{lent, Promises}
+use Rattle.entry.specs.Promises.{Tree, keptOf}
 use Rattle.entry.proofs.Slots.{spread, gather, lends-row, row-back}
 use Rattle.entry.proofs.Big.{big}
-use Rattle.entry.proofs.Runs.{span, store-asks, promised}
-use Rattle.entry.proofs.run_places as co
-use Rattle.entry.proofs.run_places.Symbol as co-def
-use Rattle.entry.proofs.run_places.Symbol.{name as #core}
-use Rattle.entry.proofs.run_places.Met as co-thm
+use Rattle.entry.proofs.Runs.{store-asks, promised}
+use Rattle.entry.proofs.Numbers.{span}
+use Rattle.monitor.proofs.run_places as co
+use Rattle.monitor.proofs.run_places.Symbol as co-def
+use Rattle.monitor.proofs.run_places.Symbol.{name as #core}
+use Rattle.monitor.proofs.run_places.Met as co-thm
 use Rattle.entry.proofs.kept as ke
 use Rattle.entry.proofs.kept.Symbol as ke-def
 use Rattle.entry.proofs.kept.Symbol.{name as #kept}
@@ -200,7 +203,8 @@ module _ {M : Type 1} (𝓤 : URA M) (H : Heap 𝓤) (A : Atoms 𝓤) (W : Given
   -- what `run_places` says of its last values and its answer
   abbrev Said : Lasts → Outcome → Type 0
   Said zs r =
-      Did (job .now) budget n zeros (zs .1 .1 .1 .0) (le .now) (zs .1 .1 .1 .1 .0) (va .now) (zs .1 .1 .1 .1 .1 .0) (li .now) (zs .1 .1 .1 .1 .1 .1 .0) r
+      Promises (λ _. n) Words.Tree (job .now) budget (lent zeros (le .now) (va .now) (li .now))
+      (lent (zs .1 .1 .1 .0) (zs .1 .1 .1 .1 .0) (zs .1 .1 .1 .1 .1 .0) (zs .1 .1 .1 .1 .1 .1 .0)) r
 
   core-asks : length zeros ≡ 4096 → 8 * min n 512 ≤ length zeros
   core-asks len = omega arith
@@ -212,7 +216,7 @@ module _ {M : Type 1} (𝓤 : URA M) (H : Heap 𝓤) (A : Atoms 𝓤) (W : Given
         ‵ (flft κ₀ q₀) ∷ ‵ (flft κ₁ q₁) ∷ ‵ (flft κ₂ q₂) ∷ ‵ (flft κ₃ q₃) ∷ ‵ (flft κ₄ q₄) ∷ ‵ J ∷ ‵ (finally N.the-row (t .name) ts)
         ∷ ‵ (finally u8 (le .name) ls) ∷ ‵ (finally i32 (va .name) vs) ∷ ‵ (finally u8 (li .name) bs) ∷ []
 
-    exits : (r : Outcome) (w : Val) → Promised (job .now) budget ys ts (le .now) ls (va .now) vs (li .now) bs r → length ts ≡ n
+    exits : (r : Outcome) (w : Val) → Promises length Tree (job .now) budget (lent ys (le .now) (va .now) (li .now)) (lent ts ls vs bs) r → length ts ≡ n
         → length ls ≡ length (le .now) → length vs ≡ length (va .now) → length bs ≡ length (li .now) → Is O.the-row r (w ∷ [])
         → ent 𝓤 (⋆ 𝓤 H A Left) (Post w)
     exits r w e lt ll lv lb isr =
@@ -308,7 +312,7 @@ module _ {M : Type 1} (𝓤 : URA M) (H : Heap 𝓤) (A : Atoms 𝓤) (W : Given
         rewrite ! 0 (λ (m : ℕ). ‵ (ShrSlice (named 1) (μ ∷ []) u32 .own (c l₈ ε ws) (sliceVal (l₈, 0) m ∷ []))) (same ∙ len) refl $
         -- [the slice; the lender's part; the token of μ; the tokens but the second (3); the last levels, values, lines (7); the job; the second token (11); the table; _23 (13); …]
         move ! (11 ∷ 2 ∷ 12 ∷ 0 ∷ []) $ group ! 4 $
-        use1 W (raw (Store 𝓤 H A mem run .pre (to-store μ l₈ ε ws k v))) (goes-store μ l₈ ε ws k v isk (store-asks ys said ek (same ∙ len))) $
+        use1 W (raw (Store 𝓤 H A mem run .pre (to-store μ l₈ ε ws k v))) (goes-store μ l₈ ε ws k v isk (store-asks _ _ ys (lent _ _ _ _) (lent _ _ _ _) r k ek said (same ∙ len))) $
         -- [the pre; the lender's part; the tokens but the second; the last levels, values, lines; the job; _23 (10); …]
         calls-at ! (fmOf 𝓤 H (W .laws) 𝓣) (Store 𝓤 H A mem run) known-store (to-store μ l₈ ε ws k v) (and-then ! (load ! (from ! (stop !)) (look ! 14 refl)) (and-then ! (load ! (from ! (stop !)) (look ! 10 refl)) (and-then ! (load ! (from ! (stop !)) (look ! 36 refl)) (no-more !)))) (λ w₂.
         use1 W (later (some (λ (u : Unit {0}). ((‵ (flft κ₁ q₁) ⊛ ‵ (flft (μ ∷ []) fullShare) ⊛ ‵ ftrue) ⊛ ‵ (unit .own u (w₂ ∷ []))) ⊛ raw (ensured 𝓤 H A st.ended (st.clauses 𝓤 H A mem run) (κ₁, (μ ∷ [], tt)) (t, (c l₈ ε ws, (k, tt))) tt u)))) (id⊢ 𝓤 _) $ await ! tt $ pick ! (λ u.
@@ -323,7 +327,7 @@ module _ {M : Type 1} (𝓤 : URA M) (H : Heap 𝓤) (A : Atoms 𝓤) (W : Given
         assigns ! (of-opd ! (load ! (from ! (stop !)) (look ! 41 refl))) (from ! (stop !)) (init ! 58 refl (typedO r w isr)) $ returns ! (look ! 58 refl) $
         forget ! 0 refl $ forget ! 13 refl $ forget ! 15 refl $ forget ! 17 refl $ forget ! 19 refl $ forget ! 21 refl $ forget ! 23 refl $ forget ! 25 refl $ forget ! 27 refl $ forget ! 29 refl $ forget ! 31 refl $ forget ! 33 refl $ forget ! 35 refl $ forget ! 37 refl $ forget ! 39 refl $ forget ! 41 refl $ forget ! 44 refl $ forget ! 46 refl $ forget ! 48 refl $ forget ! 50 refl $ forget ! 52 refl $ forget ! 54 refl $ forget ! 56 refl $ forget ! 58 refl $
         move ! (58 ∷ 59 ∷ []) $ free1 ! $ move ! (56 ∷ 57 ∷ []) $ free1 ! $ move ! (54 ∷ 55 ∷ []) $ free1 ! $ move ! (52 ∷ 53 ∷ []) $ free1 ! $ move ! (50 ∷ 51 ∷ []) $ free1 ! $ move ! (48 ∷ 49 ∷ []) $ free1 ! $ move ! (46 ∷ 47 ∷ []) $ free1 ! $ move ! (44 ∷ 45 ∷ []) $ free1 ! $ move ! (0 ∷ 43 ∷ []) $ free1 ! $ move ! (40 ∷ 41 ∷ []) $ free1 ! $ move ! (38 ∷ 39 ∷ []) $ free1 ! $ move ! (36 ∷ 37 ∷ []) $ free1 ! $ move ! (34 ∷ 35 ∷ []) $ free1 ! $ move ! (32 ∷ 33 ∷ []) $ free1 ! $ move ! (30 ∷ 31 ∷ []) $ free1 ! $ move ! (28 ∷ 29 ∷ []) $ free1 ! $ move ! (26 ∷ 27 ∷ []) $ free1 ! $ move ! (24 ∷ 25 ∷ []) $ free1 ! $ move ! (22 ∷ 23 ∷ []) $ free1 ! $ move ! (20 ∷ 21 ∷ []) $ free1 ! $ move ! (18 ∷ 19 ∷ []) $ free1 ! $ move ! (16 ∷ 17 ∷ []) $ free1 ! $ move ! (14 ∷ 15 ∷ []) $ free1 ! $ move ! (12 ∷ 13 ∷ []) $ free1 ! $ free0 ! $
-        keep ! (4 ∷ 2 ∷ 5 ∷ 6 ∷ 7 ∷ 11 ∷ 3 ∷ 8 ∷ 9 ∷ 10 ∷ []) $ by ! (exits (us .0) (zs .1 .1 .1 .1 .0) (zs .1 .1 .1 .1 .1 .0) (zs .1 .1 .1 .1 .1 .1 .0) r w (promised ys said ek (us .0) et) lt ll lv lb isr)))))))))))))))))))))))))))))))))))))))))))))))))))
+        keep ! (4 ∷ 2 ∷ 5 ∷ 6 ∷ 7 ∷ 11 ∷ 3 ∷ 8 ∷ 9 ∷ 10 ∷ []) $ by ! (exits (us .0) (zs .1 .1 .1 .1 .0) (zs .1 .1 .1 .1 .1 .0) (zs .1 .1 .1 .1 .1 .1 .0) r w (promised _ _ ys (lent _ _ _ _) (lent _ _ _ _) r k ek said (us .0) et) lt ll lv lb isr)))))))))))))))))))))))))))))))))))))))))))))))))))
 
 module _ {M : Type 1} (𝓤 : URA M) (H : Heap 𝓤) (A : Atoms 𝓤) (W : Given 𝓤 H A) (mem : Memory → SProp 𝓤) (run : Routine → Fun 𝓤) (𝓣 : Tables 𝓤 H)
     (k₁ : Triple 𝓤 (𝓣 .C #core) (Core 𝓤 H A mem run)) (k₂ : Triple 𝓤 (𝓣 .C #kept) (Kept 𝓤 H A mem run))
@@ -370,6 +374,6 @@ run-job-spec 𝓤 H 𝓜 𝓖 𝓡 =
     entered 𝓤 H (tripleOf 𝓤 H (𝓖 .A) run′.signature (run′.spec 𝓤 H (𝓖 .A) (𝓜 .mem) (𝓡 .run)))
     (tables 𝓤 H 𝓜 𝓡 code.env .C) (tables 𝓤 H 𝓜 𝓡 code.env .Λ) #run-job code.function (code.unfolded 𝓤 H 𝓜 𝓡)
     (meets 𝓤 H (𝓖 .A) (givenOf 𝓤 H 𝓜 𝓖) (𝓜 .mem) (𝓡 .run) (tablesOf 𝓤 H 𝓜 (tables 𝓤 H 𝓜 𝓡 code.env))
-    (cited 𝓤 H (Core 𝓤 H (𝓖 .A) (𝓜 .mem) (𝓡 .run)) 𝓜 𝓡 code.env #core co-def.routine code.calls-entry·run-places (co-thm.met 𝓤 H 𝓜 𝓖 𝓡))
+    (cited 𝓤 H (Core 𝓤 H (𝓖 .A) (𝓜 .mem) (𝓡 .run)) 𝓜 𝓡 code.env #core co-def.routine code.calls-monitor·run-places (co-thm.met 𝓤 H 𝓜 𝓖 𝓡))
     (cited 𝓤 H (Kept 𝓤 H (𝓖 .A) (𝓜 .mem) (𝓡 .run)) 𝓜 𝓡 code.env #kept ke-def.routine code.calls-entry·kept (ke-thm.met 𝓤 H 𝓜 𝓖 𝓡))
     (cited 𝓤 H (Store 𝓤 H (𝓖 .A) (𝓜 .mem) (𝓡 .run)) 𝓜 𝓡 code.env #store st-def.routine code.calls-entry·copies·store (st-thm.met 𝓤 H 𝓜 𝓖 𝓡)))
