@@ -1,6 +1,6 @@
-pub mod Walk
-mod While
+-- The laws of the run over lent node records; those that callers cite come first.
+pub mod Secret
+mod Runs
+mod Numbers
 mod Slots
 mod Big
-mod Numbers
-mod Runs

@@ -1,6 +1,6 @@
 -- `entry::run_job` meets its contract: a walk of its MIR, by hand. A local array of words is lent to the run for a lifetime of that call, and then, for a
 -- lifetime of the second call, to `store`, which fills the lent records; the other slices are passed on as they came. Assumes nothing.
-use Rattle.entry.proofs.Walk.{_≡_, refl, sym, ap, _∙_, subst, ℕ, _<_, _≤_, _^_, _*_, [], _∷_, List, length, replicate, lit<, URA, fullShare, named, w32, w64, tyInt, tyUnit, tyArray, Ty, Val, WT, hasTy, vunit, vint, SProp, ent, sep, emp, via, fst∗, snd∗, exE, id⊢, Lft, Share, GName, Fml, ftrue, fat, flft, flent, Memory, Routine, Heap, WpFn, Tables, Atoms, sem, Fun, fact, givenOf, tables, tablesOf, Given, Item, ‵, raw, given, _⊛_, some, later, ⋆, _$_, _∵_, !, qed, by, move, keep, drop, use0, use1, use2, use3, split, join, pick, learn, rewrite, fsplit, fjoin, feqL, feqI, suffices, frame, await, done, look, init, forget, stop, hop, fld, from, load, lit, of-opd, addr, agg, and-then, no-more, assigns, land, returns, enter, alloc1, alloc0, params1, pass1, pass0, free1, free0, lft-new, lft-end, lent-back, whole, sub, look-in, arr-parts, shares, fmOf, WpFn-mono, RattleType, owns, Is, shows, uint-makes, uint-vals, uint-tells, uint-lawful, u32, usize, unit, Array, array-lawful, RefT, plain, sliceVal, MutSlice, ShrSlice, Room, finally, slice-vals, mut-slice-tells, shr-slice-tells, shr-slice-copy, row, Held, lends-shr-slice, only, owned, peeks, heard, nothing, Contract, Triple, calls-at, onEntry, Meets, tripleOf, entered, cited, says, Stays, stay-none, gave-slice, stay-none-slice, walkOf, goes-none, goes-gave-slice, goes-none-slice, Walks, ends-at, walked, walk-meets, ensured, lasts, yes}
+use Rattle.monitor.proofs.Walk.{_≡_, refl, sym, ap, _∙_, subst, ℕ, _<_, _≤_, _^_, _*_, [], _∷_, List, length, replicate, lit<, URA, fullShare, named, w32, w64, tyInt, tyUnit, tyArray, Ty, Val, WT, hasTy, vunit, vint, SProp, ent, sep, emp, via, fst∗, snd∗, exE, id⊢, Lft, Share, GName, Fml, ftrue, fat, flft, flent, Memory, Routine, Heap, WpFn, Tables, Atoms, sem, Fun, fact, givenOf, tables, tablesOf, Given, Item, ‵, raw, given, _⊛_, some, later, ⋆, _$_, _∵_, !, qed, by, move, keep, drop, use0, use1, use2, use3, split, join, pick, learn, rewrite, fsplit, fjoin, feqL, feqI, suffices, frame, await, done, look, init, forget, stop, hop, fld, from, load, lit, of-opd, addr, agg, and-then, no-more, assigns, land, returns, enter, alloc1, alloc0, params1, pass1, pass0, free1, free0, lft-new, lft-end, lent-back, whole, sub, look-in, arr-parts, shares, fmOf, WpFn-mono, RattleType, owns, Is, shows, uint-makes, uint-vals, uint-tells, uint-lawful, u32, usize, unit, Array, array-lawful, RefT, plain, sliceVal, MutSlice, ShrSlice, Room, finally, slice-vals, mut-slice-tells, shr-slice-tells, shr-slice-copy, row, Held, lends-shr-slice, only, owned, peeks, heard, nothing, Contract, Triple, calls-at, onEntry, Meets, tripleOf, entered, cited, says, Stays, stay-none, gave-slice, stay-none-slice, walkOf, goes-none, goes-gave-slice, goes-none-slice, Walks, ends-at, walked, walk-meets, ensured, lasts, yes}
 use Prim.Native.Nat.{min}
 use native.Mathlib.Omega.{arith}
 use lib.Dec.{T as Holds}

@@ -1,10 +1,10 @@
 -- `top::load` meets its contract: a walk of its MIR, by hand, with a loop. The borrow of t is looked into once and the borrow of the cells is opened once, before the loop; they are shut and closed after it. In each turn a node is copied, and the row of cells is lent to `put_cell` for a lifetime of the call.
-use Rattle.entry.proofs.Walk.{_≡_, refl, sym, ap, subst, ℕ, suc, _<_, _≤_, _^_, _*_, _+_, zero-le, le-antisymm, [], _∷_, List, length, getD, ltb→lt, nltb→le, lit<, URA, fullShare, named, erased, imm, mut, w32, w64, tyInt, tyBool, tyPtr, tyUnit, tyRef, Ty, Val, WT, hasTy, vunit, vint, vptr, SProp, ent, sep, id⊢, Lft, Share, GName, Fml, ftrue, fat, froom, fdies, flft, flent, fres, fobs, fauth, fbor, fobor, fshr-bor, Memory, Routine, Heap, WpFn, Tables, Atoms, sem, Fun, fact, givenOf, tables, tablesOf, Given, Item, ‵, raw, _⊛_, some, later, ⋆, _$_, _∵_, !, qed, by, move, keep, drop, use1, use2, use3, split, join, pick, rewrite, fsplit, fjoin, feqL, feqI, suffices, frame, await, done, look, look-raw, init, store, forget, stop, hop, fld, from, load, lit, unit-lit, of-opd, bin, addr, agg, and-then, no-more, assigns, assigns-last, land, returns, enter, alloc1, alloc0, params1, pass1, pass0, free1, free0, again, whole, sub, look-in, lft-new, lft-end, arr-parts, shares, fmOf, WpFn-mono, owns, pureI, Is, shows, pointee, uint-makes, u32, usize, unit, RefT, plain, sliceTy, sliceVal, MutSlice, ShrSlice, Room, heres, codedHoleys, at-slice, slice-vals, mut-slice-tells, shr-slice-tells, Held, place-is, row, elem-out, elem-back, opens-slice, closes-slice, looks-slice, shuts-slice, only, owned, heard, nothing, Contract, Triple, calls-at, onEntry, Meets, tripleOf, entered, cited, says, needs, Stays, stay-none-slice, stay-slice, walkOf, goes-none-slice, goes-slice, Walks, ends-at, walked, walk-meets, ensured, lasts, yes}
+use Rattle.monitor.proofs.Walk.{_≡_, refl, sym, ap, subst, ℕ, suc, _<_, _≤_, _^_, _*_, _+_, zero-le, le-antisymm, [], _∷_, List, length, getD, ltb→lt, nltb→le, lit<, URA, fullShare, named, erased, imm, mut, w32, w64, tyInt, tyBool, tyPtr, tyUnit, tyRef, Ty, Val, WT, hasTy, vunit, vint, vptr, SProp, ent, sep, id⊢, Lft, Share, GName, Fml, ftrue, fat, froom, fdies, flft, flent, fres, fobs, fauth, fbor, fobor, fshr-bor, Memory, Routine, Heap, WpFn, Tables, Atoms, sem, Fun, fact, givenOf, tables, tablesOf, Given, Item, ‵, raw, _⊛_, some, later, ⋆, _$_, _∵_, !, qed, by, move, keep, drop, use1, use2, use3, split, join, pick, rewrite, fsplit, fjoin, feqL, feqI, suffices, frame, await, done, look, look-raw, init, store, forget, stop, hop, fld, from, load, lit, unit-lit, of-opd, bin, addr, agg, and-then, no-more, assigns, assigns-last, land, returns, enter, alloc1, alloc0, params1, pass1, pass0, free1, free0, again, whole, sub, look-in, lft-new, lft-end, arr-parts, shares, fmOf, WpFn-mono, owns, pureI, Is, shows, pointee, uint-makes, u32, usize, unit, RefT, plain, sliceTy, sliceVal, MutSlice, ShrSlice, Room, heres, codedHoleys, at-slice, slice-vals, mut-slice-tells, shr-slice-tells, Held, place-is, row, elem-out, elem-back, opens-slice, closes-slice, looks-slice, shuts-slice, only, owned, heard, nothing, Contract, Triple, calls-at, onEntry, Meets, tripleOf, entered, cited, says, needs, Stays, stay-none-slice, stay-slice, walkOf, goes-none-slice, goes-slice, Walks, ends-at, walked, walk-meets, ensured, lasts, yes}
 use lib.Dec.{T as Holds}
 use denote.Struct.Laws as LL
 use Rattle.table.specs.declared.lent.Node.{Node}
 use Rattle.table.specs.Lent.{blank, putNode, loaded}
-use Rattle.entry.proofs.While.{Upto, Nearer, nearer-wf, tests, whiles}
+use Rattle.monitor.proofs.While.{Upto, Nearer, nearer-wf, tests, whiles}
 use Rattle.entry.proofs.Slots.{lends-row, row-back}
 use Rattle.table.proofs.Copies.{length-loaded}
 use Rattle.entry.proofs.Numbers.{start-fits, next-fits, fits-below, nearer, cell-in, one-more}

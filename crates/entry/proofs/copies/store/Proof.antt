@@ -1,10 +1,10 @@
 -- `top::store` meets its contract: a walk of its MIR, by hand, with a loop. The borrow of t is opened once, before the loop, and closed once, after it. In each turn the cells are had twice, one copy is passed to `node_of`, and its node is stored.
-use Rattle.entry.proofs.Walk.{stay-none, goes-none, uint-vals, uint-tells, _≡_, refl, sym, ap, subst, ℕ, suc, _<_, _≤_, _^_, _*_, _+_, _-_, zero-le, le-antisymm, [], _∷_, List, length, set, ltb→lt, nltb→le, lit<, URA, fullShare, named, imm, mut, w32, w64, tyInt, tyBool, tyPtr, tyUnit, tyRef, Ty, Val, vunit, vint, vptr, SProp, ent, sep, exE, snd∗, id⊢, Lft, Share, GName, Fml, ftrue, fat, froom, fdies, flft, fobs, fauth, fbor, fobor, Memory, Routine, Heap, WpFn, Tables, Atoms, sem, Fun, fact, givenOf, tables, tablesOf, Given, Item, ‵, raw, _⊛_, some, later, ⋆, _$_, _∵_, !, qed, by, move, keep, drop, use1, use2, split, join, pick, rewrite, fsplit, fjoin, feqI, suffices, frame, await, done, look, init, store, store-raw, forget, stop, hop, fld, from, load, lit, unit-lit, of-opd, bin, and-then, no-more, assigns, assigns-last, land, returns, enter, alloc1, alloc0, params1, pass1, pass0, free1, free0, again, whole, sub, look-in, fmOf, WpFn-mono, RattleType, owns, pureI, Is, shows, pointee, uint-makes, usize, u32, RefT, plain, sliceTy, sliceVal, MutSlice, ShrSlice, Room, heres, codedHoleys, at-slice, slice-vals, mut-slice-tells, shr-slice-tells, shr-slice-copy, Held, place-is, row, elem-out, elem-put, opens-slice, closes-slice, owned, peeks, heard, nothing, Contract, Triple, calls-at, onEntry, Meets, tripleOf, entered, cited, says, needs, Stays, stay-none-slice, stay-slice, walkOf, goes-none-slice, goes-slice, Walks, ends-at, walked, walk-meets, ensured, lasts, yes}
+use Rattle.monitor.proofs.Walk.{stay-none, goes-none, uint-vals, uint-tells, _≡_, refl, sym, ap, subst, ℕ, suc, _<_, _≤_, _^_, _*_, _+_, _-_, zero-le, le-antisymm, [], _∷_, List, length, set, ltb→lt, nltb→le, lit<, URA, fullShare, named, imm, mut, w32, w64, tyInt, tyBool, tyPtr, tyUnit, tyRef, Ty, Val, vunit, vint, vptr, SProp, ent, sep, exE, snd∗, id⊢, Lft, Share, GName, Fml, ftrue, fat, froom, fdies, flft, fobs, fauth, fbor, fobor, Memory, Routine, Heap, WpFn, Tables, Atoms, sem, Fun, fact, givenOf, tables, tablesOf, Given, Item, ‵, raw, _⊛_, some, later, ⋆, _$_, _∵_, !, qed, by, move, keep, drop, use1, use2, split, join, pick, rewrite, fsplit, fjoin, feqI, suffices, frame, await, done, look, init, store, store-raw, forget, stop, hop, fld, from, load, lit, unit-lit, of-opd, bin, and-then, no-more, assigns, assigns-last, land, returns, enter, alloc1, alloc0, params1, pass1, pass0, free1, free0, again, whole, sub, look-in, fmOf, WpFn-mono, RattleType, owns, pureI, Is, shows, pointee, uint-makes, usize, u32, RefT, plain, sliceTy, sliceVal, MutSlice, ShrSlice, Room, heres, codedHoleys, at-slice, slice-vals, mut-slice-tells, shr-slice-tells, shr-slice-copy, Held, place-is, row, elem-out, elem-put, opens-slice, closes-slice, owned, peeks, heard, nothing, Contract, Triple, calls-at, onEntry, Meets, tripleOf, entered, cited, says, needs, Stays, stay-none-slice, stay-slice, walkOf, goes-none-slice, goes-slice, Walks, ends-at, walked, walk-meets, ensured, lasts, yes}
 use denote.Struct.Laws as LL
 use Rattle.table.specs.declared.lent.Node.{Node}
 use Rattle.table.specs.Cells.{cells}
 use Rattle.table.specs.Lent.{blank, nodeOf, stored}
-use Rattle.entry.proofs.While.{Upto, Nearer, nearer-wf, tests, whiles}
+use Rattle.monitor.proofs.While.{Upto, Nearer, nearer-wf, tests, whiles}
 use Rattle.table.proofs.Copies.{length-stored}
 use Rattle.entry.proofs.Numbers.{start-fits, next-fits, fits-below, nearer, within, cell-in, one-more}
 use Rattle.table.proofs.lent.Node as T
