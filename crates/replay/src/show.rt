@@ -1,7 +1,7 @@
 // A job's run, and the lines that say what became of it.
+use entry::run_own;
 use job::Checked;
 use monitor::Outcome;
-use monitor::run_words;
 use print::Out;
 use print::SIZE;
 use print::answer;
@@ -170,23 +170,7 @@ fn put_run(
     put_lent_tree(buf, r, words, places)
 }
 
-// Runs a job with so many places.
-fn run_places(
-    job: &[u8],
-    budget: u64,
-    places: usize,
-    levels: &mut [u8],
-    values: &mut [i32],
-    lines: &mut [u8],
-    words: &mut [u32],
-) -> Outcome
-    requires { ⌜ (places ≤ 513) × (4104 ≤ length (now words)) ⌝ }
-{
-    let count = 8 * places;
-    run_words(job, budget, &mut words[..count], levels, values, lines)
-}
-
-// Runs a job with what it is lent, and puts what became of it.
+// Runs a job through the run over lent node records, and puts what became of it.
 fn run_lent(
     job: &[u8],
     budget: u64,
@@ -199,16 +183,16 @@ fn run_lent(
     buf: &mut [u8; SIZE],
     out: Out,
 ) -> Out
-    requires { ⌜ (places ≤ 513) × (out .used ≤ 65536) ⌝ }
+    requires { ⌜ out .used ≤ 65536 ⌝ }
     ensures { λ r. ⌜ r .used ≤ 65536 ⌝ }
 {
-    let o = run_places(job, budget, places, levels, values, lines, words);
+    let o = run_own(job, budget, places, levels, values, lines, words);
     put_run(buf, out, k, o, job, places, words, levels, values, lines)
 }
 
 // The same, with buffers of its own.
 pub fn run(job: &[u8], l: Lent, k: u64, buf: &mut [u8; SIZE], out: Out) -> Out
-    requires { ⌜ (l .places ≤ 513) × (l .lines ≤ 1024) × (out .used ≤ 65536) ⌝ }
+    requires { ⌜ (l .lines ≤ 1024) × (out .used ≤ 65536) ⌝ }
     ensures { λ r. ⌜ r .used ≤ 65536 ⌝ }
 {
     let mut words = [0u32; WORDS];
