@@ -3,7 +3,6 @@
 mod names;
 mod tree;
 
-use job::Checked;
 use libc::STDIN_FILENO;
 use monitor::run_words;
 use print::Out;
@@ -14,6 +13,7 @@ use print::runner::AREA;
 use print::runner::BUDGET;
 use print::runner::VARIABLES;
 use print::runner::WORDS;
+use print::runner::variables_of;
 use rules::numbers::bits;
 ghost use Prim.Native.Nat.{_≤_};
 
@@ -38,23 +38,6 @@ fn board(buf: &mut [u8; SIZE], out: Out, a: Answer, lines: &[u8]) -> Out
     r = print::item(buf, r, b"\nlines ", a.lines as u64);
     r = print::byte(buf, r, b'\n');
     print::lines(buf, r, b"  ", lines, a.lines)
-}
-
-// How many variables a job has that the checks accept, within the room that is lent.
-fn variables_of(job: &[u8]) -> usize
-    ensures { λ r. ⌜ r ≤ 64 ⌝ }
-{
-    match job::check(job) {
-        Checked::Accepted(l) => {
-            if l.variables < VARIABLES {
-                return l.variables;
-            }
-            return VARIABLES;
-        }
-        Checked::Refused { number, index } => {
-            return 0;
-        }
-    }
 }
 
 fn variable(buf: &mut [u8; SIZE], out: Out, i: usize, level: u8, value: i32) -> Out

@@ -3,11 +3,10 @@ use print::Out;
 use print::SIZE;
 use print::preorder;
 use print::preorder::Visit;
+use print::runner::PLACES;
 use print::runner::WORDS;
 use table::node;
 ghost use Prim.Native.Nat.{_≤_, _<_};
-
-const PLACES: u32 = 512;
 
 fn wide(x: u8) -> u64 {
     x as u64

@@ -1,6 +1,5 @@
 // A job's run, and the lines that say what became of it.
 use entry::run_own;
-use job::Checked;
 use monitor::Outcome;
 use print::Out;
 use print::SIZE;
@@ -9,6 +8,7 @@ use print::answer::Answer;
 use print::preorder;
 use print::preorder::Visit;
 use print::runner::VARIABLES;
+use print::runner::variables_of;
 use rules::numbers::bits;
 use table::node;
 ghost use Prim.Native.Nat.{_≤_};
@@ -39,23 +39,6 @@ fn put_answer(buf: &mut [u8; SIZE], out: Out, k: u64, a: Answer) -> Out
     r = print::item(buf, r, b" steps ", a.steps as u64);
     r = print::item(buf, r, b" lines ", a.lines as u64);
     print::byte(buf, r, b'\n')
-}
-
-// How many variables a job has that the checks accept, within the room that is lent.
-fn variables_of(job: &[u8]) -> usize
-    ensures { λ r. ⌜ r ≤ 64 ⌝ }
-{
-    match job::check(job) {
-        Checked::Accepted(l) => {
-            if l.variables < VARIABLES {
-                return l.variables;
-            }
-            return VARIABLES;
-        }
-        Checked::Refused { number, index } => {
-            return 0;
-        }
-    }
 }
 
 fn put_variable(buf: &mut [u8; SIZE], out: Out, level: u8, value: i32) -> Out
