@@ -1,11 +1,13 @@
 # make test: the whole gate. make help: what else there is.
 .POSIX:
-.PHONY: help test check fmt
+.PHONY: help test check fmt lib programs
 
 help:
-	@echo 'make test    prove every crate, try every must-fail edit, run every other test'
-	@echo 'make check   prove every crate that changed, and run its programs'
-	@echo 'make fmt     lay out the sources'
+	@echo 'make test      prove every crate, try every must-fail edit, run every other test'
+	@echo 'make check     prove every crate that changed, and run its programs'
+	@echo 'make programs  prove and build the programs board, inspect and replay, in target/bin'
+	@echo 'make lib       prove and build include/libportal.a, for a portal in C or C++'
+	@echo 'make fmt       lay out the sources'
 
 test:
 	@bash tests/gate
@@ -15,3 +17,10 @@ check:
 
 fmt:
 	rt fmt
+
+programs:
+	rt check board inspect replay
+
+lib:
+	rt staticlib portal
+	cp target/staticlib/libportal.a include/libportal.a

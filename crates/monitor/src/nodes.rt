@@ -109,7 +109,7 @@ pub fn insert(
             memory: m,
         };
     }
-    let new = shape::Node {
+    let new = shape::NewNode {
         value: numbers::bits(e.value),
         existence: c,
         content: join(flow(e.level, pc, m), secret_if(mark % 2 == 1)),
