@@ -1,6 +1,6 @@
 -- Demand 3 of the public run, from its promise alone and from demand 3 of the rules' run. Assumes nothing.
 use mathlib.Core.Path.{_≡_, refl, sym, _∙_, ap, ap₂, subst}
-use mathlib.Core.Logic.{_⊎_, inl, inr}
+use mathlib.Core.Logic.{⊎-map}
 use mathlib.Core.List.{List, IsPrefix, map}
 use Prim.Native.Nat.{ℕ, _*_, _<_}
 use lib.ListN.{length, getD, take, List·getD-map, length-map}
@@ -26,7 +26,7 @@ use Rattle.monitor.proofs.Board.{spell-prefix, written-lines}
 use Rattle.monitor.proofs.Stepping.{stop-number}
 
 -- only a finished run has the number 0
-ends : (k : Ending) → endingNumber k ≡ 0 → k ≡ finished
+pub ends : (k : Ending) → endingNumber k ≡ 0 → k ≡ finished
 unfolding endingNumber
 ends finished e = refl
 ends (stopped k) e = absurd (stop-number k e)
@@ -70,10 +70,6 @@ same-count o a b h =
     sym (listed-length _ (variableCount a) 0) ∙ sym (length-map (variables a) (seenVariable o)) ∙ ap length (h .parts .variables)
     ∙ length-map (variables b) (seenVariable o) ∙ listed-length _ (variableCount b) 0
 
-either : {A B C D : Type 0} → (A → C) → (B → D) → A ⊎ B → C ⊎ D
-either f g (inl a) = inl (f a)
-either f g (inr b) = inr (g b)
-
 module _ {T : Type 0} {places : T → ℕ} {HoldsTree : T → ℕ → Forest → Place → Type 0}
     (one : (w : T) (k m : ℕ) (t u : Forest) (p q : Place) → HoldsTree w k t p → HoldsTree w m u q → t ≡ u) (o : Level) (a b : List ℕ) (n m : ℕ)
     (x x′ y y′ : Lent T) (r s : Outcome) (p : Promises places HoldsTree a n x x′ r) (q : Promises places HoldsTree b m y y′ s)
@@ -88,7 +84,7 @@ module _ {T : Type 0} {places : T → ℕ} {HoldsTree : T → ℕ → Forest →
   unseen : Unseen places HoldsTree o (variableCount a) x′ y′ r s
   unseen =
       record {
-        lines = rw (board a n x x′ r p ha, board b m y y′ s q hb) (either (spell-prefix _ _) (spell-prefix _ _) (alike-runs .lines));
+        lines = rw (board a n x x′ r p ha, board b m y y′ s q hb) (⊎-map (spell-prefix _ _) (spell-prefix _ _) (alike-runs .lines));
         finish = λ h k.
             let z = alike-runs .finish (finishes a n x x′ r p ha h) (finishes b m y y′ s q hb k) in
             record {

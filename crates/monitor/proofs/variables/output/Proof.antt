@@ -18,7 +18,7 @@ returns-2 : tie.Need-returns-2
 returns-2 c =
     let s = c .before .before .before .before .before .before .before .before in
     full-output (s .args .pc) (c .before .before .before .before .evaluate .ensures) (s .pre .0 .cursor) (c .before .before .before .flow .ensures) _
-    (allowed (c .before .before .not-above .ensures) (c .before .if1 .left)) (c .if2 .taken)
+    (allowed (c .before .before .not-above .ensures) (c .before .if1 .left)) (omega (arith, c .if2 .taken))
 
 returns-3 : tie.Need-returns-3
 returns-3 c =
