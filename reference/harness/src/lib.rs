@@ -1,0 +1,18 @@
+//! Compares the proved programs with the reference, and measures them.
+//!
+//! - [`frame`]: the frames that `replay` reads, and what it must print.
+//! - [`replay`]: a `replay` process.
+//! - [`portal`]: the portal that is tried: linked, fast, or the reference.
+//! - [`differential`]: whole outcomes against the reference.
+//! - [`leaks`]: pairs of jobs that agree on their public parts.
+//! - [`quick`]: outcomes of the fast version.
+//! - [`arguments`] and [`progress`]: the command lines and the progress lines.
+
+pub mod arguments;
+pub mod differential;
+pub mod frame;
+pub mod leaks;
+pub mod portal;
+pub mod progress;
+pub mod quick;
+pub mod replay;
