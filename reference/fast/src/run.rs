@@ -1,6 +1,6 @@
 //! Checks 9 and 10, and the steps.
 
-use crate::arena::{Node, NONE};
+use crate::arena::{Arena, Node, NONE};
 use crate::check::{check, code, kind, operator};
 use crate::{ending, Answer, Buffers, Limits, Op, Variable};
 use crate::{MAX_BUDGET, MAX_NODES, MAX_VARIABLES};
@@ -59,6 +59,26 @@ fn operand(
     }
 }
 
+/// Commands 8, 9 and 10: "cursor level joins the new node's existence".
+#[inline(always)]
+fn go(
+    arena: &Arena,
+    to: u16,
+    context: u8,
+    cursor: &mut u16,
+    cursor_level: &mut u8,
+) -> Result<(), u8> {
+    if to == NONE {
+        return Err(ending::MISSING);
+    }
+    if context > *cursor_level {
+        return Err(ending::RULE);
+    }
+    *cursor = to;
+    *cursor_level |= arena.at(to).existence;
+    Ok(())
+}
+
 /// "content is L, and 1 if the mark is odd; list is C, and 1 if the mark is 2
 /// or 3"
 #[inline(always)]
@@ -88,7 +108,7 @@ fn steps(buffers: &mut Buffers, budget: u32, places: usize, area: &mut [u8]) -> 
     let mut left = budget;
     let mut lines = 0usize;
     let (ending, index) = loop {
-        let op = ops[next];
+        let op = &ops[next];
         // "At the script's end the run has finished, even with the budget used up."
         if left == 0 && op.code != code::FINISH {
             break (ending::BUDGET_USED, next);
@@ -98,7 +118,7 @@ fn steps(buffers: &mut Buffers, budget: u32, places: usize, area: &mut [u8]) -> 
         match op.code {
             code::NOTHING => next += 1,
             code::ASSIGN => {
-                let (value, e) = evaluate(&op, variables, arena.at(cursor), cursor_level);
+                let (value, e) = evaluate(op, variables, arena.at(cursor), cursor_level);
                 let target = &mut variables[op.target as usize % MAX_VARIABLES];
                 if e | c > target.level {
                     break (ending::RULE, next);
@@ -107,7 +127,7 @@ fn steps(buffers: &mut Buffers, budget: u32, places: usize, area: &mut [u8]) -> 
                 next += 1;
             }
             code::IF => {
-                let (value, e) = evaluate(&op, variables, arena.at(cursor), cursor_level);
+                let (value, e) = evaluate(op, variables, arena.at(cursor), cursor_level);
                 guards = guards << 1 | e as u32;
                 next = if value == 0 {
                     op.jump as usize
@@ -117,7 +137,7 @@ fn steps(buffers: &mut Buffers, budget: u32, places: usize, area: &mut [u8]) -> 
             }
             code::ELSE => next = op.jump as usize,
             code::WHILE => {
-                let (value, e) = evaluate(&op, variables, arena.at(cursor), cursor_level);
+                let (value, e) = evaluate(op, variables, arena.at(cursor), cursor_level);
                 if value == 0 {
                     next = op.jump as usize;
                 } else {
@@ -134,7 +154,7 @@ fn steps(buffers: &mut Buffers, budget: u32, places: usize, area: &mut [u8]) -> 
                 next = op.jump as usize;
             }
             code::PRINT => {
-                let (value, e) = evaluate(&op, variables, arena.at(cursor), cursor_level);
+                let (value, e) = evaluate(op, variables, arena.at(cursor), cursor_level);
                 if e | c != 0 {
                     break (ending::RULE, next);
                 }
@@ -153,26 +173,30 @@ fn steps(buffers: &mut Buffers, budget: u32, places: usize, area: &mut [u8]) -> 
                 cursor_level = context;
                 next += 1;
             }
-            code::UP | code::FIRST_CHILD | code::RIGHT_SIBLING => {
-                let node = arena.at(cursor);
-                let to = match op.code {
-                    code::UP => node.parent,
-                    code::FIRST_CHILD => node.first,
-                    _ => node.right,
-                };
-                if to == NONE {
-                    break (ending::MISSING, next);
+            code::UP => {
+                let to = arena.at(cursor).parent;
+                if let Err(stop) = go(arena, to, context, &mut cursor, &mut cursor_level) {
+                    break (stop, next);
                 }
-                if context > cursor_level {
-                    break (ending::RULE, next);
+                next += 1;
+            }
+            code::FIRST_CHILD => {
+                let to = arena.at(cursor).first;
+                if let Err(stop) = go(arena, to, context, &mut cursor, &mut cursor_level) {
+                    break (stop, next);
                 }
-                cursor = to;
-                cursor_level |= arena.at(to).existence;
+                next += 1;
+            }
+            code::RIGHT_SIBLING => {
+                let to = arena.at(cursor).right;
+                if let Err(stop) = go(arena, to, context, &mut cursor, &mut cursor_level) {
+                    break (stop, next);
+                }
                 next += 1;
             }
             code::NEW_FIRST_CHILD => {
                 let node = arena.at(cursor);
-                let (value, e) = evaluate(&op, variables, node, cursor_level);
+                let (value, e) = evaluate(op, variables, node, cursor_level);
                 let below_old = node.first == NONE || c <= arena.at(node.first).existence;
                 if c > node.list || !below_old {
                     break (ending::RULE, next);
@@ -190,7 +214,7 @@ fn steps(buffers: &mut Buffers, budget: u32, places: usize, area: &mut [u8]) -> 
                 if node.parent == NONE {
                     break (ending::MISSING, next);
                 }
-                let (value, e) = evaluate(&op, variables, node, cursor_level);
+                let (value, e) = evaluate(op, variables, node, cursor_level);
                 let below_old = node.right == NONE || c <= arena.at(node.right).existence;
                 if c > arena.at(node.parent).list || !below_old {
                     break (ending::RULE, next);
@@ -227,7 +251,7 @@ fn steps(buffers: &mut Buffers, budget: u32, places: usize, area: &mut [u8]) -> 
             }
             code::SET_VALUE => {
                 let node = arena.at_mut(cursor);
-                let (value, e) = evaluate(&op, variables, node, cursor_level);
+                let (value, e) = evaluate(op, variables, node, cursor_level);
                 if e | c > node.content {
                     break (ending::RULE, next);
                 }

@@ -20,6 +20,8 @@ use crate::replay::{Printed, Replay};
 pub struct Sides {
     pub replay: Option<Replay>,
     pub portal: Option<Portal>,
+    /// Whether the fast version is compared.
+    pub fast: bool,
     pub mistake: Mistake,
 }
 
@@ -66,21 +68,23 @@ impl Sides {
         let printed = thread::spawn(move || replay.map(|replay| replay.run(stream)));
         let framed: Vec<Case> = frames.iter().map(Frame::case).collect();
         let mut texts = Vec::new();
+        let mut found = Ok(());
         for (seed, case) in seeds.clone().zip(&framed) {
             let outcome = coverage.add(case);
             let outcome = self.planted(outcome, case);
             texts.push(frame::text(&outcome));
-            self.compare(Side::Fast, seed, case, || fast_unlike(case, &outcome))?;
-        }
-        for (seed, case) in seeds.clone().zip(&cases) {
-            if let Some(portal) = self.portal {
-                let call = |job: &[u8], budget, area: &mut [u8]| portal.call(job, budget, area);
-                self.compare(Side::Portal, seed, case, || {
-                    portal_unlike(&call, case, spare(seed), self.mistake)
-                })?;
+            if self.fast {
+                found = found
+                    .and_then(|()| difference(Side::Fast, seed, case, fast_unlike(case, &outcome)));
             }
         }
-        match printed.join().expect("the process was waited for") {
+        for (seed, case) in seeds.clone().zip(&cases) {
+            let unlike = || self.unlike(Side::Portal, case, seed);
+            found = found.and_then(|()| difference(Side::Portal, seed, case, unlike()));
+        }
+        let printed = printed.join().expect("the process was waited for");
+        found?;
+        match printed {
             Some(printed) => self.compare_printed(seeds.start, &framed, &texts, &printed),
             None => Ok(()),
         }
@@ -91,25 +95,6 @@ impl Sides {
         match self.mistake {
             Mistake::None => outcome,
             mistake => run::outcome_with(&case.bytes, &case.limits, mistake),
-        }
-    }
-
-    fn compare(
-        &self,
-        side: Side,
-        seed: u64,
-        case: &Case,
-        unlike: impl Fn() -> Option<Unlike>,
-    ) -> Result<(), Difference> {
-        match unlike() {
-            None => Ok(()),
-            Some(unlike) => Err(Difference {
-                seed,
-                side,
-                case: case.clone(),
-                unlike,
-                alone: true,
-            }),
         }
     }
 
@@ -247,6 +232,25 @@ impl Sides {
                 .map_or(String::new(), |(_, rest)| rest.into())
         })
         .collect()
+    }
+}
+
+/// The texts as a difference, where there are any.
+fn difference(
+    side: Side,
+    seed: u64,
+    case: &Case,
+    unlike: Option<Unlike>,
+) -> Result<(), Difference> {
+    match unlike {
+        None => Ok(()),
+        Some(unlike) => Err(Difference {
+            seed,
+            side,
+            case: case.clone(),
+            unlike,
+            alone: true,
+        }),
     }
 }
 

@@ -6,6 +6,7 @@
 //! - [`differential`]: whole outcomes against the reference.
 //! - [`leaks`]: pairs of jobs that agree on their public parts.
 //! - [`quick`]: outcomes of the fast version.
+//! - [`workloads`]: the jobs that are measured.
 //! - [`arguments`] and [`progress`]: the command lines and the progress lines.
 
 pub mod arguments;
@@ -16,3 +17,4 @@ pub mod portal;
 pub mod progress;
 pub mod quick;
 pub mod replay;
+pub mod workloads;

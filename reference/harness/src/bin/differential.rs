@@ -17,13 +17,14 @@ use reference::run;
 
 const USAGE: &str =
     "differential [--replay PATH | --no-replay] [--portal linked|fast|reference | --no-portal]
-    [--jobs N] [--seconds S] [--seed N] [--forever] [--mistake NAME] [--each-mistake] [--coverage]";
+    [--no-fast] [--jobs N] [--seconds S] [--seed N] [--forever] [--mistake NAME] [--each-mistake] [--coverage]";
 
-const KNOWN: [&str; 11] = [
+const KNOWN: [&str; 12] = [
     "--replay",
     "--no-replay",
     "--portal",
     "--no-portal",
+    "--no-fast",
     "--jobs",
     "--seconds",
     "--seed",
@@ -50,6 +51,7 @@ fn main() {
     let sides = Sides {
         replay,
         portal,
+        fast: !arguments.has("--no-fast"),
         mistake: arguments.mistake(),
     };
     describe(&sides);
@@ -89,8 +91,7 @@ fn compare(sides: &Sides, arguments: &Arguments) -> bool {
         let count = BATCH.min(most - done);
         let first = seed + done;
         if let Err(difference) = sides.batch(first..first + count, &mut coverage) {
-            println!("\nseed {}: the first difference\n", difference.seed);
-            println!("{}\n", difference);
+            println!("\n{difference}\n");
             println!(
                 "the smallest job that shows it\n\n{}",
                 sides.smallest(&difference)

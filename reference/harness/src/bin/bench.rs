@@ -1,0 +1,194 @@
+//! Measures the portal against the fast version, both on the same bytes, in
+//! one run. Prints tables in Markdown.
+//!
+//! A time is the median over repetitions; in each, both sides are timed one
+//! after the other, in turn first. Nothing is subtracted. Areas for lines are
+//! filled with a pattern before the time starts.
+
+use std::hint::black_box;
+use std::time::Instant;
+
+use fast::{Buffers, Limits};
+use harness::arguments::Arguments;
+use harness::portal::Portal;
+use harness::workloads::{self, Growth, Unit, Workload};
+use reference::mistake::Mistake;
+
+const USAGE: &str = "bench [--portal linked|fast] [--repetitions N]";
+
+/// A sample is made of as many calls as take this long on the fast side.
+const SAMPLE_NANOSECONDS: f64 = 300_000.0;
+const MOST_CALLS: usize = 256;
+
+struct Bench {
+    portal: Portal,
+    repetitions: usize,
+    buffers: Box<Buffers>,
+}
+
+/// Nanoseconds a call, for both sides, and the steps of a call.
+struct Measured {
+    ours: f64,
+    fast: f64,
+    steps: u32,
+}
+
+fn main() {
+    let arguments = Arguments::read(USAGE, &["--portal", "--repetitions"]);
+    let mut bench = Bench {
+        portal: arguments.portal(Mistake::None),
+        repetitions: arguments.number("--repetitions", 41) as usize,
+        buffers: Buffers::new(),
+    };
+    println!("ours: {}", bench.portal.name());
+    println!("fast: the fast Rust version, with buffers made once");
+    println!(
+        "medians of {} repetitions; reading the clock takes {:.0} ns and is not subtracted\n",
+        bench.repetitions,
+        clock_nanoseconds()
+    );
+    println!("| | steps | ours | fast | ours / fast |");
+    println!("|---|---:|---:|---:|---:|");
+    for workload in workloads::table() {
+        let measured = bench.measure(&workload);
+        println!("{}", row(&workload, &measured));
+    }
+    bench.growth("nodes", workloads::by_nodes());
+    bench.growth("records", workloads::by_records());
+}
+
+/// One line of the table.
+fn row(workload: &Workload, measured: &Measured) -> String {
+    let time = |nanoseconds: f64| match workload.unit {
+        Unit::Step => format!("{:.2} ns/step", nanoseconds / f64::from(measured.steps)),
+        Unit::Call => format!("{:.3} µs", nanoseconds / 1_000.0),
+    };
+    format!(
+        "| {} | {} | {} | {} | {:.2} |",
+        workload.name,
+        measured.steps,
+        time(measured.ours),
+        time(measured.fast),
+        measured.ours / measured.fast
+    )
+}
+
+fn print_growth(name: &str, side: &str, times: [f64; 3]) {
+    let least = times.iter().copied().fold(f64::INFINITY, f64::min);
+    let most = times.iter().copied().fold(0.0, f64::max);
+    let [few, some, many] = times;
+    let growth = most / least;
+    println!("| {name} | {side} | {few:.2} | {some:.2} | {many:.2} | {growth:.2} |");
+}
+
+impl Bench {
+    /// Nanoseconds a step as jobs grow; the last column is the greatest time
+    /// over the smallest.
+    fn growth(&mut self, what: &str, rows: Vec<Growth>) {
+        let [few, some, many] = rows[0].sizes;
+        println!("\n| ns/step with this many {what} | side | {few} | {some} | {many} | growth |");
+        println!("|---|---|---:|---:|---:|---:|");
+        for row in rows {
+            let measured = row.workloads.map(|workload| self.measure(&workload));
+            print_growth(
+                row.name,
+                "ours",
+                measured.each_ref().map(|m| m.ours / f64::from(m.steps)),
+            );
+            print_growth(
+                row.name,
+                "fast",
+                measured.each_ref().map(|m| m.fast / f64::from(m.steps)),
+            );
+        }
+    }
+
+    fn measure(&mut self, workload: &Workload) -> Measured {
+        let steps = self.steps(workload);
+        self.compare(workload);
+        let once = self.sample(workload, 1, false);
+        let calls = ((SAMPLE_NANOSECONDS / once) as usize).clamp(1, MOST_CALLS);
+        let (mut ours, mut fast) = (Vec::new(), Vec::new());
+        for repetition in 0..self.repetitions {
+            for side in [repetition % 2 == 0, repetition % 2 == 1] {
+                let time = self.sample(workload, calls, side);
+                if side {
+                    ours.push(time);
+                } else {
+                    fast.push(time);
+                }
+            }
+        }
+        Measured {
+            ours: median(ours),
+            fast: median(fast),
+            steps,
+        }
+    }
+
+    /// Nanoseconds a call, over `calls` calls with an area each.
+    fn sample(&mut self, workload: &Workload, calls: usize, ours: bool) -> f64 {
+        let mut areas = vec![0xa5u8; workload.area * calls];
+        let mut parts: Vec<&mut [u8]> = match workload.area {
+            0 => (0..calls).map(|_| Default::default()).collect(),
+            length => areas.chunks_exact_mut(length).collect(),
+        };
+        let job = &workload.job[..];
+        let start = Instant::now();
+        for area in &mut parts {
+            let answer = match ours {
+                true => self.portal.call(black_box(job), workload.budget, area),
+                false => self.fast_call(black_box(job), workload.budget, area),
+            };
+            black_box(answer);
+        }
+        start.elapsed().as_nanos() as f64 / calls as f64
+    }
+
+    fn fast_call(&mut self, job: &[u8], budget: u64, area: &mut [u8]) -> u64 {
+        fast::entry::portal_in(&mut self.buffers, job, budget, area)
+    }
+
+    /// Both sides must give the same answer and the same lines.
+    fn compare(&mut self, workload: &Workload) {
+        let mut ours = vec![0xa5; workload.area];
+        let mut fast = ours.clone();
+        let answers = (
+            self.portal.call(&workload.job, workload.budget, &mut ours),
+            self.fast_call(&workload.job, workload.budget, &mut fast),
+        );
+        assert_eq!(answers.0, answers.1, "{}", workload.name);
+        assert_eq!(ours, fast, "{}", workload.name);
+    }
+
+    fn steps(&mut self, workload: &Workload) -> u32 {
+        let limits = Limits {
+            budget: workload.budget,
+            places: fast::MAX_NODES,
+            variables: fast::MAX_VARIABLES,
+        };
+        let mut area = vec![0; workload.area];
+        let answer = fast::run::run(&mut self.buffers, &workload.job, limits, &mut area);
+        let wanted = match workload.unit {
+            Unit::Step => [0, 25],
+            Unit::Call => [0, 9],
+        };
+        assert!(
+            wanted.contains(&answer.ending),
+            "{}: {answer:?}",
+            workload.name
+        );
+        answer.steps
+    }
+}
+
+fn median(mut times: Vec<f64>) -> f64 {
+    times.sort_by(f64::total_cmp);
+    times[times.len() / 2]
+}
+
+/// What two readings of the clock, one after the other, are apart.
+fn clock_nanoseconds() -> f64 {
+    let times = (0..1_001).map(|_| Instant::now().elapsed().as_nanos() as f64);
+    median(times.collect())
+}
