@@ -1,11 +1,14 @@
 # make test: the whole gate. make help: what else there is.
 .POSIX:
-.PHONY: help test check fmt
+.PHONY: help test check fmt bench fuzz soak
 
 help:
 	@echo 'make test    prove every crate, try every must-fail edit, run every other test'
 	@echo 'make check   prove every crate that changed, and run its programs'
 	@echo 'make fmt     lay out the sources'
+	@echo 'make bench   nanoseconds a step, against a fast version in Rust'
+	@echo 'make fuzz    raw bytes, generated jobs and pairs of jobs, until stopped'
+	@echo 'make soak    ten million jobs through one replay process'
 
 test:
 	@bash tests/gate
@@ -15,3 +18,12 @@ check:
 
 fmt:
 	rt fmt
+
+bench:
+	@bash -c '. tests/harness && "$$harness/bench"'
+
+fuzz:
+	@bash tests/fuzz
+
+soak:
+	@bash -c '. tests/harness && "$$harness/soak"'

@@ -3,6 +3,7 @@
 //! - [`frame`]: the frames that `replay` reads, and what it must print.
 //! - [`replay`]: a `replay` process.
 //! - [`portal`]: the portal that is tried: linked, fast, or the reference.
+//! - [`programs`]: what `board` and `inspect` must print.
 //! - [`differential`]: whole outcomes against the reference.
 //! - [`leaks`]: pairs of jobs that agree on their public parts.
 //! - [`quick`]: outcomes of the fast version.
@@ -14,6 +15,7 @@ pub mod differential;
 pub mod frame;
 pub mod leaks;
 pub mod portal;
+pub mod programs;
 pub mod progress;
 pub mod quick;
 pub mod replay;

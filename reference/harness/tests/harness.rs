@@ -6,6 +6,7 @@ use std::process::{Command, Output};
 use harness::differential::{portal_unlike, spare, Side, Sides, Unlike};
 use harness::frame::Frame;
 use harness::portal::Portal;
+use harness::programs;
 use harness::replay::Replay;
 use reference::generate::{self, Case};
 use reference::mistake::Mistake;
@@ -15,6 +16,7 @@ use reference::source::*;
 const DIFFERENTIAL: &str = env!("CARGO_BIN_EXE_differential");
 const LEAK: &str = env!("CARGO_BIN_EXE_leak");
 const SOAK: &str = env!("CARGO_BIN_EXE_soak");
+const PROGRAMS: &str = env!("CARGO_BIN_EXE_programs");
 const STANDIN: &str = env!("CARGO_BIN_EXE_replay_standin");
 
 fn run(program: &str, words: &[&str]) -> Output {
@@ -237,6 +239,43 @@ fn frames_at_their_edges() {
     some(&|frame| frame.job.len() == 23_049);
     some(&|frame| frame.job.len() > 23_050);
     some(&|frame| frame.budget == u32::MAX);
+}
+
+/// The example of how `inspect` prints, which is trial 6 with 7 for h; and a
+/// refusal, a stop and an empty input.
+#[test]
+fn what_inspect_prints() {
+    let script = [
+        cover(),
+        when(variable(1)),
+        first_child(),
+        end(),
+        root(),
+        print(value()),
+    ];
+    let variables = [public_variable(0), house_variable(7)];
+    let nodes = [root_node([0, 0, 0], 10), node(0, [0, 0, 0], 3)];
+    let text = |bytes: &[u8]| programs::inspect(bytes).output;
+    let expected = "ending 0 finished\nrecord 0\nsteps 6\nlines 1\n  10\nvariables 2\n  \
+                    0: level 0, value 0\n  1: level 1, value 7\ntree 2\n  \
+                    value 10, existence 0, content 0, list 0\n    \
+                    value 3, existence 0, content 0, list 0\n";
+    assert_eq!(text(&job(&variables, &nodes, &script).encode()), expected);
+    let refused = [root_node([0, 0, 0], 10), node(1, [0, 0, 0], 3)];
+    let expected = "ending 5 parent rule broken\nrecord 1\n";
+    assert_eq!(text(&job(&[], &refused, &[]).encode()), expected);
+    let expected = "ending 22 node does not exist\nrecord 0\nsteps 0\nlines 0\nvariables 0\n\
+                    tree 1\n  value 10, existence 0, content 0, list 0\n";
+    assert_eq!(text(&job(&[], &nodes[..1], &[up()]).encode()), expected);
+    assert_eq!(text(&[]), "ending 1 wrong size\nrecord 0\n");
+}
+
+/// A program that prints something else is found.
+#[test]
+fn another_program_is_no_board() {
+    let words = ["--board", "cat", "--inspect", "cat", "--jobs", "5"];
+    let text = ended(PROGRAMS, &words, 1);
+    assert!(text.contains("board differs"), "{text}");
 }
 
 /// The header's fields stand where the format says.
