@@ -8,40 +8,45 @@ use harness::programs::{board, inspect, printed, Streams};
 use reference::generate::{self, Case};
 use reference::{print, shrink};
 
-const USAGE: &str = "programs --board PATH --inspect PATH [--jobs N] [--seed N]";
+const USAGE: &str = "programs [--board PATH] [--inspect PATH] [--jobs N] [--seed N]";
 
-/// A program's name, its path, and what it must print for a job.
-type Program<'a> = (&'static str, &'a str, fn(&[u8]) -> Streams);
+/// A program's name, its path if it is to be tried, and what it must print for
+/// a job.
+type Program<'a> = (&'static str, Option<&'a str>, fn(&[u8]) -> Streams);
 
 fn main() {
     let known = ["--board", "--inspect", "--jobs", "--seed"];
     let arguments = Arguments::read(USAGE, &known);
-    let path = |name: &str| match arguments.text(name) {
-        Some(path) => path.to_owned(),
-        None => fail(&format!("usage: {USAGE}")),
-    };
-    let (board_path, inspect_path) = (path("--board"), path("--inspect"));
-    let programs: [Program; 2] = [
-        ("board", &board_path, board),
-        ("inspect", &inspect_path, inspect),
+    let all: [Program; 2] = [
+        ("board", arguments.text("--board"), board),
+        ("inspect", arguments.text("--inspect"), inspect),
     ];
+    let programs: Vec<Program> = all
+        .into_iter()
+        .filter(|program| program.1.is_some())
+        .collect();
+    if programs.is_empty() {
+        fail(&format!("usage: {USAGE}"));
+    }
     let seed = arguments.number("--seed", 0);
     let jobs = arguments.number("--jobs", 1_000);
     println!("seed {seed}");
     for seed in seed..seed + jobs {
         let case = generate::case(seed);
-        for program in programs {
+        for &program in &programs {
             if differs(program, &case) {
                 report(program, seed, &case);
                 std::process::exit(1);
             }
         }
     }
-    println!("{jobs} jobs through board and inspect, no difference");
+    let names: Vec<&str> = programs.iter().map(|program| program.0).collect();
+    println!("{jobs} jobs through {}, no difference", names.join(" and "));
 }
 
 fn differs((_, path, wanted): Program, case: &Case) -> bool {
-    printed(path, &case.bytes) != Ok(wanted(&case.bytes))
+    let got = path.map(|path| printed(path, &case.bytes));
+    got.is_some_and(|got| got != Ok(wanted(&case.bytes)))
 }
 
 fn report(program: Program, seed: u64, case: &Case) {
@@ -50,5 +55,5 @@ fn report(program: Program, seed: u64, case: &Case) {
     println!("{name} differs from the reference, seed {seed}; the smallest job that shows it");
     println!("{}", print::case(&small));
     println!("expected {:#?}", wanted(&small.bytes));
-    println!("got {:#?}", printed(path, &small.bytes));
+    println!("got {:#?}", path.map(|path| printed(path, &small.bytes)));
 }
