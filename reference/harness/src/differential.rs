@@ -319,7 +319,8 @@ fn pattern(length: usize) -> Vec<u8> {
 }
 
 /// A call of a portal, compared with the reference: the answer, and each byte
-/// of the area and around it.
+/// of the area and around it. Neither the job nor the area need be aligned:
+/// both stand `spare` bytes further than they would.
 pub fn portal_unlike(
     call: &dyn Fn(&[u8], u64, &mut [u8]) -> u64,
     case: &Case,
@@ -332,33 +333,29 @@ pub fn portal_unlike(
         ..Limits::ample(case.limits.budget)
     };
     let outcome = run::outcome_with(&case.bytes, &limits, mistake);
-    let mut wanted = pattern(length + 2 * MARGIN);
+    let start = MARGIN + spare;
+    let mut wanted = pattern(start + length + MARGIN);
+    let mut area = wanted.clone();
     for (line, bytes) in outcome
         .lines
         .iter()
-        .zip(wanted[MARGIN..].chunks_exact_mut(4))
+        .zip(wanted[start..].chunks_exact_mut(4))
     {
         bytes.copy_from_slice(&line.to_le_bytes());
     }
     let wanted_answer = portal::answer(outcome.ending.number(), outcome.lines.len());
-    let mut area = pattern(length + 2 * MARGIN);
-    let answer = call(
-        &case.bytes,
-        case.limits.budget,
-        &mut area[MARGIN..MARGIN + length],
-    );
+    let job = [&vec![0; spare], &case.bytes[..]].concat();
+    let lent = &mut area[start..start + length];
+    let answer = call(&job[spare..], case.limits.budget, lent);
     if answer == wanted_answer && area == wanted {
         return None;
     }
     let text = |answer: u64, area: &[u8]| {
-        let mut text = format!(
-            "ending {} lines {}, an area of {length} bytes\n",
-            answer >> 32,
-            answer as u32
-        );
+        let (ending, lines) = (answer >> 32, answer as u32);
+        let mut text = format!("ending {ending} lines {lines}, an area of {length} bytes\n");
         let differing = (0..area.len()).filter(|&place| area[place] != wanted[place]);
         for place in differing.take(8) {
-            let at = place as isize - MARGIN as isize;
+            let at = place as isize - start as isize;
             writeln!(text, "byte {at} is {}, not {}", area[place], wanted[place]).unwrap();
         }
         text
