@@ -55,15 +55,9 @@ impl Arguments {
         named.or_else(|| std::env::var("REPLAY").ok())
     }
 
-    /// `--mistake NAME`, as it is written in the reference.
+    /// `--mistake NAME`.
     pub fn mistake(&self) -> Mistake {
-        let Some(name) = self.text("--mistake") else {
-            return Mistake::None;
-        };
-        match all_mistakes().find(|mistake| format!("{mistake:?}") == name) {
-            Some(mistake) => mistake,
-            None => fail(&format!("no mistake {name}")),
-        }
+        self.text("--mistake").map_or(Mistake::None, mistake_named)
     }
 
     /// `--portal linked`, `fast` or `reference`; linked if not said.
@@ -76,6 +70,14 @@ impl Arguments {
             "reference" => Portal::Reference(mistake),
             other => fail(&format!("no portal {other}")),
         }
+    }
+}
+
+/// The mistake of this name, as it is written in the reference.
+pub fn mistake_named(name: &str) -> Mistake {
+    match all_mistakes().find(|mistake| format!("{mistake:?}") == name) {
+        Some(mistake) => mistake,
+        None => fail(&format!("no mistake {name}")),
     }
 }
 

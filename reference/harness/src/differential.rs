@@ -299,7 +299,7 @@ fn unlike_printed(expected: String, printed: Printed) -> Option<Unlike> {
 }
 
 /// The parts of an output that begin with a line `job K`.
-fn split_jobs(text: &str) -> Vec<String> {
+pub fn split_jobs(text: &str) -> Vec<String> {
     let mut jobs: Vec<String> = Vec::new();
     for line in text.split_inclusive('\n') {
         if line.starts_with("job ") || jobs.is_empty() {

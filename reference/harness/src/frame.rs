@@ -2,10 +2,13 @@
 
 use std::fmt::Write;
 
+use reference::ending::Ending;
 use reference::generate::Case;
 use reference::job::{MAX_BYTES, MAX_VARIABLES};
 use reference::random::Random;
-use reference::run::{Limits, Outcome, MAX_PLACES};
+use reference::run::{Last, Limits, Outcome, MAX_PLACES};
+use reference::tree::Row;
+use reference::Level;
 
 /// "a number of places above 512 is lent as 513"
 const MOST_PLACES: usize = MAX_PLACES + 1;
@@ -117,6 +120,60 @@ pub fn text(outcome: &Outcome) -> String {
         .unwrap();
     }
     text
+}
+
+/// The outcome that such a text tells, if it is one.
+pub fn parse(text: &str) -> Option<Outcome> {
+    let mut lines = text.lines();
+    let first = numbers(lines.next()?, &["ending", "index", "steps", "lines"])?;
+    let is_ending = |ending: &Ending| i64::from(ending.number()) == first[0];
+    let mut outcome = Outcome {
+        ending: Ending::ALL.into_iter().find(is_ending)?,
+        index: usize::try_from(first[1]).ok()?,
+        steps: u64::try_from(first[2]).ok()?,
+        lines: Vec::new(),
+        last: None,
+    };
+    let mut last = Last {
+        variables: Vec::new(),
+        tree: Vec::new(),
+    };
+    for line in lines {
+        let fields: Vec<i64> = line
+            .split(' ')
+            .skip(1)
+            .map_while(|word| word.parse().ok())
+            .collect();
+        match (line.split(' ').next()?, &fields[..]) {
+            ("line", [value]) => outcome.lines.push(*value as i32),
+            ("variable", [level, value]) => last.variables.push((*level as Level, *value as i32)),
+            ("node", [depth, existence, content, list, value]) => last.tree.push(Row {
+                depth: *depth as usize,
+                existence: *existence as Level,
+                content: *content as Level,
+                list: *list as Level,
+                value: *value as i32,
+            }),
+            _ => return None,
+        }
+    }
+    if outcome.lines.len() as i64 != first[3] {
+        return None;
+    }
+    outcome.last = (!outcome.ending.turned_back()).then_some(last);
+    Some(outcome)
+}
+
+/// The numbers of a line `name number name number ..`.
+fn numbers(line: &str, names: &[&str]) -> Option<Vec<i64>> {
+    let words: Vec<&str> = line.split(' ').collect();
+    if words.len() != 2 * names.len() {
+        return None;
+    }
+    let pairs = words.chunks_exact(2).zip(names);
+    pairs
+        .map(|(pair, name)| (pair[0] == *name).then(|| pair[1].parse().ok())?)
+        .collect()
 }
 
 /// The line before it. Frames count from 0, as all indexes do.

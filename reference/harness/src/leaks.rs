@@ -1,15 +1,19 @@
 //! The leak test: pairs of accepted jobs with the same script that agree on
 //! their public parts. The lines of one run must be the beginning of the
-//! other's; where both finish they must be equal.
+//! other's; where both finish they must be equal. Through `replay`, which tells
+//! the last state too, its public parts must then agree as well.
 
 use std::fmt;
 
 use reference::generate::{self, Pair};
 use reference::random::Random;
-use reference::run::MAX_BUDGET;
-use reference::{print, shrink};
+use reference::run::{Outcome, MAX_BUDGET};
+use reference::{print, public, shrink};
 
+use crate::differential::split_jobs;
+use crate::frame::{self, Frame};
 use crate::portal::Portal;
+use crate::replay::Replay;
 
 /// A budget, and the length of the area for lines in bytes.
 #[derive(Clone, Copy, Debug, PartialEq, Eq)]
@@ -79,6 +83,62 @@ pub fn try_pair(portal: Portal, seed: u64, tally: &mut Tally) -> Result<(), Foun
     Ok(())
 }
 
+/// Tries the pairs of `seeds`, with their own limits, in one process.
+pub fn try_replay(
+    replay: &Replay,
+    seeds: std::ops::Range<u64>,
+    tally: &mut Tally,
+) -> Result<(), Found> {
+    let pairs: Vec<Pair> = seeds.clone().map(generate::pair).collect();
+    let outcomes = replayed(replay, &pairs);
+    for (place, (pair, seed)) in pairs.iter().zip(seeds).enumerate() {
+        let (left, right) = (outcomes.get(2 * place), outcomes.get(2 * place + 1));
+        if let Some(reason) = whole_given_away(pair, left, right) {
+            return Err(Found {
+                seed,
+                pair: pair.clone(),
+                reason,
+            });
+        }
+        if let (Some(Some(left)), Some(Some(right))) = (left, right) {
+            tally.runs += 2;
+            tally.count(&Seen::of(left), &Seen::of(right));
+        }
+    }
+    Ok(())
+}
+
+/// What `replay` tells of the two jobs of each pair, one after the other.
+fn replayed(replay: &Replay, pairs: &[Pair]) -> Vec<Option<Outcome>> {
+    let cases = pairs.iter().flat_map(|pair| [&pair.left, &pair.right]);
+    let frames: Vec<Frame> = cases.map(Frame::of).collect();
+    let printed = replay.run(frame::stream(&frames));
+    let outcome = |job: &String| frame::parse(job.split_once('\n')?.1);
+    split_jobs(&printed.text).iter().map(outcome).collect()
+}
+
+/// Why two whole outcomes tell more than they may, if they do.
+fn whole_given_away(
+    pair: &Pair,
+    left: Option<&Option<Outcome>>,
+    right: Option<&Option<Outcome>>,
+) -> Option<String> {
+    if !pair.well_formed() {
+        return Some(String::from("the pair is not well formed"));
+    }
+    let (Some(Some(left)), Some(Some(right))) = (left, right) else {
+        return Some(String::from("replay tells no outcome"));
+    };
+    if left.ending.turned_back() || right.ending.turned_back() {
+        return Some(format!(
+            "an accepted job was turned back: {left:?}, {right:?}"
+        ));
+    }
+    let leak = public::leak(left, right)?;
+    let (left, right) = (print::outcome(left), print::outcome(right));
+    Some(format!("{leak:?} differ\nleft {left}right {right}"))
+}
+
 /// Budgets from one step up, areas from none up, of any length.
 fn drawn(random: &mut Random) -> Lent {
     let budget = match random.below(4) {
@@ -127,13 +187,35 @@ fn given_away(left: &Seen, right: &Seen) -> Option<String> {
     None
 }
 
+impl Seen {
+    fn of(outcome: &Outcome) -> Seen {
+        Seen {
+            ending: u64::from(outcome.ending.number()),
+            lines: outcome.lines.clone(),
+        }
+    }
+}
+
 impl Found {
-    /// The smallest pair that still gives something away.
+    /// The smallest pair for which `replay` still gives something away.
+    pub fn smallest_replayed(&self, replay: &Replay) -> Found {
+        let reason = |pair: &Pair| {
+            let outcomes = replayed(replay, std::slice::from_ref(pair));
+            whole_given_away(pair, outcomes.first(), outcomes.get(1))
+        };
+        self.smallest_by(&reason)
+    }
+
+    /// The smallest pair for which a portal still gives something away.
     pub fn smallest(&self, portal: Portal) -> Found {
         let reason = |pair: &Pair| {
             let (left, right) = (run(portal, pair, true), run(portal, pair, false));
             given_away(&left, &right)
         };
+        self.smallest_by(&reason)
+    }
+
+    fn smallest_by(&self, reason: &dyn Fn(&Pair) -> Option<String>) -> Found {
         if reason(&self.pair).is_none() {
             return self.clone();
         }

@@ -4,13 +4,13 @@
 use std::process::{Command, Output};
 
 use harness::differential::{portal_unlike, spare, Side, Sides, Unlike};
-use harness::frame::Frame;
+use harness::frame::{self, Frame};
 use harness::portal::Portal;
 use harness::programs;
 use harness::replay::Replay;
 use reference::generate::{self, Case};
 use reference::mistake::Mistake;
-use reference::run::Limits;
+use reference::run::{self, Limits};
 use reference::source::*;
 
 const DIFFERENTIAL: &str = env!("CARGO_BIN_EXE_differential");
@@ -19,7 +19,7 @@ const SOAK: &str = env!("CARGO_BIN_EXE_soak");
 const PROGRAMS: &str = env!("CARGO_BIN_EXE_programs");
 const STANDIN: &str = env!("CARGO_BIN_EXE_replay_standin");
 
-fn run(program: &str, words: &[&str]) -> Output {
+fn started(program: &str, words: &[&str]) -> Output {
     let output = Command::new(program)
         .args(words)
         .env_remove("REPLAY")
@@ -29,7 +29,7 @@ fn run(program: &str, words: &[&str]) -> Output {
 
 /// What a program printed, where it ended with `status`.
 fn ended(program: &str, words: &[&str], status: i32) -> String {
-    let output = run(program, words);
+    let output = started(program, words);
     let text = String::from_utf8(output.stdout).expect("text");
     assert_eq!(output.status.code(), Some(status), "{words:?}\n{text}");
     text
@@ -97,13 +97,16 @@ fn another_program_is_no_replay() {
 #[test]
 fn what_is_missing_is_said() {
     assert_eq!(
-        run(DIFFERENTIAL, &["--portal", "fast"]).status.code(),
+        started(DIFFERENTIAL, &["--portal", "fast"]).status.code(),
         Some(2)
     );
-    assert_eq!(run(SOAK, &[]).status.code(), Some(2));
+    assert_eq!(started(SOAK, &[]).status.code(), Some(2));
     if Portal::linked().is_none() {
-        assert_eq!(run(LEAK, &[]).status.code(), Some(2));
-        assert_eq!(run(DIFFERENTIAL, &["--no-replay"]).status.code(), Some(2));
+        assert_eq!(started(LEAK, &[]).status.code(), Some(2));
+        assert_eq!(
+            started(DIFFERENTIAL, &["--no-replay"]).status.code(),
+            Some(2)
+        );
     }
 }
 
@@ -114,6 +117,40 @@ fn no_leak_where_there_is_none() {
         text.contains("3000 pairs") && text.contains("no leak"),
         "{text}"
     );
+}
+
+/// Through `replay`: whole outcomes.
+#[test]
+fn no_leak_through_replay() {
+    let text = ended(LEAK, &["--replay", STANDIN, "--pairs", "3000"], 0);
+    assert!(
+        text.contains("3000 pairs") && text.contains("no leak"),
+        "{text}"
+    );
+    let leaky = Command::new(LEAK)
+        .args(["--replay", STANDIN, "--pairs", "3000"])
+        .env("STANDIN_MISTAKE", "RootResetsCursorLevel")
+        .output()
+        .expect("the program starts");
+    let text = String::from_utf8_lossy(&leaky.stdout);
+    assert_eq!(leaky.status.code(), Some(1), "{text}");
+    assert!(text.contains("the smallest pair"), "{text}");
+    let text = ended(LEAK, &["--replay", "cat", "--pairs", "10"], 1);
+    assert!(text.contains("replay tells no outcome"), "{text}");
+}
+
+/// What is printed for an outcome tells it whole.
+#[test]
+fn outcomes_can_be_read_back() {
+    for seed in 0..3_000 {
+        let case = Frame::of(&generate::case(seed)).case();
+        let outcome = run::outcome(&case.bytes, &case.limits);
+        assert_eq!(frame::parse(&frame::text(&outcome)), Some(outcome));
+    }
+    assert_eq!(frame::parse("ending 0 index 0 steps 0 lines 1\n"), None);
+    assert_eq!(frame::parse("ending 11 index 0 steps 0 lines 0\n"), None);
+    assert_eq!(frame::parse("index 0 ending 0 steps 0 lines 0\n"), None);
+    assert_eq!(frame::parse(""), None);
 }
 
 #[test]

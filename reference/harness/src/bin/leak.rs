@@ -1,21 +1,23 @@
-//! The leak test over a portal.
+//! The leak test over a portal, or over `replay`.
 //!
 //! Exit status: 0 no leak, 1 a leak, 2 bad usage.
 
 use std::time::Instant;
 
 use harness::arguments::Arguments;
-use harness::leaks::{try_pair, Tally};
+use harness::leaks::{try_pair, try_replay, Found, Tally};
 use harness::portal::Portal;
 use harness::progress::Progress;
+use harness::replay::Replay;
 use reference::mistake::{Mistake, RULED_COMMANDS};
 
 const USAGE: &str =
-    "leak [--portal linked|fast|reference] [--mistake NAME] [--pairs N] [--seconds S]
+    "leak [--portal linked|fast|reference | --replay PATH] [--mistake NAME] [--pairs N] [--seconds S]
     [--seed N] [--forever] [--each-mistake]";
 
-const KNOWN: [&str; 7] = [
+const KNOWN: [&str; 8] = [
     "--portal",
+    "--replay",
     "--mistake",
     "--pairs",
     "--seconds",
@@ -33,24 +35,61 @@ fn main() {
     std::process::exit(if good { 0 } else { 1 });
 }
 
+/// What the pairs go through.
+enum Through {
+    Portal(Portal),
+    Replay(Replay),
+}
+
+/// Pairs for one process.
+const BATCH: u64 = 500;
+
+impl Through {
+    fn read(arguments: &Arguments) -> Through {
+        match arguments.text("--replay") {
+            Some(path) => Through::Replay(Replay { path: path.into() }),
+            None => Through::Portal(arguments.portal(arguments.mistake())),
+        }
+    }
+
+    fn name(&self) -> String {
+        match self {
+            Through::Portal(portal) => format!("portal: {}", portal.name()),
+            Through::Replay(replay) => format!("replay: {}", replay.path),
+        }
+    }
+
+    fn try_some(&self, seed: u64, most: u64, tally: &mut Tally) -> Result<(), Found> {
+        match self {
+            Through::Portal(portal) => try_pair(*portal, seed, tally),
+            Through::Replay(replay) => try_replay(replay, seed..seed + BATCH.min(most), tally),
+        }
+    }
+
+    fn smallest(&self, found: &Found) -> Found {
+        match self {
+            Through::Portal(portal) => found.smallest(*portal),
+            Through::Replay(replay) => found.smallest_replayed(replay),
+        }
+    }
+}
+
 /// True where no pair gave anything away.
 fn search(arguments: &Arguments) -> bool {
-    let portal = arguments.portal(arguments.mistake());
+    let through = Through::read(arguments);
     let seed = arguments.number("--seed", 0);
     let forever = arguments.has("--forever");
     let most = arguments.number("--pairs", if forever { u64::MAX } else { 20_000 });
     let limit = arguments.seconds(if forever { u64::MAX } else { 60 });
-    println!("portal: {}\nseed {seed}", portal.name());
+    println!("{}\nseed {seed}", through.name());
     let start = Instant::now();
     let mut tally = Tally::default();
     let mut progress = Progress::new("leak");
     while tally.pairs < most && start.elapsed() < limit {
-        let seed = seed + tally.pairs;
-        if let Err(found) = try_pair(portal, seed, &mut tally) {
-            println!(
-                "\n{found}\nthe smallest pair that shows it\n\n{}",
-                found.smallest(portal)
-            );
+        let next = seed + tally.pairs;
+        if let Err(found) = through.try_some(next, most - tally.pairs, &mut tally) {
+            let smallest = through.smallest(&found);
+            println!("\n{found}\nthe smallest pair that shows it\n\n{smallest}");
             return false;
         }
         if forever {

@@ -1,19 +1,28 @@
 //! A stand-in for `replay` over the fast version, with which the harness
-//! itself is tried: the same frames, the same text.
+//! itself is tried: the same frames, the same text. Where STANDIN_MISTAKE names
+//! a mistake it runs over the reference with that mistake.
 
 use std::io::{self, BufReader, BufWriter, ErrorKind, Read, Write};
 
+use harness::arguments::mistake_named;
 use harness::frame::{self, Frame};
 use harness::quick;
+use reference::generate::Case;
+use reference::run;
 
 fn main() -> io::Result<()> {
     let mut input = BufReader::new(io::stdin().lock());
     let mut output = BufWriter::new(io::stdout().lock());
     let mut number = 0;
+    let mistake = std::env::var("STANDIN_MISTAKE").map(|name| mistake_named(&name));
+    let outcome = |case: &Case| match mistake {
+        Ok(mistake) => run::outcome_with(&case.bytes, &case.limits, mistake),
+        Err(_) => quick::outcome(case),
+    };
     loop {
         match next_frame(&mut input)? {
             Next::Frame(frame) => {
-                let text = frame::text(&quick::outcome(&frame.case()));
+                let text = frame::text(&outcome(&frame.case()));
                 write!(output, "{}{text}", frame::heading(number))?;
                 number += 1;
             }
