@@ -20,10 +20,10 @@ fmt:
 	rt fmt
 
 bench:
-	@bash -c '. tests/harness && "$$harness/bench"'
+	@bash -c '. tests/harness.sh && "$$harness/bench"'
 
 fuzz:
 	@bash tests/fuzz
 
 soak:
-	@bash -c '. tests/harness && "$$harness/soak"'
+	@bash -c '. tests/harness.sh && "$$harness/soak"'
