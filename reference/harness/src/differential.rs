@@ -56,7 +56,7 @@ impl Sides {
         &self,
         seeds: std::ops::Range<u64>,
         coverage: &mut Coverage,
-    ) -> Result<(), Difference> {
+    ) -> Result<(), Box<Difference>> {
         let cases: Vec<Case> = seeds.clone().map(generate::case).collect();
         let frames: Vec<Frame> = cases
             .iter()
@@ -104,7 +104,7 @@ impl Sides {
         cases: &[Case],
         texts: &[String],
         printed: &Printed,
-    ) -> Result<(), Difference> {
+    ) -> Result<(), Box<Difference>> {
         let wanted = |index: usize| frame::heading(index as u64) + &texts[index];
         let whole: String = (0..texts.len()).map(wanted).collect();
         if printed.text == whole && printed.trouble.is_none() {
@@ -118,7 +118,7 @@ impl Sides {
             text += &format!("({trouble})\n");
         }
         let alone = self.unlike(Side::Replay, &cases[index], 0).is_some();
-        Err(Difference {
+        Err(Box::new(Difference {
             seed: first + index as u64,
             side: Side::Replay,
             case: cases[index].clone(),
@@ -127,7 +127,7 @@ impl Sides {
                 got: text,
             },
             alone,
-        })
+        }))
     }
 
     /// The difference that a case gives by itself.
@@ -241,16 +241,16 @@ fn difference(
     seed: u64,
     case: &Case,
     unlike: Option<Unlike>,
-) -> Result<(), Difference> {
+) -> Result<(), Box<Difference>> {
     match unlike {
         None => Ok(()),
-        Some(unlike) => Err(Difference {
+        Some(unlike) => Err(Box::new(Difference {
             seed,
             side,
             case: case.clone(),
             unlike,
             alone: true,
-        }),
+        })),
     }
 }
 
@@ -318,15 +318,13 @@ fn pattern(length: usize) -> Vec<u8> {
     (0..length).map(|place| (place * 151 + 89) as u8).collect()
 }
 
+/// A portal as a function: job, budget, area.
+pub type Call<'a> = &'a dyn Fn(&[u8], u64, &mut [u8]) -> u64;
+
 /// A call of a portal, compared with the reference: the answer, and each byte
 /// of the area and around it. Neither the job nor the area need be aligned:
 /// both stand `spare` bytes further than they would.
-pub fn portal_unlike(
-    call: &dyn Fn(&[u8], u64, &mut [u8]) -> u64,
-    case: &Case,
-    spare: usize,
-    mistake: Mistake,
-) -> Option<Unlike> {
+pub fn portal_unlike(call: Call, case: &Case, spare: usize, mistake: Mistake) -> Option<Unlike> {
     let length = 4 * case.limits.lines + spare;
     let limits = Limits {
         lines: length / 4,

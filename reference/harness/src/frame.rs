@@ -42,7 +42,7 @@ impl Frame {
 
     /// The same with numbers, now and then, that only a frame can have.
     pub fn varied(case: &Case, seed: u64) -> Frame {
-        let mut random = Random::new(seed ^ 0x6672_616d_65);
+        let mut random = Random::new(seed ^ 0x0066_7261_6d65);
         let mut frame = Frame::of(case);
         match random.below(80) {
             0 => frame.places = random.pick(&[511, 512, 513, 514, 65_535]),

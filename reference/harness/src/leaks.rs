@@ -49,12 +49,14 @@ pub struct Tally {
 }
 
 /// Tries the pair of `seed`, with its own limits and with others drawn.
-pub fn try_pair(portal: Portal, seed: u64, tally: &mut Tally) -> Result<(), Found> {
+pub fn try_pair(portal: Portal, seed: u64, tally: &mut Tally) -> Result<(), Box<Found>> {
     let pair = generate::pair(seed);
-    let found = |pair: &Pair, reason: String| Found {
-        seed,
-        pair: pair.clone(),
-        reason,
+    let found = |pair: &Pair, reason: String| {
+        Box::new(Found {
+            seed,
+            pair: pair.clone(),
+            reason,
+        })
     };
     if !pair.well_formed() {
         return Err(found(&pair, String::from("the pair is not well formed")));
@@ -88,17 +90,17 @@ pub fn try_replay(
     replay: &Replay,
     seeds: std::ops::Range<u64>,
     tally: &mut Tally,
-) -> Result<(), Found> {
+) -> Result<(), Box<Found>> {
     let pairs: Vec<Pair> = seeds.clone().map(generate::pair).collect();
     let outcomes = replayed(replay, &pairs);
     for (place, (pair, seed)) in pairs.iter().zip(seeds).enumerate() {
         let (left, right) = (outcomes.get(2 * place), outcomes.get(2 * place + 1));
         if let Some(reason) = whole_given_away(pair, left, right) {
-            return Err(Found {
+            return Err(Box::new(Found {
                 seed,
                 pair: pair.clone(),
                 reason,
-            });
+            }));
         }
         if let (Some(Some(left)), Some(Some(right))) = (left, right) {
             tally.runs += 2;

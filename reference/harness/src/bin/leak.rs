@@ -59,7 +59,7 @@ impl Through {
         }
     }
 
-    fn try_some(&self, seed: u64, most: u64, tally: &mut Tally) -> Result<(), Found> {
+    fn try_some(&self, seed: u64, most: u64, tally: &mut Tally) -> Result<(), Box<Found>> {
         match self {
             Through::Portal(portal) => try_pair(*portal, seed, tally),
             Through::Replay(replay) => try_replay(replay, seed..seed + BATCH.min(most), tally),
