@@ -23,7 +23,8 @@ use Rattle.job.specs.Layout.{layoutOf}
 use Rattle.monitor.specs.declared.entry.Outcome.{Outcome}
 use Rattle.monitor.specs.declared.entry.Outcome.the-variants.{Refused}
 use Rattle.monitor.specs.Shows.{Slices}
-use Rattle.monitor.specs.Promises.{answerOf, lentBy, bufferTest, Leaves, Promises, Begun, Left}
+use Rattle.monitor.specs.Promises.{answerOf, lentBy, placesIn, Tree, Leaves, Promises}
+use Rattle.monitor.specs.Starting.{bufferTest, Begun, asLent, Left}
 
 -- what the test of the buffers says
 record Enough (n v places room : ℕ) : Type 0 where
@@ -40,29 +41,29 @@ enough nodes variables places room e =
     record { few = leb-true _ _ (w₁ .1); nodes = leb-true _ _ (w₂ .1); variables = leb-true _ _ (w₃ .1) }
 
 module _ (b : List ℕ) (budget : ℕ) (x : Slices) where
-  rejected-so : (k i : ℕ) → checkJob b budget (lentBy x) ≡ Check.refused k i → Promises b budget x x (Refused k i)
+  rejected-so : (k i : ℕ) → checkJob b budget (lentBy placesIn (asLent x)) ≡ Check.refused k i → Promises placesIn Tree b budget (asLent x) (asLent x) (Refused k i)
   unfolding runJob answer answerOf
   rejected-so k i e =
-      let o : runJob b budget (lentBy x) ≡ Rules.rejected k i = rw (e, runJob) in
-      record { answered = sym (ap answer o); leaves = subst (Leaves (variableCount b) x x) (sym o) refl }
+      let o : runJob b budget (lentBy placesIn (asLent x)) ≡ Rules.rejected k i = rw (e, runJob) in
+      record { answered = sym (ap answer o); leaves = subst (Leaves placesIn Tree (variableCount b) (asLent x) (asLent x)) (sym o) refl }
 
   -- the checks 9 and 10
   abbrev limits : Check.Checked
-  limits = require badBudget (budgetRule budget) (require badBuffers (bufferRule b (lentBy x)) Check.accepted)
+  limits = require badBudget (budgetRule budget) (require badBuffers (bufferRule b (lentBy placesIn (asLent x))) Check.accepted)
 
-  pub turned-back : (k i : ℕ) → checkBytes b ≡ Check.refused k i → Promises b budget x x (Refused k i)
+  pub turned-back : (k i : ℕ) → checkBytes b ≡ Check.refused k i → Promises placesIn Tree b budget (asLent x) (asLent x) (Refused k i)
   unfolding checkJob andThen
   turned-back k i e = rejected-so k i (ap (λ (c : Check.Checked). andThen c limits) e)
 
   -- from here on the bytes are accepted
   module _ (ok : checkBytes b ≡ Check.accepted) where
-    later : checkJob b budget (lentBy x) ≡ limits
+    later : checkJob b budget (lentBy placesIn (asLent x)) ≡ limits
     unfolding checkJob andThen
     later = ap (λ (c : Check.Checked). andThen c limits) ok
 
-    pub bad-budget : budgetRule budget ≡ false → Promises b budget x x (Refused badBudget 0)
+    pub bad-budget : budgetRule budget ≡ false → Promises placesIn Tree b budget (asLent x) (asLent x) (Refused badBudget 0)
     unfolding require
-    bad-budget e = rejected-so badBudget 0 (later ∙ ap (λ (t : Bool). require badBudget t (require badBuffers (bufferRule b (lentBy x)) Check.accepted)) e)
+    bad-budget e = rejected-so badBudget 0 (later ∙ ap (λ (t : Bool). require badBudget t (require badBuffers (bufferRule b (lentBy placesIn (asLent x))) Check.accepted)) e)
 
     module _ (spend : budgetRule budget ≡ true) where
       pub within : budget ≤ maxBudget
@@ -73,19 +74,19 @@ module _ (b : List ℕ) (budget : ℕ) (x : Slices) where
       abbrev pub fits : Bool → Type 0
       fits t = bufferTest (l .nodes) (l .variables) (length (x .words) / 8) room ≡ t
 
-      rule : (t : Bool) → fits t → bufferRule b (lentBy x) ≡ t
+      rule : (t : Bool) → fits t → bufferRule b (lentBy placesIn (asLent x)) ≡ t
       unfolding bufferRule bufferTest lentBy layoutOf
       rule t e =
           subst (λ (n : ℕ). bufferTest (nodeCount b) (variableCount b) (length (x .words) / 8) n ≡ t) least
           (subst (λ (k : Layout). bufferTest (k .nodes) (k .variables) (length (x .words) / 8) room ≡ t) layout e)
 
-      last : (t : Bool) → fits t → checkJob b budget (lentBy x) ≡ require badBuffers t Check.accepted
+      last : (t : Bool) → fits t → checkJob b budget (lentBy placesIn (asLent x)) ≡ require badBuffers t Check.accepted
       unfolding require
       last t e =
-          later ∙ ap (λ (u : Bool). require badBudget u (require badBuffers (bufferRule b (lentBy x)) Check.accepted)) spend
+          later ∙ ap (λ (u : Bool). require badBudget u (require badBuffers (bufferRule b (lentBy placesIn (asLent x))) Check.accepted)) spend
           ∙ ap (λ (u : Bool). require badBuffers u Check.accepted) (rule t e)
 
-      pub bad-buffers : fits false → Promises b budget x x (Refused badBuffers 0)
+      pub bad-buffers : fits false → Promises placesIn Tree b budget (asLent x) (asLent x) (Refused badBuffers 0)
       unfolding require
       bad-buffers e = rejected-so badBuffers 0 (last false e)
 
@@ -113,11 +114,11 @@ module _ (b : List ℕ) (budget : ℕ) (x : Slices) where
               valued = omega (arith, large .variables, least);
             }
 
-        pub is-run : (x′ : Slices) (r : Outcome) → Left b budget (length (x .words) / 8) x x′ r → Promises b budget x x′ r
+        pub is-run : (x′ : Slices) (r : Outcome) → Left b budget (length (x .words) / 8) x x′ r → Promises placesIn Tree b budget (asLent x) (asLent x′) r
         unfolding require lentBy
         is-run x′ r h =
-            let o = runs b budget (lentBy x) (last true e) in
+            let o = runs b budget (lentBy placesIn (asLent x)) (last true e) in
             record {
-              answered = h .answered (lentBy x) refl refl ∙ sym (ap answer o);
-              leaves = subst (Leaves (variableCount b) x x′) (sym o) (h .leaves (lentBy x) refl refl);
+              answered = h .answered (lentBy placesIn (asLent x)) refl refl ∙ sym (ap answer o);
+              leaves = subst (Leaves placesIn Tree (variableCount b) (asLent x) (asLent x′)) (sym o) (h .leaves (lentBy placesIn (asLent x)) refl refl);
             }

@@ -1,15 +1,14 @@
--- Variables after a store and lines after one more, and with them what commands 1 and 6 do: the rules' tests come out as those of the levels found,
--- and a store at one index leaves the other indices alone. Assumes nothing.
-use mathlib.Core.Path.{_≡_, refl, sym, ap, ap₂, _∙_}
+-- Variables after a store, and what commands 1 and 6 do: the rules' tests come out as those of the levels found, and a store at one index leaves the
+-- other indices alone. Assumes nothing.
+use mathlib.Core.Path.{_≡_, refl, sym, ap, _∙_}
 use mathlib.Core.Bool.{true, false}
-use mathlib.Core.List.{List, [], _∷_, _++_}
-use Prim.Native.Nat.{ℕ, _+_, _<_, _≤_}
+use mathlib.Core.List.{List}
+use Prim.Native.Nat.{ℕ, _+_, _*_, _<_, _≤_}
 use native.Mathlib.Omega.{arith}
-use native.Mathlib.Numerals.{add-one}
 use native.Mathlib.Decide.{ℕ-discrete}
 use borrow.Author.Tests.{lt-ltb, le-ltb}
 use lib.ListN.{length, getD, set, length-set}
-use lib.Seq.{getD-set-same, getD-set-other, take-suc-set, length-take-le}
+use lib.Seq.{getD-set-same, getD-set-other}
 use lib.IntN.{ℤ, pos}
 use Rattle.rules.specs.Level.{join, notAbove, public}
 use Rattle.rules.specs.Script.{Expression}
@@ -18,8 +17,10 @@ use Rattle.rules.specs.Run as Run
 use Rattle.rules.specs.Run.{flow, boardFull, noVariable, variableAt, withVariables, withLine}
 use Rattle.monitor.specs.declared.memory.Memory.{Memory}
 use Rattle.monitor.specs.declared.evaluate.Valued.{Valued}
-use Rattle.monitor.specs.Shows.{Shows, Variables, Lines, slices}
+use Rattle.monitor.specs.Board.{capacity, replaced}
+use Rattle.monitor.specs.Shows.{Shows, Variables, slices}
 use Rattle.monitor.specs.Acts.{Evaluates, Acts, effect}
+use Rattle.monitor.proofs.Board.{lines-many, replaced-long, replaced-rest, lines-on}
 use Rattle.monitor.proofs.Doing.{flow-number, board-full-number, does-next, passes, refuses, stays}
 use Rattle.monitor.proofs.Evaluation.{flow-test}
 
@@ -45,26 +46,13 @@ variables-set {levels} {values} {n} {i} {j} {vs} u z h lt at long e =
     value-at k b (no p) =
         ap (λ x. x .value) (getD-set-other vs i k new noVariable p) ∙ h .value k b ∙ sym (getD-set-other values j k u (pos 0) (λ q. p (q ∙ at)))
 
--- one line more
-lines-on : {board : List ℤ} {n : ℕ} {ls : List ℤ} (u z : ℤ) → Lines board n ls → n < length board → z ≡ u
-    → Lines (set board n u) (n + 1) (ls ++ (z ∷ []))
-lines-on {board} {n} {ls} u z h lt e =
-    record {
-      fits = omega (arith, length-set board n u);
-      are = rw add-one (take-suc-set board n u lt ∙ ap₂ (λ (a : List ℤ) (b : ℤ). a ++ (b ∷ [])) (h .are) (sym e));
-    }
-
--- how many lines there are
-lines-many : {board : List ℤ} {n : ℕ} {ls : List ℤ} → Lines board n ls → length ls ≡ n
-lines-many {board} {n} h = ap length (sym (h .are)) ∙ length-take-le n board (h .fits)
-
 -- the memory with another number of lines
 abbrev withLines : Memory → ℕ → Memory
 withLines m n = record { cursor = m .cursor; level = m .level; lines = n; free = m .free; used = m .used }
 
 -- r is the value and the level of the expression e, and l is L
 module _ {words levels : List ℕ} {values : List ℤ} {places vars l : ℕ} {m : Memory} {e : Expression} {r : Valued} (pc : ℕ)
-    (x : Evaluates words levels values places vars m e r) (inside : m .cursor < places) (flows : l ≡ join (r .level) (join pc (m .level))) (b : List ℤ) where
+    (x : Evaluates words levels values places vars m e r) (inside : m .cursor < places) (flows : l ≡ join (r .level) (join pc (m .level))) (b : List ℕ) where
   -- command 1, at the index i
   module _ {i j : ℕ} (lt : i < vars) (at : j ≡ i) where
     level-at : {μ : Run.Memory} → Shows places vars (slices words levels values b) m μ → (variableAt (μ .variables) i) .level ≡ getD levels j 0
@@ -84,7 +72,7 @@ module _ {words levels : List ℕ} {values : List ℤ} {places vars l : ℕ} {m 
         record {
           cursor = inside;
           room = λ fits. fits;
-          kept = record { grown = omega arith; values = λ n k. getD-set-other values j n u (pos 0) (λ p. omega arith); board = λ j k. refl };
+          kept = record { grown = omega arith; values = λ n k. getD-set-other values j n u (pos 0) (λ p. omega arith); board = refl };
           acts = λ μ s.
               passes flow (flow-test pc x flows (level-at s) h b μ s)
               (does-next _ refl
@@ -93,30 +81,32 @@ module _ {words levels : List ℕ} {values : List ℤ} {places vars l : ℕ} {m 
 
   -- command 6
   pub no-output : notAbove l 0 ≡ false
-      → Acts places vars (slices words levels values b) (slices words levels values b) m (effect 21 m) (λ μ. Run.output pc μ (length b) e)
+      → Acts places vars (slices words levels values b) (slices words levels values b) m (effect 21 m) (λ μ. Run.output pc μ (capacity b) e)
   unfolding Run.output public
   no-output h = stays inside (λ μ s. refuses flow _ (flow-test pc x flows refl h b μ s) flow-number s)
 
-  pub full-output : notAbove l 0 ≡ true → length b ≤ m .lines
-      → Acts places vars (slices words levels values b) (slices words levels values b) m (effect 24 m) (λ μ. Run.output pc μ (length b) e)
+  pub full-output : notAbove l 0 ≡ true → capacity b ≤ m .lines
+      → Acts places vars (slices words levels values b) (slices words levels values b) m (effect 24 m) (λ μ. Run.output pc μ (capacity b) e)
   unfolding Run.output public
   full-output h full =
       stays inside (λ μ s.
       passes flow (flow-test pc x flows refl h b μ s)
-      (refuses boardFull _ (le-ltb (length (μ .lines)) (length b) (omega (arith, lines-many (s .lines)))) board-full-number s))
+      (refuses boardFull _ (le-ltb (length (μ .lines)) (capacity b) (omega (arith, lines-many (s .lines)))) board-full-number s))
 
-  pub did-output : (u : ℤ) → r .value ≡ u → notAbove l 0 ≡ true → m .lines < length b
-      → Acts places vars (slices words levels values b) (slices words levels values (set b (m .lines) u)) m (effect 0 (withLines m (m .lines + 1)))
-      (λ μ. Run.output pc μ (length b) e)
+  pub did-output : (u : ℤ) → r .value ≡ u → notAbove l 0 ≡ true → m .lines < capacity b → (b′ : List ℕ) → b′ ≡ replaced b (m .lines) u
+      → Acts places vars (slices words levels values b) (slices words levels values b′) m (effect 0 (withLines m (m .lines + 1)))
+      (λ μ. Run.output pc μ (capacity b) e)
   unfolding Run.output withLine public
-  did-output u is h room =
-      record {
+  did-output u is h lt b′ put =
+      let room : 4 * m .lines + 4 ≤ length b = omega arith in
+      rw put
+      (record {
         cursor = inside;
-        room = λ fits. omega (arith, length-set b (m .lines) u);
-        kept = record { grown = omega arith; values = λ j k. refl; board = λ j k. getD-set-other b (m .lines) j u (pos 0) (λ p. omega arith) };
+        room = λ fits. omega (arith, replaced-long b (m .lines) u room);
+        kept = record { grown = omega arith; values = λ j k. refl; board = replaced-rest b (m .lines) u room };
         acts = λ μ s.
             passes flow (flow-test pc x flows refl h b μ s)
-            (passes boardFull (lt-ltb (length (μ .lines)) (length b) (omega (arith, lines-many (s .lines))))
+            (passes boardFull (lt-ltb (length (μ .lines)) (capacity b) (omega (arith, lines-many (s .lines))))
             (does-next _ refl
-            (record { tree = s .tree; level = s .level; variables = s .variables; lines = lines-on u _ (s .lines) room (x .value b μ s ∙ is) })));
-      }
+            (record { tree = s .tree; level = s .level; variables = s .variables; lines = rw (x .value b μ s ∙ is) (lines-on b (m .lines) u room _ (s .lines)) })));
+      })

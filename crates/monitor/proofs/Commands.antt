@@ -34,6 +34,7 @@ use Rattle.monitor.specs.declared.evaluate.Valued.{Valued}
 use Rattle.monitor.specs.declared.control.Running.{Running}
 use Rattle.monitor.specs.declared.control.Stepped.{Stepped}
 use Rattle.monitor.specs.Guards.{Holds}
+use Rattle.monitor.specs.Board.{capacity}
 use Rattle.monitor.specs.Shows.{Slices, Reads, Readable}
 use Rattle.monitor.specs.Acts.{Does, Kept, Acts, Evaluates, moveOf}
 use Rattle.monitor.specs.Stands.{Stands, Timely, Onward, Passes, Jumps, Leaves, Enters, Held, scriptIn, fieldsAt, Script, Safe, Lent, Steps}
@@ -251,7 +252,7 @@ module _ (h : Held) (sc : Script h) where
 
           pub outputs : f .command ≡ 6
               → Acts (h .places) (h .vars) x x′ (r .memory) e
-              (λ μ. Run.output pc μ (length (x .board)) (expressionFrom f))
+              (λ μ. Run.output pc μ (capacity (x .board)) (expressionFrom f))
               → Steps h x x′ r a
           unfolding commands effect
           outputs key = by-number 6 (Action.output _) _ key refl (λ lent μ l. rw (l .board))

@@ -68,7 +68,7 @@ module _ {A : Type 0} {P : A → Type 0} {n : ℕ} {a : A} where
 
 -- nothing is touched where nothing changes
 pub kept-refl : {vars n : ℕ} {x : Slices} → Kept vars x x n n
-kept-refl = record { grown = omega arith; values = λ j h. refl; board = λ j h. refl }
+kept-refl = record { grown = omega arith; values = λ j h. refl; board = refl }
 
 -- an action that leaves slices and memory alone
 module _ {places vars n : ℕ} {x : Slices} {m : Memory} {action : Run.Memory → Result Run.Memory} (inside : m .cursor < places) where

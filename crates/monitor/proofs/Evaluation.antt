@@ -201,13 +201,13 @@ module _ {words levels : List ℕ} {values : List ℤ} {places vars : ℕ} {m : 
       }
 
   -- L, from the level that was found
-  pub flow-shown : {e : Expression} {r : Valued} (pc : ℕ) → Evaluates words levels values places vars m e r → (b : List ℤ) (μ : Run.Memory)
+  pub flow-shown : {e : Expression} {r : Valued} (pc : ℕ) → Evaluates words levels values places vars m e r → (b : List ℕ) (μ : Run.Memory)
       → Shows places vars (slices words levels values b) m μ → flowOf pc μ e ≡ join (r .level) (join pc (m .level))
   unfolding flowOf position
   flow-shown pc x b μ s = ap₂ join (x .level b μ s) (ap (join pc) (s .level))
 
   -- and the rules' test of it against a level
   pub flow-test : {e : Expression} {r : Valued} {l k k′ : ℕ} {t : Bool} (pc : ℕ) → Evaluates words levels values places vars m e r
-      → l ≡ join (r .level) (join pc (m .level)) → k′ ≡ k → notAbove l k ≡ t → (b : List ℤ) (μ : Run.Memory)
+      → l ≡ join (r .level) (join pc (m .level)) → k′ ≡ k → notAbove l k ≡ t → (b : List ℕ) (μ : Run.Memory)
       → Shows places vars (slices words levels values b) m μ → notAbove (flowOf pc μ e) k′ ≡ t
   flow-test pc x flows i h b μ s = ap₂ notAbove (flow-shown pc x b μ s ∙ sym flows) i ∙ h

@@ -34,7 +34,7 @@ use Rattle.monitor.proofs.Touched.{there, nowhere, Under, under, no-par
 abbrev pub withSpace : Memory → ℕ → ℕ → Memory
 withSpace m free used = record { cursor = m .cursor; level = m .level; lines = m .lines; free = free; used = used }
 
-module _ {places vars : ℕ} {w w′ l : List ℕ} {v b : List ℤ} {m : Memory} {free used : ℕ} where
+module _ {places vars : ℕ} {w w′ l b : List ℕ} {v : List ℤ} {m : Memory} {free used : ℕ} where
   -- the words hold the same tree in another way, or another tree
   pub with-space : {μ : Run.Memory} → Shows places vars (slices w l v b) m μ → Holds (cells w′) places used free (m .cursor) (μ .tree) (μ .cursor)
       → Shows places vars (slices w′ l v b) (withSpace m free used) μ
@@ -50,7 +50,7 @@ module _ {places vars : ℕ} {w w′ l : List ℕ} {v b : List ℤ} {m : Memory}
       → ((μ : Run.Memory) → Shows places vars (slices w l v b) m μ → Does (Shows places vars (slices w′ l v b) (withSpace m free used)) n μ (action μ))
       → Acts places vars (slices w l v b) (slices w′ l v b) m (effect n (withSpace m free used)) action
   changes inside f =
-      record { cursor = inside; room = λ h. h; kept = record { grown = omega arith; values = λ j h. refl; board = λ j h. refl }; acts = f }
+      record { cursor = inside; room = λ h. h; kept = record { grown = omega arith; values = λ j h. refl; board = refl }; acts = f }
 
 -- the place on a side of the cursor
 abbrev pub Beside : List ℕ → ℕ → Memory → ℕ → ℕ → Type 0
@@ -59,7 +59,7 @@ Beside w places m side old =
     → Leads (cells w) places used free t (some (to (sideOf side) p)) old
 
 -- removals
-module _ (pc side : ℕ) {places vars old : ℕ} {w l : List ℕ} {v b : List ℤ} {m : Memory} (inside : m .cursor < places)
+module _ (pc side : ℕ) {places vars old : ℕ} {w l b : List ℕ} {v : List ℤ} {m : Memory} (inside : m .cursor < places)
     (beside : Beside w places m side old) where
   pub remove-absent : places ≤ old
       → Acts places vars (slices w l v b) (slices w l v b) m (effect 22 m) (λ μ. removeAt pc μ (to (sideOf side) (μ .cursor)))
@@ -107,7 +107,7 @@ module _ {P : Run.Memory → Type 0} {k : ℕ} {μ : Run.Memory} where
 abbrev pub Inserts : ℕ → ℕ → ℕ → ℕ → Expression → Run.Memory → Result Run.Memory
 Inserts pc side mark places e μ = insertAt pc μ places (to (sideOf side) (μ .cursor)) (up (to (sideOf side) (μ .cursor))) mark e
 
-module _ (pc side mark : ℕ) (e : Expression) {places vars above : ℕ} {w l : List ℕ} {v b : List ℤ} {m : Memory} (inside : m .cursor < places)
+module _ (pc side mark : ℕ) (e : Expression) {places vars above : ℕ} {w l b : List ℕ} {v : List ℤ} {m : Memory} (inside : m .cursor < places)
     (on : ParentOn w places m side above) where
   pub insert-absent : places ≤ above → Acts places vars (slices w l v b) (slices w l v b) m (effect 22 m) (Inserts pc side mark places e)
   unfolding insertAt
@@ -173,7 +173,7 @@ module _ (pc side mark : ℕ) (e : Expression) {places vars above : ℕ} {w l : 
 
 -- r is the value and the level of the expression e, and k is L
 module _ {w l : List ℕ} {v : List ℤ} {places vars k : ℕ} {m : Memory} {e : Expression} {r : Valued} (pc : ℕ) (x : Evaluates w l v places vars m e r)
-    (flows : k ≡ join (r .level) (join pc (m .level))) (b : List ℤ) where
+    (flows : k ≡ join (r .level) (join pc (m .level))) (b : List ℕ) where
   -- the value, by its bits
   told : {n : ℕ} → n ≡ bits (kept w32 (r .value)) → (μ : Run.Memory) → Shows places vars (slices w l v b) m μ → signed n ≡ value μ e
   told i μ s = ap signed i ∙ ap (λ z. signed (bits z)) (read (x .fits)) ∙ signed-bits (record { sfits = x .fits }) ∙ sym (x .value b μ s)

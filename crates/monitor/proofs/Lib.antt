@@ -1,4 +1,5 @@
 -- Laws of the state of the monitor.
+pub mod Board
 pub mod Doing
 pub mod Evaluation
 pub mod Assigned

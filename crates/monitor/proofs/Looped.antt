@@ -3,9 +3,10 @@
 use mathlib.Core.Path.{_≡_, refl, sym, _∙_, ap, subst}
 use mathlib.Core.Bool.{Bool, true, false}
 use mathlib.Core.List.{List}
-use Prim.Native.Nat.{ℕ, zero, suc, _+_, _-_, _<_, _≤_}
+use Prim.Native.Nat.{ℕ, zero, suc, _+_, _-_, _*_, _/_, _<_, _≤_}
 use native.Mathlib.Omega.{arith}
-use lib.ListN.{length, getD}
+use lib.ListN.{length, drop}
+use lib.Seq.{drop-drop}
 use lib.Dec.{ltb}
 use borrow.Author.Tests.{lt-ltb, le-ltb}
 use Rattle.rules.specs.Limits.{maxBudget}
@@ -26,12 +27,18 @@ use Rattle.monitor.proofs.Doing.{kept-refl}
 use Rattle.monitor.proofs.Stepping.{stop-number}
 
 kept-trans : {vars : ℕ} {x y z : Slices} {k m n : ℕ} → Kept vars x y k m → Kept vars y z m n → Kept vars x z k n
-kept-trans {k = k} {m = m} {n = n} a b =
+kept-trans {x = x} {y = y} {k = k} {m = m} {n = n} a b =
     record {
       grown = omega (arith, a .grown, b .grown);
       values = λ j h. b .values j h ∙ a .values j h;
-      board = λ j h. b .board j h ∙ a .board j (omega (arith, b .grown));
+      board = b .board ∙ further;
     }
+  where
+    -- behind 4 * n is behind 4 * m
+    further : drop (4 * n) (y .board) ≡ drop (4 * n) (x .board)
+    further =
+        let e : 4 * n ≡ 4 * m + 4 * (n - m) = omega (arith, b .grown) in
+        rw (e, ← drop-drop (4 * (n - m)) (4 * m) (y .board), ← drop-drop (4 * (n - m)) (4 * m) (x .board), a .board)
 
 -- a state that x and r stand for, from which the rest of the run goes on
 pub record Comes (h : Held) (lent : Buffers) (e : Ended) (x : Slices) (r : Running) (left : ℕ) : Type 0 where
@@ -99,7 +106,7 @@ module _ (h : Held) (sc : Script h) where
       d = subst (Reached h x₀ r₀ budget x r) {x = n} {y = suc (n - 1)} (omega arith) now
 
       lent-now : (lent : Buffers) → Lent h x₀ lent → Lent h x lent
-      lent-now lent l = record { places = l .places; board = l .board ∙ sym (d .board) }
+      lent-now lent l = record { places = l .places; board = l .board ∙ ap (λ (n : ℕ). n / 4) (sym (d .board)) }
 
       -- one step on
       pub goes-on : a .stop ≡ 0 → Reached h x₀ r₀ budget x′ (a .running) (n - 1)

@@ -70,7 +70,7 @@ module _ (pc : ℕ) (μ : Run.Memory) {o : Option Place} where
   unfolding goTo need
   arrives i e = rw (i, e)
 
-module _ {w l : List ℕ} {v b : List ℤ} {places vars : ℕ} {m : Memory} (pc : ℕ) {place : ℕ} {o : Place → Option Place} where
+module _ {w l b : List ℕ} {v : List ℤ} {places vars : ℕ} {m : Memory} (pc : ℕ) {place : ℕ} {o : Place → Option Place} where
   -- a link that leads to no place
   pub acts-absent : m .cursor < places → places ≤ place → Target w places m place o
       → Acts places vars (slices w l v b) (slices w l v b) m (effect 22 m) (λ μ. goTo pc μ (o (μ .cursor)))

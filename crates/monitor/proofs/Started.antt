@@ -8,8 +8,8 @@ use native.Mathlib.Omega.{arith}
 use native.Mathlib.Decide.{ℕ-discrete}
 use lib.Dec.{eqb, leb}
 use lib.IntN.{ℤ, pos}
-use lib.ListN.{length, getD, set, take}
-use lib.Seq.{getD-set-same, getD-set-other, length-take-le}
+use lib.ListN.{length, getD, set, drop}
+use lib.Seq.{getD-set-same, getD-set-other}
 use borrow.Author.Tests.{eq-eqb, ne-eqb}
 use Rattle.rules.specs.Limits.{maxNodes, maxRecords, maxBudget}
 use Rattle.rules.specs.Level.{public}
@@ -36,9 +36,12 @@ use Rattle.monitor.specs.declared.control.Running.{Running}
 use Rattle.monitor.specs.declared.control.Stepped.{Stepped}
 use Rattle.monitor.specs.declared.step.Frame.{Frame}
 use Rattle.monitor.specs.Guards.{Holds as Guarded}
+use Rattle.monitor.specs.Board.{capacity}
 use Rattle.monitor.specs.Shows.{Slices, slices, Variables, Shows}
 use Rattle.monitor.specs.Stands.{Stands, Held, held, scriptIn, Script, Safe, Runs}
-use Rattle.monitor.specs.Promises.{answerOf, outcomeOf, Ran, Loading, VariablesLoaded, Begun, Left}
+use Rattle.monitor.specs.Promises.{answerOf, Tree, Ran}
+use Rattle.monitor.specs.Starting.{outcomeOf, Loading, VariablesLoaded, Begun, asLent, Left}
+use Rattle.monitor.proofs.Board.{no-lines, lines-many, as-written}
 use Rattle.monitor.proofs.Stepping.{stop-number}
 
 -- one variable more
@@ -113,7 +116,7 @@ module _ (b jumps : List ℕ) (budget : ℕ) (x : Slices) (places : ℕ) (ok : c
                 tree = tl (r .parents) places (g .nodes) (g .few);
                 level = refl;
                 variables = shown-variables;
-                lines = record { fits = omega arith; are = refl };
+                lines = no-lines;
               };
           guards = none;
           at = refl;
@@ -123,16 +126,16 @@ module _ (b jumps : List ℕ) (budget : ℕ) (x : Slices) (places : ℕ) (ok : c
     -- what the run leaves
     module _ (x₂ : Slices) (levels : x₂ .levels ≡ x₁ .levels) (a : Stepped)
         (rs : Runs (held b jumps (frame (layoutOf b) places)) x₁ x₂ (startOf (layoutOf b) gs) budget a) (lent : Buffers)
-        (lp : lent .places ≡ places) (lb : lent .lines ≡ length (x .board)) where
+        (lp : lent .places ≡ places) (lb : lent .lines ≡ capacity (x .board)) where
       e : Ended
       e = run lent (script b) budget (begin b)
 
       ran : Rattle.monitor.specs.Stands.Ran (held b jumps (frame (layoutOf b) places)) x₂ a (run lent (script b) budget (begin b))
       unfolding layoutOf script
-      ran = rs .runs lent (begin b) (record { places = lp; board = lb ∙ ap length (sym board) }) (begin-valid b (loads b ok)) begins
+      ran = rs .runs lent (begin b) (record { places = lp; board = lb ∙ ap capacity (sym board) }) (begin-valid b (loads b ok)) begins
 
       line-count : length (run lent (script b) budget (begin b) .last .memory .lines) ≡ a .running .memory .lines
-      line-count = let w = ran .last .memory .lines in ap length (sym (w .are)) ∙ length-take-le _ _ (w .fits)
+      line-count = lines-many (ran .last .memory .lines)
 
       answered : (k : Ending) → run lent (script b) budget (begin b) .ending ≡ k → a .stop ≡ endingNumber k
           → answerOf (outcomeOf a) ≡ answer (Rules.ran (run lent (script b) budget (begin b)))
@@ -143,13 +146,12 @@ module _ (b jumps : List ℕ) (budget : ℕ) (x : Slices) (places : ℕ) (ok : c
       pub answers : answerOf (outcomeOf a) ≡ answer (Rules.ran (run lent (script b) budget (begin b)))
       answers = answered (run lent (script b) budget (begin b) .ending) refl (ran .ending)
 
-      pub leaves : Ran (variableCount b) places x x₂ (run lent (script b) budget (begin b))
+      pub leaves : Ran Tree (variableCount b) places (asLent x) (asLent x₂) (run lent (script b) budget (begin b))
       unfolding layoutOf
       leaves =
           let m = ran .last .memory in
           record {
-            lines = rw line-count (m .lines .are);
-            board = λ j q. rs .kept .board j (omega (arith, q, line-count)) ∙ ap (λ (l : List ℤ). getD l j (pos 0)) board;
+            board = as-written _ (x .board) _ (x₂ .board) (m .lines) line-count (rs .kept .board ∙ ap (drop (4 * a .running .memory .lines)) board);
             variables = m .variables;
             spare-levels = λ j q. ap (λ (l : List ℕ). getD l j 0) levels ∙ vl .spare-levels j q;
             spare-values = λ j q. rs .kept .values j q ∙ vl .spare-values j q;

@@ -2,9 +2,9 @@
 use mathlib.Core.Path.{_≡_}
 use mathlib.Core.Bool.{Bool, true, false, cond}
 use mathlib.Core.Option.{Option, none, some}
-use Prim.Native.Nat.{ℕ, zero, suc, _<_, _≤_}
+use Prim.Native.Nat.{ℕ, zero, suc, _*_, _<_, _≤_}
 use mathlib.Core.List.{List}
-use lib.ListN.{length, getD}
+use lib.ListN.{length, getD, drop}
 use lib.IntN.{ℤ, pos}
 use lib.Signed.{mag}
 use Rattle.rules.specs.Number.{half-range}
@@ -29,8 +29,8 @@ Fits z = mag z < half-range
 -- r is the operand's value and level
 pub record Operates (words levels : List ℕ) (values : List ℤ) (places vars : ℕ) (m : Memory) (a : Operand) (r : Valued) : Type 0 where
   pub fits : Fits (r .value)
-  pub value : (b : List ℤ) (μ : Run.Memory) → Shows places vars (slices words levels values b) m μ → operandValue μ a ≡ r .value
-  pub level : (b : List ℤ) (μ : Run.Memory) → Shows places vars (slices words levels values b) m μ → operandLevel μ a ≡ r .level
+  pub value : (b : List ℕ) (μ : Run.Memory) → Shows places vars (slices words levels values b) m μ → operandValue μ a ≡ r .value
+  pub level : (b : List ℕ) (μ : Run.Memory) → Shows places vars (slices words levels values b) m μ → operandLevel μ a ≡ r .level
 
 -- r is what the operator of a number above 0 makes of two values
 pub record Applies (operator : ℕ) (a b r : ℤ) : Type 0 where
@@ -40,8 +40,8 @@ pub record Applies (operator : ℕ) (a b r : ℤ) : Type 0 where
 -- r is the expression's value and level
 pub record Evaluates (words levels : List ℕ) (values : List ℤ) (places vars : ℕ) (m : Memory) (e : Expression) (r : Valued) : Type 0 where
   pub fits : Fits (r .value)
-  pub value : (b : List ℤ) (μ : Run.Memory) → Shows places vars (slices words levels values b) m μ → value μ e ≡ r .value
-  pub level : (b : List ℤ) (μ : Run.Memory) → Shows places vars (slices words levels values b) m μ → levelOf μ e ≡ r .level
+  pub value : (b : List ℕ) (μ : Run.Memory) → Shows places vars (slices words levels values b) m μ → value μ e ≡ r .value
+  pub level : (b : List ℕ) (μ : Run.Memory) → Shows places vars (slices words levels values b) m μ → levelOf μ e ≡ r .level
 
 -- the number k and what comes after it are as a result of the rules says: 0 and what it goes on with, or the stop's number and what was before
 abbrev pub Follows : {A : Type 0} → (A → Type 0) → ℕ → A → Result A → Type 0
@@ -52,16 +52,16 @@ Follows P k a (stop j) = (k ≡ stopNumber j) × P a
 pub record Does {A : Type 0} (P : A → Type 0) (k : ℕ) (a : A) (x : Result A) : Type 0 where
   pub does : Follows P k a x
 
--- what no action touches: values beyond the variables, board places beyond the last line
+-- what no action touches: values beyond the variables, the board's bytes behind the last line
 pub record Kept (vars : ℕ) (x x′ : Slices) (n n′ : ℕ) : Type 0 where
   pub grown : n ≤ n′
   pub values : (j : ℕ) → vars ≤ j → getD (x′ .values) j (pos 0) ≡ getD (x .values) j (pos 0)
-  pub board : (j : ℕ) → n′ ≤ j → getD (x′ .board) j (pos 0) ≡ getD (x .board) j (pos 0)
+  pub board : drop (4 * n′) (x′ .board) ≡ drop (4 * n′) (x .board)
 
 -- an action: from the slices x and the numbers m to x′ and the effect r, as the rules' action does
 pub record Acts (places vars : ℕ) (x x′ : Slices) (m : Memory) (r : Effect) (action : Run.Memory → Result Run.Memory) : Type 0 where
   pub cursor : r .memory .cursor < places
-  pub room : m .lines ≤ length (x .board) → r .memory .lines ≤ length (x′ .board)
+  pub room : 4 * m .lines ≤ length (x .board) → 4 * r .memory .lines ≤ length (x′ .board)
   pub kept : Kept vars x x′ (m .lines) (r .memory .lines)
   pub acts : (μ : Run.Memory) → Shows places vars x m μ → Does (Shows places vars x′ (r .memory)) (r .stop) μ (action μ)
 

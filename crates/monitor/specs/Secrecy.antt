@@ -1,10 +1,10 @@
--- Demand 3 of the public run: what two calls leave in the lent slices. Assumes nothing.
+-- Demand 3 of the public run: what two calls leave in what they were lent. Assumes nothing.
 use mathlib.Core.Path.{_≡_}
 use mathlib.Core.Logic.{_⊎_}
 use mathlib.Core.List.{List, IsPrefix}
-use Prim.Native.Nat.{ℕ, _<_}
+use Prim.Native.Nat.{ℕ, _*_, _<_}
 use lib.ListN.{getD, take}
-use lib.IntN.{ℤ, pos}
+use lib.IntN.{pos}
 use Rattle.rules.specs.Level.{Level}
 use Rattle.rules.specs.Tree.{Forest, Place}
 use Rattle.rules.specs.Bytes.{variableCount}
@@ -13,32 +13,32 @@ use Rattle.rules.specs.Job.{Variable}
 use Rattle.rules.specs.Outcome.{checkJob}
 use Rattle.rules.specs.Public.{seenVariable, AgreeTrees, Alike}
 use Rattle.monitor.specs.declared.entry.Outcome.{Outcome}
-use Rattle.monitor.specs.Shows.{Slices}
-use Rattle.monitor.specs.Promises.{answerOf, lentBy, Tree, Promises}
+use Rattle.monitor.specs.Promises.{answerOf, Lent, lentBy, Promises}
 
--- the board lines of a call: as many places as its outcome counts
-unfoldable pub boardOf : Outcome → Slices → List ℤ
-boardOf r x = take (answerOf r .lines) (x .board)
+-- the bytes of a call's board lines: four for each that its outcome counts
+unfoldable pub boardOf : {T : Type 0} → Outcome → Lent T → List ℕ
+boardOf r x = take (4 * answerOf r .lines) (x .board)
 
 -- variable i as a call left it
-abbrev pub variableIn : Slices → ℕ → Variable
+abbrev pub variableIn : {T : Type 0} → Lent T → ℕ → Variable
 variableIn x i = record { level = getD (x .levels) i 0; value = getD (x .values) i (pos 0) }
 
-module _ (o : Level) where
+-- for node tables of any kind, as in the promise, and a reader o
+module _ {T : Type 0} (places : T → ℕ) (HoldsTree : T → ℕ → Forest → Place → Type 0) (o : Level) where
   -- the reader o sees the same lines, variables and trees in what two calls with n variables left
-  pub record SameLeft (n : ℕ) (x y : Slices) (r s : Outcome) : Type 0 where
+  pub record SameLeft (n : ℕ) (x y : Lent T) (r s : Outcome) : Type 0 where
     pub lines : boardOf r x ≡ boardOf s y
     pub variables : (i : ℕ) → i < n → seenVariable o (variableIn x i) ≡ seenVariable o (variableIn y i)
-    pub trees : (k m : ℕ) (t u : Forest) (p q : Place) → Tree (x .words) k t p → Tree (y .words) m u q → AgreeTrees o t u
+    pub trees : (k m : ℕ) (t u : Forest) (p q : Place) → HoldsTree (x .table) k t p → HoldsTree (y .table) m u q → AgreeTrees o t u
 
   -- "the board lines of one run are the beginning of the other's; if both finish," the reader o sees the same
-  pub record Unseen (n : ℕ) (x y : Slices) (r s : Outcome) : Type 0 where
+  pub record Unseen (n : ℕ) (x y : Lent T) (r s : Outcome) : Type 0 where
     pub lines : IsPrefix (boardOf r x) (boardOf s y) ⊎ IsPrefix (boardOf s y) (boardOf r x)
     pub finish : answerOf r .ending ≡ 0 → answerOf s .ending ≡ 0 → SameLeft n x y r s
 
-  -- two calls that keep the public run's promise, with accepted jobs that are alike for o, whatever their budgets and slices
+  -- two calls that keep the public run's promise, with accepted jobs that are alike for o, whatever their budgets and buffers
   unfoldable pub SecretCalls : Type 0
   SecretCalls =
-      (a b : List ℕ) (n m : ℕ) (x x′ y y′ : Slices) (r s : Outcome) → Promises a n x x′ r → Promises b m y y′ s
-      → checkJob a n (lentBy x) ≡ accepted → checkJob b m (lentBy y) ≡ accepted → Alike o a b
+      (a b : List ℕ) (n m : ℕ) (x x′ y y′ : Lent T) (r s : Outcome) → Promises places HoldsTree a n x x′ r → Promises places HoldsTree b m y y′ s
+      → checkJob a n (lentBy places x) ≡ accepted → checkJob b m (lentBy places y) ≡ accepted → Alike o a b
       → Unseen (variableCount a) x′ y′ r s

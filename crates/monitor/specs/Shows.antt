@@ -12,15 +12,16 @@ use Rattle.table.specs.Cells.{cells}
 use Rattle.table.specs.Holds.{Holds}
 use Rattle.job.specs.declared.records.Fields.{Fields}
 use Rattle.monitor.specs.declared.memory.Memory.{Memory}
+use Rattle.monitor.specs.Board.{spell}
 
--- the slices that a run works on: the node table's words, the variables' levels and values, the board
+-- the slices that a run works on: the node table's words, the variables' levels and values, the board's bytes
 pub record Slices : Type 0 where
   pub words : List ℕ
   pub levels : List ℕ
   pub values : List ℤ
-  pub board : List ℤ
+  pub board : List ℕ
 
-abbrev pub slices : List ℕ → List ℕ → List ℤ → List ℤ → Slices
+abbrev pub slices : List ℕ → List ℕ → List ℤ → List ℕ → Slices
 slices w l v b = record { words = w; levels = l; values = v; board = b }
 
 -- the first n levels and values are those of the variables
@@ -29,10 +30,10 @@ pub record Variables (levels : List ℕ) (values : List ℤ) (n : ℕ) (vs : Lis
   pub level : (i : ℕ) → i < n → (variableAt vs i) .level ≡ getD levels i 0
   pub value : (i : ℕ) → i < n → (variableAt vs i) .value ≡ getD values i (pos 0)
 
--- the first n places of the board are the lines
-pub record Lines (board : List ℤ) (n : ℕ) (ls : List ℤ) : Type 0 where
-  pub fits : n ≤ length board
-  pub are : take n board ≡ ls
+-- the board starts with the bytes of n lines
+pub record Lines (board : List ℕ) (n : ℕ) (ls : List ℤ) : Type 0 where
+  pub fits : 4 * n ≤ length board
+  pub are : take (4 * n) board ≡ spell ls
 
 -- the slices, of which the table has some places and the variables are a number, show with the numbers m the memory μ
 pub record Shows (places vars : ℕ) (x : Slices) (m : Memory) (μ : Run.Memory) : Type 0 where

@@ -23,6 +23,7 @@ use Rattle.monitor.specs.declared.control.Running.{Running}
 use Rattle.monitor.specs.declared.control.Stepped.{Stepped}
 use Rattle.monitor.specs.declared.step.Frame.{Frame}
 use Rattle.monitor.specs.Guards.{Holds}
+use Rattle.monitor.specs.Board.{capacity}
 use Rattle.monitor.specs.Shows.{Slices, Shows}
 use Rattle.monitor.specs.Acts.{Does, Kept, Fits}
 
@@ -109,13 +110,13 @@ pub record Safe (h : Held) (x : Slices) (r : Running) : Type 0 where
   pub levelled : h .vars ≤ length (x .levels)
   pub valued : h .vars ≤ length (x .values)
   pub cursor : r .memory .cursor < h .places
-  pub room : r .memory .lines ≤ length (x .board)
+  pub room : 4 * r .memory .lines ≤ length (x .board)
   pub within : r .at ≤ h .records
 
 -- the caller's buffers as the rules count them
 pub record Lent (h : Held) (x : Slices) (lent : Buffers) : Type 0 where
   pub places : lent .places ≡ h .places
-  pub board : lent .lines ≡ length (x .board)
+  pub board : lent .lines ≡ capacity (x .board)
 
 -- one step, from the slices x and the record r to x′ and the answer a, is the rules' step of every state that they stand for
 pub record Steps (h : Held) (x x′ : Slices) (r : Running) (a : Stepped) : Type 0 where

@@ -19,7 +19,8 @@ ghost use mathlib.Core.Path.{_≡_};
 ghost use Prim.Native.Nat.{min};
 ghost use Rattle.rules.specs.Outcome.{budgetRule};
 ghost use Rattle.monitor.specs.Shows.{slices};
-ghost use Rattle.monitor.specs.Promises.{outcomeOf, bufferTest, Loading, VariablesLoaded, Begun, Left, Promises};
+ghost use Rattle.monitor.specs.Promises.{lent, placesIn, Tree, Promises};
+ghost use Rattle.monitor.specs.Starting.{outcomeOf, bufferTest, Loading, VariablesLoaded, Begun, Left};
 
 // What becomes of a job: turned back with a number and an index; or run, to its end or to a stop with its number and record.
 pub enum Outcome {
@@ -100,7 +101,7 @@ fn run_accepted(
     places: u32,
     levels: &mut [u8],
     values: &mut [i32],
-    lines: &mut [i32],
+    lines: &mut [u8],
 ) -> Outcome
     requires { ⌜ Begun (now job) l (now jumps) budget (slices (now words) (now levels) (now values) (now lines)) places ⌝ }
     ensures { λ r. ⌜ Left (now (job .entry)) budget places (slices (now (words .entry)) (now (levels .entry)) (now (values .entry)) (now (lines .entry)))
@@ -141,17 +142,18 @@ fn run_accepted(
 }
 
 // The run over a job's bytes, with a budget and what the caller lends: a node table of eight words to a place, the variables' levels and values, and
-// places for board lines.
+// an area for board lines of four bytes each.
 pub fn run_words(
     job: &[u8],
     budget: u64,
     words: &mut [u32],
     levels: &mut [u8],
     values: &mut [i32],
-    lines: &mut [i32],
+    lines: &mut [u8],
 ) -> Outcome
-    ensures { λ r. ⌜ Promises (now (job .entry)) budget (slices (now (words .entry)) (now (levels .entry)) (now (values .entry)) (now (lines .entry)))
-        (slices (now (words .exit)) (now (levels .exit)) (now (values .exit)) (now (lines .exit))) r ⌝ }
+    ensures { λ r. ⌜ Promises placesIn Tree (now (job .entry)) budget
+        (lent (now (words .entry)) (now (levels .entry)) (now (values .entry)) (now (lines .entry)))
+        (lent (now (words .exit)) (now (levels .exit)) (now (values .exit)) (now (lines .exit))) r ⌝ }
 {
     let mut jumps = [0u16; MAX_RECORDS];
     let checked = prepare(job, &mut jumps);

@@ -42,7 +42,7 @@ fn move_to(pc: u8, m: Memory, place: u32, level: u8) -> Effect
 // Command 16, cover: the cursor level becomes 1.
 pub fn raise(places: u32, pc: u8, m: Memory) -> Effect
     requires { ⌜ m .cursor < places ⌝ }
-    ensures { λ r. ⌜ ((w l : List ℕ) (v b : List ℤ) (vars : ℕ)
+    ensures { λ r. ⌜ ((w l : List ℕ) (v : List ℤ) (b : List ℕ) (vars : ℕ)
         → Acts places vars (slices w l v b) (slices w l v b) m r (λ μ. moveTo pc μ (μ .cursor) secret)) ⌝ }
 {
     move_to(pc, m, m.cursor, SECRET)
@@ -51,7 +51,7 @@ pub fn raise(places: u32, pc: u8, m: Memory) -> Effect
 // To where a move leads, if that is a place.
 fn go_to(words: &[u32], places: u32, pc: u8, m: Memory, place: u32) -> Effect
     requires { ⌜ Within (now words) places (m .cursor) ⌝ }
-    ensures { λ r. ⌜ ((l : List ℕ) (v b : List ℤ) (vars : ℕ) (o : Place → Option Place) → Target (now (words .entry)) places m place o
+    ensures { λ r. ⌜ ((l : List ℕ) (v : List ℤ) (b : List ℕ) (vars : ℕ) (o : Place → Option Place) → Target (now (words .entry)) places m place o
         → Acts places vars (slices (now (words .entry)) l v b) (slices (now (words .entry)) l v b) m r (λ μ. goTo pc μ (o (μ .cursor)))) ⌝ }
 {
     if place >= places {
@@ -71,7 +71,7 @@ fn go_to(words: &[u32], places: u32, pc: u8, m: Memory, place: u32) -> Effect
 // Commands 7 to 10: root, up, first child, right sibling.
 pub fn go(command: u8, words: &[u32], places: u32, pc: u8, m: Memory) -> Effect
     requires { ⌜ Within (now words) places (m .cursor) × ((7 ≤ command) × (command ≤ 10)) ⌝ }
-    ensures { λ r. ⌜ ((l : List ℕ) (v b : List ℤ) (vars : ℕ)
+    ensures { λ r. ⌜ ((l : List ℕ) (v : List ℤ) (b : List ℕ) (vars : ℕ)
         → Acts places vars (slices (now (words .entry)) l v b) (slices (now (words .entry)) l v b) m r (λ μ. moveOf command pc μ)) ⌝ }
 {
     match command {

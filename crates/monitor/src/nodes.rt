@@ -92,7 +92,7 @@ pub fn insert(
     m: Memory,
 ) -> Effect
     requires { ⌜ Readable (now words) (now levels) (now values) places vars m × (Reads vars f × (side < 2)) ⌝ }
-    ensures { λ r. ⌜ ((b : List ℤ) → Acts places vars (slices (now (words .entry)) (now (levels .entry)) (now (values .entry)) b)
+    ensures { λ r. ⌜ ((b : List ℕ) → Acts places vars (slices (now (words .entry)) (now (levels .entry)) (now (values .entry)) b)
         (slices (now (words .exit)) (now (levels .entry)) (now (values .entry)) b) m r
         (λ μ. Run.insertAt pc μ places (to (sideOf side) (μ .cursor)) (up (to (sideOf side) (μ .cursor))) (f .target) (expressionFrom f))) ⌝ }
 {
@@ -139,7 +139,7 @@ pub fn insert(
 // Commands 13 and 14, by the side: the first node there goes, with its subtree.
 pub fn remove(side: u32, words: &mut [u32], places: u32, pc: u8, m: Memory) -> Effect
     requires { ⌜ Within (now words) places (m .cursor) × (side < 2) ⌝ }
-    ensures { λ r. ⌜ ((l : List ℕ) (v b : List ℤ) (vars : ℕ) → Acts places vars (slices (now (words .entry)) l v b)
+    ensures { λ r. ⌜ ((l : List ℕ) (v : List ℤ) (b : List ℕ) (vars : ℕ) → Acts places vars (slices (now (words .entry)) l v b)
         (slices (now (words .exit)) l v b) m r (λ μ. Run.removeAt pc μ (to (sideOf side) (μ .cursor)))) ⌝ }
 {
     let old = walk::beside(words, places, m.cursor, side);
@@ -175,7 +175,7 @@ pub fn write(
     m: Memory,
 ) -> Effect
     requires { ⌜ Readable (now words) (now levels) (now values) places vars m × Reads vars f ⌝ }
-    ensures { λ r. ⌜ ((b : List ℤ) → Acts places vars (slices (now (words .entry)) (now (levels .entry)) (now (values .entry)) b)
+    ensures { λ r. ⌜ ((b : List ℕ) → Acts places vars (slices (now (words .entry)) (now (levels .entry)) (now (values .entry)) b)
         (slices (now (words .exit)) (now (levels .entry)) (now (values .entry)) b) m r (λ μ. Run.write pc μ (expressionFrom f))) ⌝ }
 {
     let e = evaluate(f, levels, values, vars, words, places, m);

@@ -18,7 +18,7 @@ pub fn run(
     budget: u32,
     words: &mut [u32],
     values: &mut [i32],
-    lines: &mut [i32],
+    lines: &mut [u8],
     start: Running,
 ) -> Stepped
     requires { ⌜ Script (held (now job) (now jumps) f)

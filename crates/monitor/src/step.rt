@@ -48,7 +48,7 @@ pub fn step(
     f: Frame,
     words: &mut [u32],
     values: &mut [i32],
-    lines: &mut [i32],
+    lines: &mut [u8],
     r: Running,
 ) -> Stepped
     requires { ⌜ Script (held (now job) (now jumps) f)

@@ -8,13 +8,15 @@ use rules::levels::PUBLIC;
 use rules::levels::not_above;
 use rules::limits::BOARD_FULL;
 use rules::limits::FLOW;
+use rules::numbers::bits;
 ghost use mathlib.Core.Path.{_≡_};
 ghost use mathlib.Core.List.{List};
-ghost use Prim.Native.Nat.{_<_, _≤_};
+ghost use Prim.Native.Nat.{ℕ, _+_, _*_, _%_, _<_, _≤_};
 ghost use lib.IntN.{ℤ};
 ghost use lib.ListN.{length};
 ghost use Rattle.rules.specs.Run as Run;
 ghost use Rattle.job.specs.Fields.{expressionFrom};
+ghost use Rattle.monitor.specs.Board.{capacity, replaced};
 ghost use Rattle.monitor.specs.Shows.{Readable, Reads, slices};
 ghost use Rattle.monitor.specs.Acts.{Acts};
 
@@ -36,7 +38,7 @@ pub fn assign(
     m: Memory,
 ) -> Effect
     requires { ⌜ Readable (now words) (now levels) (now values) places vars m × (Reads vars f × (f .target < vars)) ⌝ }
-    ensures { λ r. ⌜ ((b : List ℤ) → Acts places vars (slices (now (words .entry)) (now (levels .entry)) (now (values .entry)) b)
+    ensures { λ r. ⌜ ((b : List ℕ) → Acts places vars (slices (now (words .entry)) (now (levels .entry)) (now (values .entry)) b)
         (slices (now (words .entry)) (now (levels .entry)) (now (values .exit)) b) m r
         (λ μ. Run.assign pc μ (f .target) (Run.variableAt (μ .variables) (f .target)) (expressionFrom f))) ⌝ }
 {
@@ -53,6 +55,25 @@ pub fn assign(
     Effect { stop: 0, memory: m }
 }
 
+fn low_byte(w: u32) -> u8
+    ensures { λ r. ⌜ r ≡ w % 256 ⌝ }
+{
+    (w % 256) as u8
+}
+
+// Line n: four bytes, the lowest first.
+fn put_line(lines: &mut [u8], n: usize, v: i32)
+    requires { ⌜ 4 * n + 4 ≤ length (now lines) ⌝ }
+    ensures { λ _. ⌜ now (lines .exit) ≡ replaced (now (lines .entry)) n v ⌝ }
+{
+    let w = bits(v);
+    let at = 4 * n;
+    lines[at] = low_byte(w);
+    lines[at + 1] = low_byte(w / 256);
+    lines[at + 2] = low_byte(w / 65536);
+    lines[at + 3] = low_byte(w / 16777216);
+}
+
 // Command 6: a board line.
 pub fn output(
     f: Fields,
@@ -61,14 +82,14 @@ pub fn output(
     vars: usize,
     words: &[u32],
     places: u32,
-    lines: &mut [i32],
+    lines: &mut [u8],
     pc: u8,
     m: Memory,
 ) -> Effect
-    requires { ⌜ Readable (now words) (now levels) (now values) places vars m × (Reads vars f × (m .lines ≤ length (now lines))) ⌝ }
+    requires { ⌜ Readable (now words) (now levels) (now values) places vars m × (Reads vars f × (4 * m .lines ≤ length (now lines))) ⌝ }
     ensures { λ r. ⌜ Acts places vars (slices (now (words .entry)) (now (levels .entry)) (now (values .entry)) (now (lines .entry)))
         (slices (now (words .entry)) (now (levels .entry)) (now (values .entry)) (now (lines .exit))) m r
-        (λ μ. Run.output pc μ (length (now (lines .entry))) (expressionFrom f)) ⌝ }
+        (λ μ. Run.output pc μ (capacity (now (lines .entry))) (expressionFrom f)) ⌝ }
 {
     let e = evaluate(f, levels, values, vars, words, places, m);
     if !not_above(flow(e.level, pc, m), PUBLIC) {
@@ -78,14 +99,13 @@ pub fn output(
         };
     }
     let n = m.lines;
-    if n >= lines.len() {
+    if n >= lines.len() / 4 {
         return Effect {
             stop: BOARD_FULL,
             memory: m,
         };
     }
-    let v = e.value;
-    lines[n] = v;
+    put_line(lines, n, e.value);
     let mut next = m;
     next.lines = n + 1;
     Effect {

@@ -26,7 +26,7 @@ fn run_lent(
     words: &mut [u32],
     levels: &mut [u8],
     values: &mut [i32],
-    lines: &mut [i32],
+    lines: &mut [u8],
 ) {
     let o = run_words(bytes, budget, words, levels, values, lines);
     print::show(name, o, lines, values, variables(bytes));
@@ -34,15 +34,15 @@ fn run_lent(
 
 // Lends a job buffers of the lengths that it asks for.
 fn run_one(name: &[u8], bytes: &[u8], s: Settings)
-    requires { ⌜ (s .words ≤ 4104) × (s .room ≤ 64) × (s .lines ≤ 256) ⌝ }
+    requires { ⌜ (s .words ≤ 4104) × (s .room ≤ 64) × (s .lines ≤ 1024) ⌝ }
 {
     let mut words = [0u32; 4104];
     let mut levels = [0u8; 64];
     let mut values = [0i32; 64];
-    let mut lines = [0i32; 256];
+    let mut lines = [0u8; 1024];
     let count = s.words;
     let room = s.room;
-    let places = s.lines;
+    let area = s.lines;
     run_lent(
         name,
         bytes,
@@ -50,7 +50,7 @@ fn run_one(name: &[u8], bytes: &[u8], s: Settings)
         &mut words[..count],
         &mut levels[..room],
         &mut values[..room],
-        &mut lines[..places],
+        &mut lines[..area],
     );
 }
 

@@ -1,5 +1,6 @@
 // Prints what a job comes to, on a line.
 use super::settings::at_most;
+use job::reads::signed_at;
 use libc::STDOUT_FILENO;
 use monitor::Outcome;
 use rules::numbers::bits;
@@ -33,6 +34,17 @@ fn first(name: &[u8], list: &[i32], n: usize) {
     io::write_all(STDOUT_FILENO, name);
     let k = at_most(n, list.len());
     numbers(&list[..k]);
+}
+
+// The first board lines, of four bytes each.
+fn board(lines: &[u8], n: usize) {
+    io::write_all(STDOUT_FILENO, b", board");
+    let k = at_most(n, lines.len() / 4);
+    let mut i = 0;
+    while i < k {
+        signed(signed_at(lines, 4 * i));
+        i += 1;
+    }
 }
 
 // Ending, record index, steps and line count.
@@ -72,14 +84,14 @@ fn answer_of(o: Outcome) -> Ended {
 }
 
 // The name, the answer, the board lines and the values of the variables.
-pub fn show(name: &[u8], o: Outcome, lines: &[i32], values: &[i32], variables: usize) {
+pub fn show(name: &[u8], o: Outcome, lines: &[u8], values: &[i32], variables: usize) {
     let a = answer_of(o);
     io::write_all(STDOUT_FILENO, name);
     item(b": ending ", a.ending as u64);
     item(b" at ", a.index as u64);
     item(b", steps ", a.steps as u64);
     item(b", lines ", a.lines as u64);
-    first(b", board", lines, a.lines);
+    board(lines, a.lines);
     first(b", values", values, variables);
     io::write_all(STDOUT_FILENO, b"\n");
 }

@@ -3,7 +3,7 @@ ghost use Prim.Native.Nat.{_≤_};
 use text::decimal;
 use text::find;
 
-// The budget, and the lengths of the node table in words, of the variables' buffers and of the board's.
+// The budget, and the lengths of the node table in words, of the variables' buffers and of the board in bytes.
 pub struct Settings {
     pub budget: u64,
     pub words: usize,
@@ -21,7 +21,7 @@ pub fn at_most(n: usize, most: usize) -> usize
 // Each number ends where the next word begins: the first p behind the comma is that of places, the first r behind that the one of room, and the first
 // l behind that the one of lines.
 pub fn read(text: &[u8]) -> Settings
-    ensures { λ r. ⌜ (r .words ≤ 4104) × (r .room ≤ 64) × (r .lines ≤ 256) ⌝ }
+    ensures { λ r. ⌜ (r .words ≤ 4104) × (r .room ≤ 64) × (r .lines ≤ 1024) ⌝ }
 {
     let comma = find(text, 0, b',');
     let p = find(text, comma, b'p');
@@ -35,6 +35,6 @@ pub fn read(text: &[u8]) -> Settings
         budget: budget as u64,
         words: 8 * places,
         room,
-        lines,
+        lines: 4 * lines,
     }
 }

@@ -1,6 +1,6 @@
 -- `entry::buffers_ok` meets its contract: it computes the test. Assumes nothing.
 use mathlib.Core.Path.{refl}
-use Rattle.monitor.specs.Promises.{bufferTest}
+use Rattle.monitor.specs.Starting.{bufferTest}
 use Rattle.monitor.proofs.entry.buffers_ok.Statement.{statement}
 use Rattle.monitor.proofs.entry.buffers_ok.Tie as tie
 

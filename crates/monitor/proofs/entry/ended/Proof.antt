@@ -1,6 +1,6 @@
 -- `entry::ended` meets its contract: by whether there was a stop. Assumes nothing.
 use borrow.Author.Tests.{eq-eqb, ne-eqb}
-use Rattle.monitor.specs.Promises.{outcomeOf}
+use Rattle.monitor.specs.Starting.{outcomeOf}
 use Rattle.monitor.proofs.entry.ended.Statement.{statement}
 use Rattle.monitor.proofs.entry.ended.Tie as tie
 

@@ -7,7 +7,7 @@ use native.Mathlib.Omega.{arith}
 use borrow.Author.Needs.{needs}
 use lib.ListN.{length}
 use lib.ListN.{length-set}
-use Rattle.monitor.specs.Promises.{VariablesLoaded}
+use Rattle.monitor.specs.Starting.{VariablesLoaded}
 use Rattle.monitor.proofs.Started.{loaded-more}
 use Rattle.monitor.proofs.entry.load_variables.Statement.{statement}
 use Rattle.monitor.proofs.entry.load_variables.Tie as tie

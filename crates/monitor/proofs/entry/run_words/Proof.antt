@@ -15,7 +15,7 @@ abbrev lent : tie.Start → Slices
 lent s = slices (s .args .words .now) (s .args .levels .now) (s .args .values .now) (s .args .lines .now)
 
 -- the bytes are accepted, and the layout is theirs
-told : (c : tie.After-known-told2) → let b = c .before .before .before .before .before .before .before .before .before .args .job .now in
+told : (c : tie.After-known-told2) → let b = c .before .before .before .before .before .before .before .before .before .before .args .job .now in
     (checkBytes b ≡ accepted) × (c .before .checked2 .given .0 .0 ≡ layoutOf b)
 told c = is-accepted _ _ _ (sym (c .before .before .before .before .prepare .ensures .answered) ∙ c .before .checked2 .given .1)
 
@@ -30,7 +30,7 @@ returns-2 c =
 
 cast-run-accepted : tie.Need-cast-run-accepted
 cast-run-accepted c =
-    let s = c .before .before .before .before .before .before .before .before .before .before .before .before .before .before .before in
+    let s = c .before .before .before .before .before .before .before .before .before .before .before .before .before .before .before .before in
     let d = c .before in
     let w = within (s .args .job .now) (s .args .budget) (lent s) (told (d .before .before .before .before .before) .0) (allowed (d .before .before .before .before .budget-ok .ensures) (d .before .before .before .if1 .left)) in
     search (needs, w)
@@ -40,7 +40,7 @@ cast-run-accepted-2 c =
     let d = c .before .before in
     let t = told (d .before .before .before .before .before) in
     let w = allowed (d .before .before .before .before .budget-ok .ensures) (d .before .before .before .if1 .left) in
-    let v = few _ _ (lent (c .before .before .before .before .before .before .before .before .before .before .before .before .before .before .before .before)) (t .0) _ (t .1) w _ (d .before .before .smaller .ensures) (allowed (d .before .buffers-ok .ensures) (d .if2 .left)) in
+    let v = few _ _ (lent (c .before .before .before .before .before .before .before .before .before .before .before .before .before .before .before .before .before)) (t .0) _ (t .1) w _ (d .before .before .smaller .ensures) (allowed (d .before .buffers-ok .ensures) (d .if2 .left)) in
     search (needs, v)
 
 run-accepted-requires : tie.Need-run-accepted-requires
@@ -57,11 +57,11 @@ returns-3 c =
 
 returns-4 : tie.Need-returns-4
 returns-4 c =
-    let d = c .before .before .before .before .before .before .before .before .before .before .before .before in
+    let d = c .before .before .before .before .before .before .before .before .before .before .before .before .before in
     let t = told (d .before .before .before .before .before) in
     let w = allowed (d .before .before .before .before .budget-ok .ensures) (d .before .before .before .if1 .left) in
     is-run _ _ (slices _ _ _ _) (t .0) _ (t .1) w _ (d .before .before .smaller .ensures) (allowed (d .before .buffers-ok .ensures) (d .if2 .left))
-    (slices _ _ _ _) _ (c .before .before .before .before .before .before .run-accepted .ensures)
+    (slices _ _ _ _) _ (c .before .before .before .before .before .before .before .run-accepted .ensures)
 
 pub run-words-spec : {M : Type 1} → statement M
 run-words-spec =

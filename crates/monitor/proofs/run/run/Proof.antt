@@ -20,18 +20,18 @@ abbrev μ-loop : tie.MeasureT-loop
 
 loop-holds : tie.Need-loop-holds Inv-loop μ-loop
 loop-holds c =
-    let p = c .before .before .before .before .pre in
+    let p = c .before .before .before .before .before .pre in
     (starts _ (p .0) _ _ _ (p .1 .0) (p .1 .1), refl, refl, refl)
 
 returns : tie.Need-returns Inv-loop μ-loop
 returns c =
-    let p = c .before .before .before .before .before .before .before .before .before .pre in
+    let p = c .before .before .before .before .before .before .before .before .before .before .pre in
     let h = c .before .before .before .before .loop .inv in
     finishes _ (p .0) _ _ _ _ _ _ (h .0) (c .if1 .taken)
 
 step-requires : tie.Need-step-requires Inv-loop μ-loop
 step-requires c κs =
-    let p = c .before .before .before .before .before .before .before .before .before .before .before .before .pre in
+    let p = c .before .before .before .before .before .before .before .before .before .before .before .before .before .pre in
     let h = c .before .before .before .before .before .before .before .loop .inv in (
       p .0,
       (
@@ -50,35 +50,33 @@ step-requires c κs =
 
 returns-2 : tie.Need-returns-2 Inv-loop μ-loop
 returns-2 c =
-    let p = c .before .before .before .before .before .before .before .before .before .before .before .before .before .before .before .before .before .before .before .before .pre in
-    let h = c .before .before .before .before .before .before .before .before .before .before .before .before .before .before .before .loop .inv in
-    let s = c .before .before .before .before .before .before .before .step .ensures in
-    stops-here _ (p .0) _ _ _ _ _ _ (h .0) (c .before .before .before .before .before .before .before .before .before .before .before .before .before
-    .before .loop-test .taken) (c .before .before .before .before .before .before .before .before .before .before .before .if1 .left) _ _ s (c .if2
+    let p = c .before .before .before .before .before .before .before .before .before .before .before .before .before .before .before .before .before .before .before .before .before .before .pre in
+    let h = c .before .before .before .before .before .before .before .before .before .before .before .before .before .before .before .before .loop .inv in
+    let s = c .before .before .before .before .before .before .before .before .step .ensures in
+    stops-here _ (p .0) _ _ _ _ _ _ (h .0) (c .before .before .before .before .before .before .before .before .before .before .before .before .before .before .before .loop-test .taken) (c .before .before .before .before .before .before .before .before .before .before .before .before .if1 .left) _ _ s (c .if2
     .taken)
 
 loop-again : tie.Need-loop-again Inv-loop μ-loop
 loop-again c =
-    let p = c .before .before .before .before .before .before .before .before .before .before .before .before .before .before .before .before .before .before .before .before .pre in
-    let h = c .before .before .before .before .before .before .before .before .before .before .before .before .before .before .before .loop .inv in
-    let s = c .before .before .before .before .before .before .before .step .ensures in (
-      goes-on _ (p .0) _ _ _ _ _ _ (h .0) (c .before .before .before .before .before .before .before .before .before .before .before .before .before
-          .before .loop-test .taken) (c .before .before .before .before .before .before .before .before .before .before .before .if1 .left) _ _ s (c .if2
+    let p = c .before .before .before .before .before .before .before .before .before .before .before .before .before .before .before .before .before .before .before .before .before .before .pre in
+    let h = c .before .before .before .before .before .before .before .before .before .before .before .before .before .before .before .before .loop .inv in
+    let s = c .before .before .before .before .before .before .before .before .step .ensures in (
+      goes-on _ (p .0) _ _ _ _ _ _ (h .0) (c .before .before .before .before .before .before .before .before .before .before .before .before .before .before .before .loop-test .taken) (c .before .before .before .before .before .before .before .before .before .before .before .before .if1 .left) _ _ s (c .if2
           .left),
-      c .before .before .before .before .before .before .words .given ∙ h .1,
-      c .before .before .before .before .values .given ∙ h .2,
-      c .before .before .before .lines .given ∙ h .3,
+      c .before .before .before .before .before .before .before .words .given ∙ h .1,
+      c .before .before .before .before .before .values .given ∙ h .2,
+      c .before .before .before .before .lines .given ∙ h .3,
     )
 
 returns-3 : tie.Need-returns-3 Inv-loop μ-loop
 returns-3 c =
-    let p = c .before .before .before .before .before .before .before .before .before .pre in
+    let p = c .before .before .before .before .before .before .before .before .before .before .pre in
     let h = c .before .before .before .before .loop .inv in
     finishes _ (p .0) _ _ _ _ _ _ (h .0) (c .if3 .taken)
 
 returns-4 : tie.Need-returns-4 Inv-loop μ-loop
 returns-4 c =
-    let p = c .before .before .before .before .before .before .before .before .before .pre in
+    let p = c .before .before .before .before .before .before .before .before .before .before .pre in
     let h = c .before .before .before .before .loop .inv in
     spends _ (p .0) _ _ _ _ _ _ (omega (arith, c .before .before .before .loop-test .left)) (h .0) (c .if3 .left)
 

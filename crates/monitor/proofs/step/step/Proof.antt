@@ -11,7 +11,7 @@ use Rattle.monitor.proofs.step.step.Tie as tie
 assign-requires : tie.Need-assign-requires
 unfolding rows
 assign-requires c κs =
-    let p = c .before .before .before .before .before .before .before .before .before .before .pre in
+    let p = c .before .before .before .before .before .before .before .before .before .before .before .pre in
     let f = c .before .before .before .fields-at .ensures in (
       readable _ (p .0) _ _ (p .1 .0) (p .1 .1 .0),
       (
@@ -22,27 +22,27 @@ assign-requires c κs =
 
 onward-requires-2 : tie.Need-onward-requires-2
 onward-requires-2 c κs =
-    let p = c .before .before .before .before .before .before .before .before .before .before .before .before .pre in
+    let p = c .before .before .before .before .before .before .before .before .before .before .before .before .before .pre in
     timely _ (p .0) _ _ (p .1 .0) (p .1 .1 .0) (p .1 .1 .1)
 
 evaluate-requires : tie.Need-evaluate-requires
 unfolding rows
 evaluate-requires c κs =
-    let p = c .before .before .before .before .before .before .before .before .before .before .pre in
+    let p = c .before .before .before .before .before .before .before .before .before .before .before .pre in
     let f = c .before .before .before .fields-at .ensures in
     (readable _ (p .0) _ _ (p .1 .0) (p .1 .1 .0), reads-by _ (p .0) _ _ (p .1 .0) (p .1 .1 .0) _ f 2 (c .before .before .match .keys3) refl)
 
 evaluate-requires-2 : tie.Need-evaluate-requires-2
 unfolding rows
 evaluate-requires-2 c κs =
-    let p = c .before .before .before .before .before .before .before .before .before .before .pre in
+    let p = c .before .before .before .before .before .before .before .before .before .before .before .pre in
     let f = c .before .before .before .fields-at .ensures in
     (readable _ (p .0) _ _ (p .1 .0) (p .1 .1 .0), reads-by _ (p .0) _ _ (p .1 .0) (p .1 .1 .0) _ f 4 (c .before .before .match .keys5) refl)
 
 output-requires : tie.Need-output-requires
 unfolding rows
 output-requires c κs =
-    let p = c .before .before .before .before .before .before .before .before .before .before .before .pre in
+    let p = c .before .before .before .before .before .before .before .before .before .before .before .before .pre in
     let f = c .before .before .before .before .fields-at .ensures in (
       readable _ (p .0) _ _ (p .1 .0) (p .1 .1 .0),
       (
@@ -53,24 +53,24 @@ output-requires c κs =
 
 onward-requires-3 : tie.Need-onward-requires-3
 onward-requires-3 c κs =
-    let p = c .before .before .before .before .before .before .before .before .before .before .before .before .before .pre in
+    let p = c .before .before .before .before .before .before .before .before .before .before .before .before .before .before .before .pre in
     timely _ (p .0) _ _ (p .1 .0) (p .1 .1 .0) (p .1 .1 .1)
 
 write-requires : tie.Need-write-requires
 unfolding rows
 write-requires c κs =
-    let p = c .before .before .before .before .before .before .before .before .before .before .pre in
+    let p = c .before .before .before .before .before .before .before .before .before .before .before .pre in
     let f = c .before .before .before .fields-at .ensures in
     (readable _ (p .0) _ _ (p .1 .0) (p .1 .1 .0), reads-by _ (p .0) _ _ (p .1 .0) (p .1 .1 .0) _ f 15 (c .before .before .match .keys8) refl)
 
 onward-requires-4 : tie.Need-onward-requires-4
 onward-requires-4 c κs =
-    let p = c .before .before .before .before .before .before .before .before .before .before .before .before .before .pre in
+    let p = c .before .before .before .before .before .before .before .before .before .before .before .before .before .before .pre in
     timely _ (p .0) _ _ (p .1 .0) (p .1 .1 .0) (p .1 .1 .1)
 
 go-requires : tie.Need-go-requires
 go-requires c κs =
-    let p = c .before .before .before .before .before .before .before .before .before .before .pre in (
+    let p = c .before .before .before .before .before .before .before .before .before .before .before .pre in (
       at-cursor _ (p .0) _ _ (p .1 .0) (p .1 .1 .0),
       (
         from-seven _ (c .before .before .match .rest .0 .0 .0 .0 .0 .0 .0 .0 .1) (c .before .before
@@ -85,12 +85,12 @@ go-requires c κs =
 
 onward-requires-6 : tie.Need-onward-requires-6
 onward-requires-6 c κs =
-    let p = c .before .before .before .before .before .before .before .before .before .before .before .pre in
+    let p = c .before .before .before .before .before .before .before .before .before .before .before .before .pre in
     timely _ (p .0) _ _ (p .1 .0) (p .1 .1 .0) (p .1 .1 .1)
 
 insert-requires : tie.Need-insert-requires
 insert-requires c κs =
-    let p = c .before .before .before .before .before .before .before .before .before .before .before .before .before .pre in
+    let p = c .before .before .before .before .before .before .before .before .before .before .before .before .before .before .pre in
     let f = c .before .before .before .before .before .before .fields-at .ensures in (
       readable _ (p .0) _ _ (p .1 .0) (p .1 .1 .0),
       (
@@ -108,12 +108,12 @@ insert-requires c κs =
 
 onward-requires-7 : tie.Need-onward-requires-7
 onward-requires-7 c κs =
-    let p = c .before .before .before .before .before .before .before .before .before .before .before .before .before .before .before .before .pre in
+    let p = c .before .before .before .before .before .before .before .before .before .before .before .before .before .before .before .before .before .pre in
     timely _ (p .0) _ _ (p .1 .0) (p .1 .1 .0) (p .1 .1 .1)
 
 remove-requires : tie.Need-remove-requires
 remove-requires c κs =
-    let p = c .before .before .before .before .before .before .before .before .before .before .before .before .before .pre in (
+    let p = c .before .before .before .before .before .before .before .before .before .before .before .before .before .before .pre in (
       at-cursor _ (p .0) _ _ (p .1 .0) (p .1 .1 .0),
       omega (
         arith,
@@ -126,12 +126,12 @@ remove-requires c κs =
 
 onward-requires-8 : tie.Need-onward-requires-8
 onward-requires-8 c κs =
-    let p = c .before .before .before .before .before .before .before .before .before .before .before .before .before .before .before .before .pre in
+    let p = c .before .before .before .before .before .before .before .before .before .before .before .before .before .before .before .before .before .pre in
     timely _ (p .0) _ _ (p .1 .0) (p .1 .1 .0) (p .1 .1 .1)
 
 returns : tie.Need-returns
 returns c =
-    let p = c .before .before .before .before .before .before .before .before .before .pre in
+    let p = c .before .before .before .before .before .before .before .before .before .before .pre in
     skips _ (p .0) _ _ (p .1 .0) (p .1 .1 .0) _ (c .before .before .fields-at .ensures) _ refl _ _ _ _ (c .before .before .before .top .ensures)
     (record { words = refl; levels = refl; values = refl; board = refl })
     (c .onward .ensures) (c .before .match .keys1)
@@ -139,7 +139,7 @@ returns c =
 
 returns-2 : tie.Need-returns-2
 returns-2 c =
-    let p = c .before .before .before .before .before .before .before .before .before .before .before .before .before .pre in
+    let p = c .before .before .before .before .before .before .before .before .before .before .before .before .before .before .pre in
     let f = c .before .before .before .before .before .before .fields-at .ensures in
     assigns _ (p .0) _ _ (p .1 .0) (p .1 .1 .0) _ f _ refl _ _ _ _ (c .before .before .before .before .before .before .before .top .ensures)
     (record { words = refl; levels = refl; values = c .before .values .given; board = refl })
@@ -148,42 +148,42 @@ returns-2 c =
 
 returns-3 : tie.Need-returns-3
 returns-3 c =
-    let p = c .before .before .before .before .before .before .before .before .before .before .before .before .before .before .pre in
+    let p = c .before .before .before .before .before .before .before .before .before .before .before .before .before .before .before .pre in
     let f = c .before .before .before .before .before .before .before .fields-at .ensures in
     ifs _ (p .0) _ _ (p .1 .0) (p .1 .1 .0) _ f _ (c .before .index .ensures) _ _ (c .before .before .before .evaluate .ensures) (c .before .before
     .before .before .before .before .match .keys3) (c .enter-if .ensures)
 
 returns-4 : tie.Need-returns-4
 returns-4 c =
-    let p = c .before .before .before .before .before .before .before .before .before .before .before .pre in
+    let p = c .before .before .before .before .before .before .before .before .before .before .before .before .pre in
     let f = c .before .before .before .before .fields-at .ensures in
     elses _ (p .0) _ _ (p .1 .0) (p .1 .1 .0) _ f _ (c .before .index2 .ensures) _ (c .before .before .before .match .keys4) (c .jump .ensures)
 
 returns-5 : tie.Need-returns-5
 returns-5 c =
-    let p = c .before .before .before .before .before .before .before .before .before .before .before .before .before .before .pre in
+    let p = c .before .before .before .before .before .before .before .before .before .before .before .before .before .before .before .pre in
     let f = c .before .before .before .before .before .before .before .fields-at .ensures in
     whiles _ (p .0) _ _ (p .1 .0) (p .1 .1 .0) _ f _ (c .before .index3 .ensures) _ _ (c .before .before .before .evaluate2 .ensures) (c .before
     .before .before .before .before .before .match .keys5) (c .enter-while .ensures)
 
 returns-6 : tie.Need-returns-6
 returns-6 c =
-    let p = c .before .before .before .before .before .before .before .before .before .before .before .pre in
+    let p = c .before .before .before .before .before .before .before .before .before .before .before .before .pre in
     let f = c .before .before .before .before .fields-at .ensures in
     ends _ (p .0) _ _ (p .1 .0) (p .1 .1 .0) _ f _ (c .before .index4 .ensures) _ (c .before .before .before .match .keys6) (c .leave .ensures)
 
 returns-7 : tie.Need-returns-7
 returns-7 c =
-    let p = c .before .before .before .before .before .before .before .before .before .before .before .before .before .before .pre in
-    let f = c .before .before .before .before .before .before .before .fields-at .ensures in
-    outputs _ (p .0) _ _ (p .1 .0) (p .1 .1 .0) _ f _ refl _ _ _ _ (c .before .before .before .before .before .before .before .before .top .ensures)
-    (record { words = refl; levels = refl; values = refl; board = c .before .lines .given })
-    (c .onward3 .ensures) (c .before .before .before .before .before .before .match .keys7)
-    (c .before .before .output .ensures)
+    let p = c .before .before .before .before .before .before .before .before .before .before .before .before .before .before .before .before .pre in
+    let f = c .before .before .before .before .before .before .before .before .fields-at .ensures in
+    outputs _ (p .0) _ _ (p .1 .0) (p .1 .1 .0) _ f _ refl _ _ _ _ (c .before .before .before .before .before .before .before .before .before .top .ensures)
+    (record { words = refl; levels = refl; values = refl; board = c .before .before .lines .given })
+    (c .onward3 .ensures) (c .before .before .before .before .before .before .before .match .keys7)
+    (c .before .before .before .output .ensures)
 
 returns-8 : tie.Need-returns-8
 returns-8 c =
-    let p = c .before .before .before .before .before .before .before .before .before .before .before .before .before .before .pre in
+    let p = c .before .before .before .before .before .before .before .before .before .before .before .before .before .before .before .pre in
     let f = c .before .before .before .before .before .before .before .fields-at .ensures in
     writes _ (p .0) _ _ (p .1 .0) (p .1 .1 .0) _ f _ refl _ _ _ _ (c .before .before .before .before .before .before .before .before .top .ensures)
     (record { words = c .before .before .words .given; levels = refl; values = refl; board = refl })
@@ -192,7 +192,7 @@ returns-8 c =
 
 returns-9 : tie.Need-returns-9
 returns-9 c =
-    let p = c .before .before .before .before .before .before .before .before .before .before .pre in
+    let p = c .before .before .before .before .before .before .before .before .before .before .before .pre in
     let f = c .before .before .before .fields-at .ensures in
     raises _ (p .0) _ _ (p .1 .0) (p .1 .1 .0) _ f _ refl _ _ _ _ (c .before .before .before .before .top .ensures)
     (record { words = refl; levels = refl; values = refl; board = refl })
@@ -201,7 +201,7 @@ returns-9 c =
 
 returns-10 : tie.Need-returns-10
 returns-10 c =
-    let p = c .before .before .before .before .before .before .before .before .before .before .before .before .pre in
+    let p = c .before .before .before .before .before .before .before .before .before .before .before .before .before .pre in
     let f = c .before .before .before .before .before .fields-at .ensures in
     goes _ (p .0) _ _ (p .1 .0) (p .1 .1 .0) _ f _ refl _ _ _ _ (c .before .before .before .before .before .before .top .ensures)
     (record { words = refl; levels = refl; values = refl; board = refl })
@@ -213,7 +213,7 @@ returns-10 c =
 
 returns-11 : tie.Need-returns-11
 returns-11 c =
-    let p = c .before .before .before .before .before .before .before .before .before .before .before .before .before .before .before .before .before .pre in
+    let p = c .before .before .before .before .before .before .before .before .before .before .before .before .before .before .before .before .before .before .pre in
     let f = c .before .before .before .before .before .before .before .before .before .before .fields-at .ensures in
     inserts _ (p .0) _ _ (p .1 .0) (p .1 .1 .0) _ f _ refl _ _ _ _ (c .before .before .before .before .before .before .before .before .before .before
     .before .top .ensures)
@@ -234,7 +234,7 @@ returns-11 c =
 
 returns-12 : tie.Need-returns-12
 returns-12 c =
-    let p = c .before .before .before .before .before .before .before .before .before .before .before .before .before .before .before .before .before .pre in
+    let p = c .before .before .before .before .before .before .before .before .before .before .before .before .before .before .before .before .before .before .pre in
     let f = c .before .before .before .before .before .before .before .before .before .before .fields-at .ensures in
     removes _ (p .0) _ _ (p .1 .0) (p .1 .1 .0) _ f _ refl _ _ _ _ (c .before .before .before .before .before .before .before .before .before .before
     .before .top .ensures)
@@ -255,7 +255,7 @@ returns-12 c =
 
 returns-13 : tie.Need-returns-13
 returns-13 c =
-    let p = c .before .before .before .before .before .before .before .before .before .before .before .before .pre in
+    let p = c .before .before .before .before .before .before .before .before .before .before .before .before .before .pre in
     let f = c .before .before .before .before .before .fields-at .ensures in
     absurd (no-rest _ (p .0) _ _ (p .1 .0) (p .1 .1 .0) _ f (c .before .if3 .left) (c .before .before .before .before .match .rest .0 .1) (c .before
     .before .before .before .match .rest .1))

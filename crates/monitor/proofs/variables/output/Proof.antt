@@ -1,5 +1,6 @@
--- The tests of the level found and of the board's room are the rule's, and after them the store is the rule's new line. Assumes nothing.
+-- The tests of the level found and of the board's room are the rule's, and after them the bytes put are the rule's new line. Assumes nothing.
 use mathlib.Core.Path.{sym}
+use native.Mathlib.Omega.{arith}
 use Rattle.monitor.proofs.Doing.{refused, allowed}
 use Rattle.monitor.proofs.Evaluation.{read}
 use Rattle.monitor.proofs.Assigned.{no-output, full-output, did-output}
@@ -9,25 +10,25 @@ use Rattle.monitor.proofs.variables.output.Tie as tie
 
 returns : tie.Need-returns
 returns c =
-    let s = c .before .before .before .before .before .before in
+    let s = c .before .before .before .before .before .before .before in
     no-output (s .args .pc) (c .before .before .before .evaluate .ensures) (s .pre .0 .cursor) (c .before .before .flow .ensures) _
     (refused (c .before .not-above .ensures) (c .if1 .taken))
 
 returns-2 : tie.Need-returns-2
 returns-2 c =
-    let s = c .before .before .before .before .before .before .before in
+    let s = c .before .before .before .before .before .before .before .before in
     full-output (s .args .pc) (c .before .before .before .before .evaluate .ensures) (s .pre .0 .cursor) (c .before .before .before .flow .ensures) _
-    (allowed (c .before .before .not-above .ensures) (c .before .if1 .left)) (c .if2 .taken)
+    (allowed (c .before .before .not-above .ensures) (c .before .if1 .left)) (omega (arith, c .if2 .taken))
 
 returns-3 : tie.Need-returns-3
 returns-3 c =
-    let s = c .before .before .before .before .before .before .before .before in
-    let e = c .before .before .before .before .before .evaluate .ensures in
-    did-output (s .args .pc) e (s .pre .0 .cursor) (c .before .before .before .before .flow .ensures) _ _ (sym (read (e .fits)))
-    (allowed (c .before .before .before .not-above .ensures) (c .before .before .if1 .left)) (c .before .if2 .left)
+    let s = c .before .before .before .before .before .before .before .before .before .before .before .before .before in
+    let e = c .before .before .before .before .before .before .before .before .before .evaluate .ensures in
+    did-output (s .args .pc) e (s .pre .0 .cursor) (c .before .before .before .before .before .before .before .before .flow .ensures) _ _ (sym (read (e .fits)))
+    (allowed (c .before .before .before .before .before .before .before .not-above .ensures) (c .before .before .before .before .before .before .if1 .left)) (c .before .before .before .before .before .if2 .left) _
+    (c .before .before .put-line .ensures)
 
 pub output-spec : {M : Type 1} → statement M
 output-spec =
     tie.close
-    (tie.spec (λ c κs. search needs) (λ c κs. search needs) (λ c κs. search needs) returns returns-2 (λ c. search needs) (λ c. search needs)
-    (λ c. search needs) (λ c. search needs) returns-3)
+    (tie.spec (λ c κs. search needs) (λ c κs. search needs) (λ c κs. search needs) returns returns-2 (λ c κs. search needs) (λ c. search needs) (λ c. search needs) returns-3)

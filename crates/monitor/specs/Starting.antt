@@ -1,0 +1,73 @@
+-- What the functions under the run over a job's bytes promise: loading the variables, the checks 9 and 10, an accepted job's run. Assumes nothing.
+use mathlib.Core.Path.{_≡_}
+use mathlib.Core.Bool.{Bool, cond, _&&_}
+use Prim.Native.Nat.{ℕ, _*_, _<_, _≤_}
+use mathlib.Core.List.{List}
+use lib.ListN.{length, getD}
+use lib.IntN.{ℤ, pos}
+use lib.Dec.{eqb, leb}
+use Rattle.rules.specs.Limits.{maxNodes, maxRecords, maxBudget, variableSize}
+use Rattle.rules.specs.Bytes.{variablePlace, variableCount, recordCount}
+use Rattle.rules.specs.Blocks.{goesTo}
+use Rattle.rules.specs.Script.{numberAt}
+use Rattle.rules.specs.Check as Check
+use Rattle.rules.specs.Check.{checkBytes}
+use Rattle.rules.specs.Job.{variableOf, script}
+use Rattle.rules.specs.Run.{Buffers, run}
+use Rattle.rules.specs.Outcome as Rules
+use Rattle.rules.specs.Outcome.{answer, begin}
+use Rattle.job.specs.declared.sections.Layout.{Layout}
+use Rattle.job.specs.Layout.{layoutOf}
+use Rattle.monitor.specs.declared.control.Stepped.{Stepped}
+use Rattle.monitor.specs.declared.entry.Outcome.{Outcome}
+use Rattle.monitor.specs.declared.entry.Outcome.the-variants.{Finished, Stopped}
+use Rattle.monitor.specs.Board.{capacity}
+use Rattle.monitor.specs.Shows.{Slices}
+use Rattle.monitor.specs.Promises.{answerOf, Lent, lent, Tree, Ran}
+
+-- the outcome of a run that has ended
+unfoldable pub outcomeOf : Stepped → Outcome
+outcomeOf a =
+    cond (eqb (a .stop) 0) (Finished (a .running .steps) (a .running .memory .lines))
+    (Stopped (a .stop) (a .running .at) (a .running .steps) (a .running .memory .lines))
+
+-- the variables' records lie in the bytes, and there is room for them
+pub record Loading (b levels : List ℕ) (values : List ℤ) (n : ℕ) : Type 0 where
+  pub inside : variableSize * n ≤ length b
+  pub levelled : n ≤ length levels
+  pub valued : n ≤ length values
+
+-- n variables were loaded, and what is beyond them stays
+pub record VariablesLoaded (b : List ℕ) (n : ℕ) (levels levels′ : List ℕ) (values values′ : List ℤ) : Type 0 where
+  pub level : (i : ℕ) → i < n → getD levels′ i 0 ≡ variableOf b (variablePlace i) .level
+  pub value : (i : ℕ) → i < n → getD values′ i (pos 0) ≡ variableOf b (variablePlace i) .value
+  pub spare-levels : (i : ℕ) → n ≤ i → getD levels′ i 0 ≡ getD levels i 0
+  pub spare-values : (i : ℕ) → n ≤ i → getD values′ i (pos 0) ≡ getD values i (pos 0)
+
+-- check 10 by numbers: nodes and variables of a job, places and room for variables of the buffers
+unfoldable pub bufferTest : ℕ → ℕ → ℕ → ℕ → Bool
+bufferTest nodes variables places room = leb 1 places && leb places maxNodes && leb nodes places && leb variables room
+
+-- an accepted job with its layout and jumps, a budget, and buffers that are large enough
+pub record Begun (b : List ℕ) (l : Layout) (jumps : List ℕ) (budget : ℕ) (x : Slices) (places : ℕ) : Type 0 where
+  pub accepted : checkBytes b ≡ Check.accepted
+  pub layout : l ≡ layoutOf b
+  pub long : maxRecords ≤ length jumps
+  pub goes : (k : ℕ) → k < recordCount b → getD jumps k 0 ≡ goesTo (numberAt (script b)) (recordCount b) k
+  pub spend : budget ≤ maxBudget
+  pub words : 8 * places ≤ length (x .words)
+  pub few : places ≤ maxNodes
+  pub nodes : l .nodes ≤ places
+  pub levelled : l .variables ≤ length (x .levels)
+  pub valued : l .variables ≤ length (x .values)
+
+-- the slices as what a caller lends
+abbrev pub asLent : Slices → Lent (List ℕ)
+asLent x = lent (x .words) (x .levels) (x .values) (x .board)
+
+-- what is left of such a job's run
+pub record Left (b : List ℕ) (budget places : ℕ) (x x′ : Slices) (r : Outcome) : Type 0 where
+  pub answered : (given : Buffers) → given .places ≡ places → given .lines ≡ capacity (x .board)
+      → answerOf r ≡ answer (Rules.ran (run given (script b) budget (begin b)))
+  pub leaves : (given : Buffers) → given .places ≡ places → given .lines ≡ capacity (x .board)
+      → Ran Tree (variableCount b) places (asLent x) (asLent x′) (run given (script b) budget (begin b))

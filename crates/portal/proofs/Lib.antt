@@ -1,0 +1,4 @@
+-- Laws of the portal's call.
+pub mod Counted
+pub mod Handed
+pub mod Secret

@@ -1,0 +1,48 @@
+// The call that a portal in C makes: job bytes, a budget and a byte area for lines, and one number back.
+use monitor::Outcome;
+use monitor::run_words;
+use rules::limits::MAX_VARIABLES;
+ghost use mathlib.Core.Path.{_≡_};
+ghost use Prim.Native.Nat.{_+_, _*_, _≤_};
+ghost use Rattle.rules.specs.Limits.{maxBudget};
+ghost use Rattle.monitor.specs.Promises.{answerOf};
+ghost use Rattle.portal.specs.Portal.{numberOf, handed, portal};
+
+// Eight words for each of the 512 places.
+const WORDS: usize = 4096;
+
+// The ending in the upper half, the line count in the lower one.
+fn packed(ending: u8, lines: usize) -> u64
+    requires { ⌜ lines ≤ maxBudget ⌝ }
+    ensures { λ r. ⌜ r ≡ ending * 4294967296 + lines ⌝ }
+{
+    (ending as u64) * 4294967296 + (lines as u64)
+}
+
+// An outcome as one number. A run has no more lines than steps, so the lower half holds their count.
+fn number(o: Outcome) -> u64
+    requires { ⌜ answerOf o .lines ≤ maxBudget ⌝ }
+    ensures { λ r. ⌜ r ≡ numberOf (answerOf o) ⌝ }
+{
+    match o {
+        Outcome::Refused { number, index } => packed(number, 0),
+        Outcome::Finished { steps, lines } => packed(0, lines),
+        Outcome::Stopped {
+            number,
+            index,
+            steps,
+            lines,
+        } => packed(number, lines),
+    }
+}
+
+// The job is run with 512 places and room for 64 variables. The lines are put at the beginning of the area, four bytes each.
+#[no_mangle]
+pub extern "C" fn portal_run(job: &[u8], budget: u64, lines: &mut [u8]) -> u64
+    ensures { λ r. ⌜ handed r (now (lines .exit)) ≡ portal (now (job .entry)) budget (now (lines .entry)) ⌝ }
+{
+    let mut words = [0u32; WORDS];
+    let mut levels = [0u8; MAX_VARIABLES];
+    let mut values = [0i32; MAX_VARIABLES];
+    number(run_words(job, budget, &mut words, &mut levels, &mut values, lines))
+}
