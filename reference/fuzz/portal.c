@@ -91,6 +91,9 @@ static void set_breakpoints(const char *path)
 static void say_reached(void)
 {
     fprintf(stderr, "blocks of libportal.a reached: %zu of %zu\n", reached, blocks);
+    for (size_t i = 0; i < blocks; i++)
+        if (*(volatile uint8_t *)block[i] == 0xcc && covered_byte[i] != 0xcc)
+            fprintf(stderr, "block never reached: %lx\n", (unsigned long)block[i]);
 }
 
 /* Memory between two pages that nobody may touch. */
