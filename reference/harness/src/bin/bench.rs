@@ -2,8 +2,10 @@
 //! one run. Prints tables in Markdown.
 //!
 //! A time is the median over repetitions; in each, both sides are timed one
-//! after the other, in turn first. Nothing is subtracted. Areas for lines are
-//! filled with a pattern before the time starts.
+//! after the other, in turn first. A ratio is the median of the ratios in each
+//! repetition, so that a machine that is slow for a while is slow for both.
+//! Nothing is subtracted. Areas for lines are filled with a pattern before the
+//! time starts.
 
 use std::hint::black_box;
 use std::time::Instant;
@@ -26,18 +28,21 @@ struct Bench {
     buffers: Box<Buffers>,
 }
 
-/// Nanoseconds a call, for both sides, and the steps of a call.
+/// Nanoseconds a call, of each repetition, and the steps of a call.
 struct Measured {
-    ours: f64,
-    fast: f64,
+    ours: Vec<f64>,
+    fast: Vec<f64>,
     steps: u32,
 }
+
+/// Those of one side.
+type Times = fn(&Measured) -> &[f64];
 
 fn main() {
     let arguments = Arguments::read(USAGE, &["--portal", "--repetitions"]);
     let mut bench = Bench {
         portal: arguments.portal(Mistake::None),
-        repetitions: arguments.number("--repetitions", 41) as usize,
+        repetitions: arguments.number("--repetitions", 61) as usize,
         buffers: Buffers::new(),
     };
     println!("ours: {}", bench.portal.name());
@@ -50,8 +55,8 @@ fn main() {
     println!("| | steps | ours | fast | ours / fast |");
     println!("|---|---:|---:|---:|---:|");
     for workload in workloads::table() {
-        let measured = bench.measure(&workload);
-        println!("{}", row(&workload, &measured));
+        let measured = bench.measure(std::slice::from_ref(&workload));
+        println!("{}", row(&workload, &measured[0]));
     }
     bench.growth("nodes", workloads::by_nodes());
     bench.growth("records", workloads::by_records());
@@ -67,63 +72,63 @@ fn row(workload: &Workload, measured: &Measured) -> String {
         "| {} | {} | {} | {} | {:.2} |",
         workload.name,
         measured.steps,
-        time(measured.ours),
-        time(measured.fast),
-        measured.ours / measured.fast
+        time(median(&measured.ours)),
+        time(median(&measured.fast)),
+        ratio(&measured.ours, &measured.fast)
     )
 }
 
-fn print_growth(name: &str, side: &str, times: [f64; 3]) {
-    let least = times.iter().copied().fold(f64::INFINITY, f64::min);
-    let most = times.iter().copied().fold(0.0, f64::max);
-    let [few, some, many] = times;
-    let growth = most / least;
-    println!("| {name} | {side} | {few:.2} | {some:.2} | {many:.2} | {growth:.2} |");
-}
-
 impl Bench {
-    /// Nanoseconds a step as jobs grow; the last column is the greatest time
-    /// over the smallest.
+    /// Nanoseconds a step as jobs grow; the last column is the time at the
+    /// greatest size over that at the smallest.
     fn growth(&mut self, what: &str, rows: Vec<Growth>) {
         let [few, some, many] = rows[0].sizes;
         println!("\n| ns/step with this many {what} | side | {few} | {some} | {many} | growth |");
         println!("|---|---|---:|---:|---:|---:|");
         for row in rows {
-            let measured = row.workloads.map(|workload| self.measure(&workload));
-            print_growth(
-                row.name,
-                "ours",
-                measured.each_ref().map(|m| m.ours / f64::from(m.steps)),
-            );
-            print_growth(
-                row.name,
-                "fast",
-                measured.each_ref().map(|m| m.fast / f64::from(m.steps)),
-            );
+            let measured = self.measure(&row.workloads);
+            let sides: [(&str, Times); 2] = [("ours", |m| &m.ours), ("fast", |m| &m.fast)];
+            for (side, times) in sides {
+                print!("| {} | {side} |", row.name);
+                for m in &measured {
+                    print!(" {:.2} |", median(times(m)) / f64::from(m.steps));
+                }
+                let [first, .., last] = &measured[..] else {
+                    unreachable!("three sizes")
+                };
+                let steps = f64::from(first.steps) / f64::from(last.steps);
+                println!(" {:.2} |", steps * ratio(times(last), times(first)));
+            }
         }
     }
 
-    fn measure(&mut self, workload: &Workload) -> Measured {
-        let steps = self.steps(workload);
-        self.compare(workload);
-        let once = self.sample(workload, 1, false);
-        let calls = ((SAMPLE_NANOSECONDS / once) as usize).clamp(1, MOST_CALLS);
-        let (mut ours, mut fast) = (Vec::new(), Vec::new());
+    /// Measures some workloads, in turn in each repetition.
+    fn measure(&mut self, workloads: &[Workload]) -> Vec<Measured> {
+        let mut all = Vec::new();
+        let mut calls = Vec::new();
+        for workload in workloads {
+            self.compare(workload);
+            all.push(Measured {
+                ours: Vec::new(),
+                fast: Vec::new(),
+                steps: self.steps(workload),
+            });
+            let once = self.sample(workload, 1, false);
+            calls.push(((SAMPLE_NANOSECONDS / once) as usize).clamp(1, MOST_CALLS));
+        }
         for repetition in 0..self.repetitions {
-            for side in [repetition % 2 == 0, repetition % 2 == 1] {
-                let time = self.sample(workload, calls, side);
-                if side {
-                    ours.push(time);
-                } else {
-                    fast.push(time);
+            for (place, workload) in workloads.iter().enumerate() {
+                for ours in [repetition % 2 == 0, repetition % 2 == 1] {
+                    let time = self.sample(workload, calls[place], ours);
+                    let times = match ours {
+                        true => &mut all[place].ours,
+                        false => &mut all[place].fast,
+                    };
+                    times.push(time);
                 }
             }
         }
-        Measured {
-            ours: median(ours),
-            fast: median(fast),
-            steps,
-        }
+        all
     }
 
     /// Nanoseconds a call, over `calls` calls with an area each.
@@ -182,13 +187,20 @@ impl Bench {
     }
 }
 
-fn median(mut times: Vec<f64>) -> f64 {
-    times.sort_by(f64::total_cmp);
-    times[times.len() / 2]
+fn median(times: &[f64]) -> f64 {
+    let mut sorted = times.to_vec();
+    sorted.sort_by(f64::total_cmp);
+    sorted[sorted.len() / 2]
+}
+
+/// The median of the ratios in each repetition.
+fn ratio(times: &[f64], others: &[f64]) -> f64 {
+    let ratios: Vec<f64> = times.iter().zip(others).map(|(a, b)| a / b).collect();
+    median(&ratios)
 }
 
 /// What two readings of the clock, one after the other, are apart.
 fn clock_nanoseconds() -> f64 {
     let times = (0..1_001).map(|_| Instant::now().elapsed().as_nanos() as f64);
-    median(times.collect())
+    median(&times.collect::<Vec<f64>>())
 }
