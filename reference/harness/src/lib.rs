@@ -7,10 +7,11 @@
 //! - [`differential`]: whole outcomes against the reference.
 //! - [`leaks`]: pairs of jobs that agree on their public parts.
 //! - [`quick`]: outcomes of the fast version.
-//! - [`workloads`]: the jobs that are measured.
+//! - [`workloads`] and [`clock`]: the jobs that are measured, and how.
 //! - [`arguments`] and [`progress`]: the command lines and the progress lines.
 
 pub mod arguments;
+pub mod clock;
 pub mod differential;
 pub mod frame;
 pub mod leaks;

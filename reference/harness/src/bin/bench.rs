@@ -1,17 +1,17 @@
 //! Measures the portal against the fast version, both on the same bytes, in
 //! one run. Prints tables in Markdown.
 //!
-//! A time is the median over repetitions; in each, both sides are timed one
+//! A time is processor time, the median over repetitions; in each, both sides are timed one
 //! after the other, in turn first. A ratio is the median of the ratios in each
 //! repetition, so that a machine that is slow for a while is slow for both.
 //! Nothing is subtracted. Areas for lines are filled with a pattern before the
 //! time starts.
 
 use std::hint::black_box;
-use std::time::Instant;
 
 use fast::{Buffers, Limits};
 use harness::arguments::Arguments;
+use harness::clock;
 use harness::portal::Portal;
 use harness::workloads::{self, Growth, Unit, Workload};
 use reference::mistake::Mistake;
@@ -42,13 +42,13 @@ fn main() {
     let arguments = Arguments::read(USAGE, &["--portal", "--repetitions"]);
     let mut bench = Bench {
         portal: arguments.portal(Mistake::None),
-        repetitions: arguments.number("--repetitions", 61) as usize,
+        repetitions: arguments.number("--repetitions", 41) as usize,
         buffers: Buffers::new(),
     };
     println!("ours: {}", bench.portal.name());
     println!("fast: the fast Rust version, with buffers made once");
     println!(
-        "medians of {} repetitions; reading the clock takes {:.0} ns and is not subtracted\n",
+        "processor time, medians of {} repetitions; reading the clock takes {:.0} ns and is not subtracted\n",
         bench.repetitions,
         clock_nanoseconds()
     );
@@ -139,7 +139,7 @@ impl Bench {
             length => areas.chunks_exact_mut(length).collect(),
         };
         let job = &workload.job[..];
-        let start = Instant::now();
+        let start = clock::nanoseconds();
         for area in &mut parts {
             let answer = match ours {
                 true => self.portal.call(black_box(job), workload.budget, area),
@@ -147,7 +147,7 @@ impl Bench {
             };
             black_box(answer);
         }
-        start.elapsed().as_nanos() as f64 / calls as f64
+        (clock::nanoseconds() - start) as f64 / calls as f64
     }
 
     fn fast_call(&mut self, job: &[u8], budget: u64, area: &mut [u8]) -> u64 {
@@ -201,6 +201,9 @@ fn ratio(times: &[f64], others: &[f64]) -> f64 {
 
 /// What two readings of the clock, one after the other, are apart.
 fn clock_nanoseconds() -> f64 {
-    let times = (0..1_001).map(|_| Instant::now().elapsed().as_nanos() as f64);
-    median(&times.collect::<Vec<f64>>())
+    let apart = |_| {
+        let start = clock::nanoseconds();
+        (clock::nanoseconds() - start) as f64
+    };
+    median(&(0..1_001).map(apart).collect::<Vec<f64>>())
 }
