@@ -14,3 +14,6 @@ pub mod Looped
 pub mod Started
 pub mod Answered
 pub mod Secret
+pub mod Walk
+pub mod While
+pub mod Relend

@@ -1,28 +1,29 @@
 -- A run is its steps: so far it has come to a state from which what is left of the budget gives the same ending. By the four laws of `run`.
 -- Assumes nothing.
 use mathlib.Core.Path.{_≡_, refl, sym, _∙_, ap, subst}
-use mathlib.Core.Bool.{Bool, true, false}
+use mathlib.Core.Bool.{Bool, true, false, cond}
 use mathlib.Core.List.{List}
-use Prim.Native.Nat.{ℕ, zero, suc, _+_, _-_, _*_, _/_, _<_, _≤_}
+use Prim.Native.Nat.{ℕ, zero, suc, _+_, _-_, _*_, _/_, _^_, _<_, _≤_}
 use native.Mathlib.Omega.{arith}
 use lib.ListN.{length, drop}
 use lib.Seq.{drop-drop}
-use lib.Dec.{ltb}
-use borrow.Author.Tests.{lt-ltb, le-ltb}
+use lib.Dec.{ltb, eqb}
+use lib.IntN.{ℤ}
+use borrow.Author.Tests.{lt-ltb, le-ltb, eq-eqb, eqb-true}
 use Rattle.rules.specs.Limits.{maxBudget}
 use Rattle.rules.specs.Job.{scriptOf}
 use Rattle.rules.specs.Script.{Command}
 use Rattle.rules.specs.Run.{State, Buffers, Result, next, stop, Stop, spent, stopNumber, Ending, finished, stopped, Ended, step, run}
-use Rattle.rules.specs.Outcome.{endingNumber}
+use Rattle.rules.proofs.Tests.{Test, holds, fails, test}
 use Rattle.rules.proofs.Runs.{run-spent, run-over, run-next, run-stop}
 use Rattle.rules.proofs.Results.{good-next}
 use Rattle.rules.proofs.Control.{Closed, Valid, step-valid}
 use Rattle.rules.proofs.Decode.{listed-length}
 use Rattle.monitor.specs.declared.control.Running.{Running}
 use Rattle.monitor.specs.declared.control.Stepped.{Stepped}
-use Rattle.monitor.specs.Shows.{Slices}
+use Rattle.monitor.specs.Shows.{Slices, slices}
 use Rattle.monitor.specs.Acts.{Does, Kept}
-use Rattle.monitor.specs.Stands.{Stands, Held, scriptIn, Script, Safe, Lent, Steps, Ran, Runs}
+use Rattle.monitor.specs.Stands.{Stands, Held, scriptIn, Script, Safe, Lent, Steps, ended, codeOf, Ran, Runs, Comes, Reached, Startable, Turns, stepped}
 use Rattle.monitor.proofs.Doing.{kept-refl}
 use Rattle.monitor.proofs.Stepping.{stop-number}
 
@@ -40,22 +41,6 @@ kept-trans {x = x} {y = y} {k = k} {m = m} {n = n} a b =
         let e : 4 * n ≡ 4 * m + 4 * (n - m) = omega (arith, b .grown) in
         rw (e, ← drop-drop (4 * (n - m)) (4 * m) (y .board), ← drop-drop (4 * (n - m)) (4 * m) (x .board), a .board)
 
--- a state that x and r stand for, from which the rest of the run goes on
-pub record Comes (h : Held) (lent : Buffers) (e : Ended) (x : Slices) (r : Running) (left : ℕ) : Type 0 where
-  pub s : State
-  pub valid : Valid (scriptIn h) s
-  pub stands : Stands (h .places) (h .vars) x r s
-  pub rest : e ≡ run lent (scriptIn h) left s
-
--- how far a run has come that began with x₀, r₀ and a budget
-pub record Reached (h : Held) (x₀ : Slices) (r₀ : Running) (budget : ℕ) (x : Slices) (r : Running) (left : ℕ) : Type 0 where
-  pub safe : Safe h x r
-  pub early : r .steps + left ≤ maxBudget
-  pub kept : Kept (h .vars) x₀ x (r₀ .memory .lines) (r .memory .lines)
-  pub board : length (x .board) ≡ length (x₀ .board)
-  pub comes : (lent : Buffers) (s : State) → Lent h x₀ lent → Valid (scriptIn h) s → Stands (h .places) (h .vars) x₀ r₀ s
-      → Comes h lent (run lent (scriptIn h) budget s) x r left
-
 module _ (h : Held) (sc : Script h) where
   closed : Closed (scriptIn h)
   unfolding scriptOf
@@ -69,89 +54,184 @@ module _ (h : Held) (sc : Script h) where
   unfolding scriptOf
   over lent s i e l = rw (e, listed-length _ (h .records) 0) (le-ltb i (h .records) l)
 
-  pub starts : (x : Slices) (r : Running) (budget : ℕ) → Safe h x r → r .steps + budget ≤ maxBudget → Reached h x r budget x r budget
-  starts x r budget sf b =
-      record { safe = sf; early = b; kept = kept-refl; board = refl; comes = λ lent s l v st. record { s = s; valid = v; stands = st; rest = refl } }
+  -- nothing was done yet
+  pub starts : {x : Slices} {r : Running} {left : ℕ} → Safe h x r → Reached h x r left x r left
+  starts sf = record { safe = sf; kept = kept-refl; board = refl; comes = λ lent s l v st. record { s = s; valid = v; stands = st; rest = refl } }
 
-  module _ (x₀ : Slices) (r₀ : Running) (budget : ℕ) (x : Slices) (r : Running) where
-    -- the script is over
-    pub finishes : (left : ℕ) → Reached h x₀ r₀ budget x r left → h .records ≤ r .at → Runs h x₀ x r₀ budget (record { stop = 0; running = r })
-    unfolding endingNumber
-    finishes left d o =
-        record {
-          kept = d .kept;
-          runs = λ lent s l v st.
-              let c = d .comes lent s l v st in
-              rw (c .rest ∙ run-over lent (scriptIn h) left (c .s) (over lent (c .s) (r .at) (c .stands .at) o)) (record { ending = refl; last = c .stands });
-        }
+  -- the script is over
+  pub finishes : (x : Slices) (r : Running) (left : ℕ) → h .records ≤ r .at → Runs h x x r left (stepped ended r)
+  unfolding codeOf
+  finishes x r left o =
+      record {
+        kept = kept-refl;
+        runs = λ lent s l v st.
+            rw (run-over lent (scriptIn h) left s (over lent s (r .at) (st .at) o)) (record { ending = refl; last = st });
+      }
 
-    -- the budget is used up
-    pub spends : (left : ℕ) → left ≡ 0 → Reached h x₀ r₀ budget x r left → r .at < h .records → Runs h x₀ x r₀ budget (record { stop = 25; running = r })
-    unfolding endingNumber stopNumber
-    spends left z was o =
-        let d = subst (Reached h x₀ r₀ budget x r) z was in
-        record {
-          kept = d .kept;
-          runs = λ lent s l v st.
-              let c = d .comes lent s l v st in
-              rw (c .rest ∙ run-spent lent (scriptIn h) (c .s) (more lent (c .s) (r .at) (c .stands .at) o)) (record { ending = refl; last = c .stands });
-        }
+  -- the budget is used up
+  pub spends : (x : Slices) (r : Running) (left : ℕ) → left ≡ 0 → r .at < h .records → Runs h x x r left (stepped 25 r)
+  unfolding codeOf stopNumber
+  spends x r left z o =
+      rw z
+      (record {
+        kept = kept-refl;
+        runs = λ lent s l v st. rw (run-spent lent (scriptIn h) s (more lent s (r .at) (st .at) o)) (record { ending = refl; last = st });
+      })
 
-    module _ (n : ℕ) (now : Reached h x₀ r₀ budget x r n) (some : 0 < n) (inside : r .at < h .records) (x′ : Slices) (a : Stepped) (t : Steps h x x′ r a) where
-      left : ℕ
-      left = n - 1
-
-      d : Reached h x₀ r₀ budget x r (suc left)
-      unfolding left
-      d = subst (Reached h x₀ r₀ budget x r) {x = n} {y = suc (n - 1)} (omega arith) now
-
-      lent-now : (lent : Buffers) → Lent h x₀ lent → Lent h x lent
-      lent-now lent l = record { places = l .places; board = l .board ∙ ap (λ (n : ℕ). n / 4) (sym (d .board)) }
+  module _ {x x′ : Slices} {r : Running} {a : Stepped} (inside : r .at < h .records) (t : Steps h x x′ r a) (left : ℕ) where
+    module _ (lent : Buffers) (s : State) (l : Lent h x lent) (v : Valid (scriptIn h) s) (st : Stands (h .places) (h .vars) x r s) where
+      here : ltb (s .at) (length (scriptIn h)) ≡ true
+      here = more lent s (r .at) (st .at) inside
 
       -- one step on
-      pub goes-on : a .stop ≡ 0 → Reached h x₀ r₀ budget x′ (a .running) (n - 1)
-      unfolding left
-      goes-on z =
-          let k = t .counted z in
-          record {
-            safe = t .safe;
-            early = omega (arith, d .early);
-            kept = kept-trans (d .kept) (t .kept);
-            board = t .board ∙ d .board;
-            comes = λ lent s l v st. on lent (d .comes lent s l v st) (lent-now lent l);
-          }
+      comes : a .stop ≡ 0 → Comes h lent (run lent (scriptIn h) (suc left) s) x′ (a .running) left
+      comes z = pick (step lent (scriptIn h) s) refl (t .steps lent s l v st)
         where
-          on : {e : Ended} (lent : Buffers) → Comes h lent e x r (suc left) → Lent h x lent → Comes h lent e x′ (a .running) left
-          on {e} lent c l = pick (step lent (scriptIn h) (c .s)) refl (t .steps lent (c .s) l (c .valid) (c .stands))
-            where
-              here : ltb (c .s .at) (length (scriptIn h)) ≡ true
-              here = more lent (c .s) (r .at) (c .stands .at) inside
-
-              pick : (k : Result State) → step lent (scriptIn h) (c .s) ≡ k → Does (Stands (h .places) (h .vars) x′ (a .running)) (a .stop) (c .s) k → Comes h lent e x′ (a .running) left
-              pick (next s′) w k =
-                  record {
-                    s = s′;
-                    valid = good-next (Valid (scriptIn h)) _ s′ w (step-valid lent (scriptIn h) closed (c .s) (c .valid) here);
-                    stands = k .does .1;
-                    rest = c .rest ∙ run-next lent (scriptIn h) left (c .s) s′ here w;
-                  }
-              pick (stop j) w k = absurd (stop-number j (sym (k .does .0) ∙ z))
+          pick : (k : Result State) → step lent (scriptIn h) s ≡ k → Does (Stands (h .places) (h .vars) x′ (a .running)) (a .stop) s k
+              → Comes h lent (run lent (scriptIn h) (suc left) s) x′ (a .running) left
+          pick (next s′) w k =
+              record {
+                s = s′;
+                valid = good-next (Valid (scriptIn h)) _ s′ w (step-valid lent (scriptIn h) closed s v here);
+                stands = k .does .1;
+                rest = run-next lent (scriptIn h) left s s′ here w;
+              }
+          pick (stop j) w k = absurd (stop-number j (sym (k .does .0) ∙ z))
 
       -- a stop
-      pub stops-here : (a .stop ≡ 0 → ⊥) → Runs h x₀ x′ r₀ budget a
-      unfolding endingNumber
-      stops-here z =
-          record {
-            kept = kept-trans (d .kept) (t .kept);
-            runs = λ lent s l v st. halt lent (d .comes lent s l v st) (lent-now lent l);
-          }
+      halts : (a .stop ≡ 0 → ⊥) → Ran h x′ a (run lent (scriptIn h) (suc left) s)
+      unfolding codeOf
+      halts z = pick (step lent (scriptIn h) s) refl (t .steps lent s l v st)
         where
-          halt : {e : Ended} (lent : Buffers) → Comes h lent e x r (suc left) → Lent h x lent → Ran h x′ a e
-          halt {e} lent c l = pick (step lent (scriptIn h) (c .s)) refl (t .steps lent (c .s) l (c .valid) (c .stands))
-            where
-              here : ltb (c .s .at) (length (scriptIn h)) ≡ true
-              here = more lent (c .s) (r .at) (c .stands .at) inside
+          pick : (k : Result State) → step lent (scriptIn h) s ≡ k → Does (Stands (h .places) (h .vars) x′ (a .running)) (a .stop) s k
+              → Ran h x′ a (run lent (scriptIn h) (suc left) s)
+          pick (next s′) w k = absurd (z (k .does .0))
+          pick (stop j) w k = rw (run-stop lent (scriptIn h) left s j here w) (record { ending = k .does .0; last = k .does .1 })
 
-              pick : (k : Result State) → step lent (scriptIn h) (c .s) ≡ k → Does (Stands (h .places) (h .vars) x′ (a .running)) (a .stop) (c .s) k → Ran h x′ a e
-              pick (next s′) w k = absurd (z (k .does .0))
-              pick (stop j) w k = rw (c .rest ∙ run-stop lent (scriptIn h) left (c .s) j here w) (record { ending = k .does .0; last = k .does .1 })
+    goes-on : a .stop ≡ 0 → Reached h x r (suc left) x′ (a .running) left
+    goes-on z = record { safe = t .safe; kept = t .kept; board = t .board; comes = λ lent s l v st. comes lent s l v st z }
+
+    stops-here : (a .stop ≡ 0 → ⊥) → Runs h x x′ r (suc left) a
+    stops-here z = record { kept = t .kept; runs = λ lent s l v st. halts lent s l v st z }
+
+  module _ {x x′ : Slices} {r : Running} (limit : ℕ) where
+    -- a turn that has ended the run
+    pub ended-turn : {a : Stepped} → (a .stop ≡ 0 → ⊥) → Runs h x x′ r (limit - r .steps) a → Turns h x x′ r limit a
+    ended-turn n d = record { goes = λ z. absurd (n z); later = λ z. absurd (n z); ends = λ _. d }
+
+    -- a turn that was a step
+    pub step-turn : {a : Stepped} → r .at < h .records → r .steps < limit → Steps h x x′ r a → Turns h x x′ r limit a
+    step-turn {a} inside early t =
+        let e : suc (limit - suc (r .steps)) ≡ limit - r .steps = omega (arith, early) in
+        record {
+          goes = λ z.
+              subst (λ (k : ℕ). Reached h x r k x′ (a .running) (limit - a .running .steps)) e
+              (subst (λ (k : ℕ). Reached h x r (suc (limit - suc (r .steps))) x′ (a .running) (limit - k)) (sym (t .counted z)) (goes-on inside t _ z));
+          later = λ z. (t .counted z, omega (arith, early, t .counted z));
+          ends = λ z. subst (λ (k : ℕ). Runs h x x′ r k a) e (stops-here inside t _ z);
+        }
+
+-- what was reached from there was reached from the start
+module _ {h : Held} {x₀ x : Slices} {r₀ r : Running} {budget left : ℕ} (d : Reached h x₀ r₀ budget x r left) where
+  lent-now : (lent : Buffers) → Lent h x₀ lent → Lent h x lent
+  lent-now lent l = record { places = l .places; board = l .board ∙ ap (λ (n : ℕ). n / 4) (sym (d .board)) }
+
+  pub further : {x′ : Slices} {r′ : Running} {left′ : ℕ} → Reached h x r left x′ r′ left′ → Reached h x₀ r₀ budget x′ r′ left′
+  further {x′} {r′} {left′} t =
+      record {
+        safe = t .safe;
+        kept = kept-trans (d .kept) (t .kept);
+        board = t .board ∙ d .board;
+        comes = λ lent s l v st.
+            let c = d .comes lent s l v st in
+            let k = t .comes lent (c .s) (lent-now lent l) (c .valid) (c .stands) in
+            record { s = k .s; valid = k .valid; stands = k .stands; rest = c .rest ∙ k .rest };
+      }
+
+  pub at-last : {x′ : Slices} {a : Stepped} → Runs h x x′ r left a → Runs h x₀ x′ r₀ budget a
+  at-last {x′} {a} t =
+      record {
+        kept = kept-trans (d .kept) (t .kept);
+        runs = λ lent s l v st.
+            let c = d .comes lent s l v st in
+            subst (Ran h x′ a) (sym (c .rest)) (t .runs lent (c .s) (lent-now lent l) (c .valid) (c .stands));
+      }
+
+-- a run on its way from x₀ and r₀: where it stands, and how far it has come or how it has ended
+module _ (h : Held) (x₀ : Slices) (r₀ : Running) (limit : ℕ) where
+  pub record Way : Type 0 where
+    pub running : Running
+    pub words : List ℕ
+    pub values : List ℤ
+    pub board : List ℕ
+    pub ending : ℕ
+    pub small : ending < 2 ^ 8
+    pub long-words : length words ≡ length (x₀ .words)
+    pub long-values : length values ≡ length (x₀ .values)
+    pub long-board : length board ≡ length (x₀ .board)
+    pub early : ending ≡ 0 → running .steps ≤ limit
+    pub reached : ending ≡ 0
+        → Reached h x₀ r₀ (limit - r₀ .steps) (slices words (x₀ .levels) values board) running (limit - running .steps)
+    pub over : (ending ≡ 0 → ⊥) → Runs h x₀ (slices words (x₀ .levels) values board) r₀ (limit - r₀ .steps) (stepped ending running)
+
+  abbrev pub slicesAt : Way → Slices
+  slicesAt w = slices (w .words) (x₀ .levels) (w .values) (w .board)
+
+  module _ (p : Startable h x₀ r₀ limit) where
+    -- at its start
+    abbrev pub outset : Way
+    outset =
+        record {
+          running = r₀;
+          words = x₀ .words;
+          values = x₀ .values;
+          board = x₀ .board;
+          ending = 0;
+          small = omega arith;
+          long-words = refl;
+          long-values = refl;
+          long-board = refl;
+          early = λ _. p .early;
+          reached = λ _. starts h (p .script) (p .safe);
+          over = λ n. absurd (n refl);
+        }
+
+    -- what a step asks for
+    pub startable : (w : Way) → w .ending ≡ 0 → Startable h (slicesAt w) (w .running) limit
+    startable w z = record { script = p .script; safe = w .reached z .safe; early = w .early z; limited = p .limited }
+
+  -- after one step more
+  abbrev pub stride : (w : Way) → w .ending ≡ 0 → (ws : List ℕ) (vs : List ℤ) (bs : List ℕ) (c : ℕ) (r : Running) → c < 2 ^ 8 → length ws ≡ length (w .words)
+      → length vs ≡ length (w .values) → length bs ≡ length (w .board) → Turns h (slicesAt w) (slices ws (x₀ .levels) vs bs) (w .running) limit (stepped c r) → Way
+  stride w z ws vs bs c r small ew ev eb t =
+      record {
+        running = r;
+        words = ws;
+        values = vs;
+        board = bs;
+        ending = c;
+        small = small;
+        long-words = ew ∙ w .long-words;
+        long-values = ev ∙ w .long-values;
+        long-board = eb ∙ w .long-board;
+        early = λ y. t .later y .1;
+        reached = λ y. further (w .reached z) (t .goes y);
+        over = λ n. at-last (w .reached z) (t .ends n);
+      }
+
+  -- what is left of it, which falls with each step
+  pub rest : Way → ℕ
+  rest w = cond (eqb (w .ending) 0) (suc (limit - w .running .steps)) 0
+
+  rest-going : (w : Way) → w .ending ≡ 0 → rest w ≡ suc (limit - w .running .steps)
+  unfolding rest
+  rest-going w z = rw (eq-eqb _ 0 z)
+
+  pub falls : (w : Way) (z : w .ending ≡ 0) (u : Way) → (u .ending ≡ 0 → (u .running .steps ≡ suc (w .running .steps)) × (u .running .steps ≤ limit))
+      → rest u < rest w
+  unfolding rest
+  falls w z u f = pick (test (eqb (u .ending) 0))
+    where
+      pick : Test (eqb (u .ending) 0) → rest u < rest w
+      pick (holds e) = let k = f (eqb-true _ 0 e) in rw (e, rest-going w z) (omega (arith, k .0, k .1))
+      pick (fails e) = rw (e, rest-going w z) (omega arith)

@@ -38,11 +38,11 @@ use Rattle.monitor.specs.declared.step.Frame.{Frame}
 use Rattle.monitor.specs.Guards.{Holds as Guarded}
 use Rattle.monitor.specs.Board.{capacity}
 use Rattle.monitor.specs.Shows.{Slices, slices, Variables, Shows}
-use Rattle.monitor.specs.Stands.{Stands, Held, held, scriptIn, Script, Safe, Runs}
+use Rattle.monitor.specs.Stands.{Stands, Held, held, scriptIn, Script, Safe, Startable, Runs, codeOf}
 use Rattle.monitor.specs.Promises.{answerOf, Tree, Ran}
 use Rattle.monitor.specs.Starting.{outcomeOf, Loading, VariablesLoaded, Begun, asLent, Left}
 use Rattle.monitor.proofs.Board.{no-lines, lines-many, as-written}
-use Rattle.monitor.proofs.Stepping.{stop-number}
+use Rattle.monitor.proofs.Stepping.{stop-below}
 
 -- one variable more
 module _ (b : List ℕ) (i : ℕ) (levels₀ levels : List ℕ) (values₀ values : List ℤ) (l : ℕ) (v : ℤ) (h : VariablesLoaded b i levels₀ levels values₀ values)
@@ -137,11 +137,11 @@ module _ (b jumps : List ℕ) (budget : ℕ) (x : Slices) (places : ℕ) (ok : c
       line-count : length (run lent (script b) budget (begin b) .last .memory .lines) ≡ a .running .memory .lines
       line-count = lines-many (ran .last .memory .lines)
 
-      answered : (k : Ending) → run lent (script b) budget (begin b) .ending ≡ k → a .stop ≡ endingNumber k
+      answered : (k : Ending) → run lent (script b) budget (begin b) .ending ≡ k → a .stop ≡ codeOf k
           → answerOf (outcomeOf a) ≡ answer (Rules.ran (run lent (script b) budget (begin b)))
-      unfolding answer answerOf outcomeOf endingNumber endingIndex
-      answered finished w z = rw (w, line-count, ran .last .steps, eq-eqb _ 0 z)
-      answered (stopped k) w z = rw (w, line-count, ran .last .steps, ran .last .at, ne-eqb _ 0 (λ y. stop-number k (sym z ∙ y)), z)
+      unfolding answer answerOf outcomeOf endingNumber endingIndex codeOf
+      answered finished w z = rw (w, line-count, ran .last .steps, eq-eqb _ 255 z)
+      answered (stopped k) w z = rw (w, line-count, ran .last .steps, ran .last .at, ne-eqb _ 255 (λ y. stop-below k (sym z ∙ y)), z)
 
       pub answers : answerOf (outcomeOf a) ≡ answer (Rules.ran (run lent (script b) budget (begin b)))
       answers = answered (run lent (script b) budget (begin b) .ending) refl (ran .ending)
@@ -200,8 +200,9 @@ module _ (b jumps : List ℕ) (budget : ℕ) (x : Slices) (places : ℕ) (l : La
 
   pub left-of : (x₁ : Slices) (gs : Guards) → Guarded gs [] → VariablesLoaded b (l .variables) (x .levels) (x₁ .levels) (x .values) (x₁ .values)
       → Loaded b (l .tree) (l .nodes) (cells (x₁ .words)) → x₁ .board ≡ x .board → (x₂ : Slices) → x₂ .levels ≡ x₁ .levels → (a : Stepped)
-      → Runs (held b jumps (frame l places)) x₁ x₂ (startOf l gs) budget a → Left b budget places x x₂ (outcomeOf a)
+      → Runs (held b jumps (frame l places)) x₁ x₂ (startOf l gs) (budget - 0) a → Left b budget places x x₂ (outcomeOf a)
   unfolding layoutOf
   left-of =
       rw (g .layout)
-      (λ x₁ gs none vl tl board x₂ same a rs. left b jumps budget x places (g .accepted) here x₁ gs none vl tl board x₂ same a rs)
+      (λ x₁ gs none vl tl board x₂ same a rs. left b jumps budget x places (g .accepted) here x₁ gs none vl tl board x₂ same a
+      (subst (λ (k : ℕ). Runs (held b jumps (frame (layoutOf b) places)) x₁ x₂ (startOf (layoutOf b) gs) k a) {x = budget - 0} (omega arith) rs))

@@ -17,7 +17,7 @@ use Rattle.monitor.specs.declared.control.Stepped.{Stepped}
 use Rattle.monitor.specs.Guards.{Holds}
 use Rattle.monitor.specs.Shows.{Slices, Shows}
 use Rattle.monitor.specs.Acts.{Does, Acts, Kept}
-use Rattle.monitor.specs.Stands.{Stands, Onward, Passes, Jumps, Leaves}
+use Rattle.monitor.specs.Stands.{Stands, Onward, Passes, Jumps, Leaves, ended}
 
 -- no stop has the number 0
 pub stop-number : (k : Stop) → stopNumber k ≡ 0 → ⊥
@@ -28,6 +28,15 @@ stop-number Run.tableFull e = omega arith
 stop-number Run.boardFull e = omega arith
 stop-number Run.spent e = omega arith
 stop-number Run.low e = omega arith
+
+pub stop-below : (k : Stop) → stopNumber k ≡ ended → ⊥
+unfolding stopNumber
+stop-below Run.flow e = omega arith
+stop-below Run.absent e = omega arith
+stop-below Run.tableFull e = omega arith
+stop-below Run.boardFull e = omega arith
+stop-below Run.spent e = omega arith
+stop-below Run.low e = omega arith
 
 module _ (places vars : ℕ) (x x′ : Slices) (r : Running) (s : State) (st : Stands places vars x r s) where
   -- after an action

@@ -1,7 +1,7 @@
 -- How the lent slices and a running record stand for a state of a run, and what a step and a run promise of it. Assumes nothing.
 use mathlib.Core.Path.{_≡_}
 use mathlib.Core.Bool.{Bool, true, false}
-use Prim.Native.Nat.{ℕ, zero, suc, _+_, _*_, _<_, _≤_}
+use Prim.Native.Nat.{ℕ, zero, suc, _+_, _-_, _*_, _<_, _≤_}
 use mathlib.Core.List.{List, tail}
 use lib.ListN.{length, getD}
 use lib.IntN.{ℤ}
@@ -12,8 +12,7 @@ use Rattle.rules.specs.Check.{recordRule}
 use Rattle.rules.specs.Job.{scriptOf}
 use Rattle.rules.specs.Script.{Expression, Command, numberAt}
 use Rattle.rules.specs.Run as Run
-use Rattle.rules.specs.Run.{State, Buffers, Block, Result, next, stop, stopNumber, value, levelOf, stepped, onward, step, Ending, Ended, run}
-use Rattle.rules.specs.Outcome.{endingNumber}
+use Rattle.rules.specs.Run.{State, Buffers, Block, Result, next, stop, stopNumber, value, levelOf, onward, step, Ending, finished, stopped, Ended, run}
 use Rattle.rules.proofs.Control.{Valid}
 use Rattle.job.specs.declared.records.Fields.{Fields}
 use Rattle.job.specs.Fields.{fieldsOf}
@@ -127,9 +126,17 @@ pub record Steps (h : Held) (x x′ : Slices) (r : Running) (a : Stepped) : Type
   pub steps : (lent : Buffers) (s : State) → Lent h x lent → Valid (scriptIn h) s → Stands (h .places) (h .vars) x r s
       → Does (Stands (h .places) (h .vars) x′ (a .running)) (a .stop) s (step lent (scriptIn h) s)
 
+-- what stands for the script's end where the number of a stop would stand
+abbrev pub ended : ℕ
+ended = 255
+
+unfoldable pub codeOf : Ending → ℕ
+codeOf finished = ended
+codeOf (stopped k) = stopNumber k
+
 -- how a run has ended, in the rules' words
 pub record Ran (h : Held) (x′ : Slices) (a : Stepped) (e : Ended) : Type 0 where
-  pub ending : a .stop ≡ endingNumber (e .ending)
+  pub ending : a .stop ≡ codeOf (e .ending)
   pub last : Stands (h .places) (h .vars) x′ (a .running) (e .last)
 
 -- a whole run with a budget
@@ -137,3 +144,34 @@ pub record Runs (h : Held) (x x′ : Slices) (r : Running) (budget : ℕ) (a : S
   pub kept : Kept (h .vars) x x′ (r .memory .lines) (a .running .memory .lines)
   pub runs : (lent : Buffers) (s : State) → Lent h x lent → Valid (scriptIn h) s → Stands (h .places) (h .vars) x r s
       → Ran h x′ a (run lent (scriptIn h) budget s)
+
+-- a state that x and r stand for, from which the rest of the run goes on
+pub record Comes (h : Held) (lent : Buffers) (e : Ended) (x : Slices) (r : Running) (left : ℕ) : Type 0 where
+  pub s : State
+  pub valid : Valid (scriptIn h) s
+  pub stands : Stands (h .places) (h .vars) x r s
+  pub rest : e ≡ run lent (scriptIn h) left s
+
+-- how far a run has come that began with x₀, r₀ and a budget
+pub record Reached (h : Held) (x₀ : Slices) (r₀ : Running) (budget : ℕ) (x : Slices) (r : Running) (left : ℕ) : Type 0 where
+  pub safe : Safe h x r
+  pub kept : Kept (h .vars) x₀ x (r₀ .memory .lines) (r .memory .lines)
+  pub board : length (x .board) ≡ length (x₀ .board)
+  pub comes : (lent : Buffers) (s : State) → Lent h x₀ lent → Valid (scriptIn h) s → Stands (h .places) (h .vars) x₀ r₀ s
+      → Comes h lent (run lent (scriptIn h) budget s) x r left
+
+-- a running record from which a script can go on, over the slices x, until it has made `limit` steps
+pub record Startable (h : Held) (x : Slices) (r : Running) (limit : ℕ) : Type 0 where
+  pub script : Script h
+  pub safe : Safe h x r
+  pub early : r .steps ≤ limit
+  pub limited : limit ≤ maxBudget
+
+-- one step of a run that may make `limit` steps: it goes on with one step more, or has ended
+pub record Turns (h : Held) (x x′ : Slices) (r : Running) (limit : ℕ) (a : Stepped) : Type 0 where
+  pub goes : a .stop ≡ 0 → Reached h x r (limit - r .steps) x′ (a .running) (limit - a .running .steps)
+  pub later : a .stop ≡ 0 → (a .running .steps ≡ suc (r .steps)) × (a .running .steps ≤ limit)
+  pub ends : (a .stop ≡ 0 → ⊥) → Runs h x x′ r (limit - r .steps) a
+
+abbrev pub stepped : ℕ → Running → Stepped
+stepped k r = record { stop = k; running = r }

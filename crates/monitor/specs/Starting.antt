@@ -23,12 +23,13 @@ use Rattle.monitor.specs.declared.entry.Outcome.{Outcome}
 use Rattle.monitor.specs.declared.entry.Outcome.the-variants.{Finished, Stopped}
 use Rattle.monitor.specs.Board.{capacity}
 use Rattle.monitor.specs.Shows.{Slices}
+use Rattle.monitor.specs.Stands.{ended}
 use Rattle.monitor.specs.Promises.{answerOf, Lent, lent, Tree, Ran}
 
 -- the outcome of a run that has ended
 unfoldable pub outcomeOf : Stepped → Outcome
 outcomeOf a =
-    cond (eqb (a .stop) 0) (Finished (a .running .steps) (a .running .memory .lines))
+    cond (eqb (a .stop) ended) (Finished (a .running .steps) (a .running .memory .lines))
     (Stopped (a .stop) (a .running .at) (a .running .steps) (a .running .memory .lines))
 
 -- the variables' records lie in the bytes, and there is room for them

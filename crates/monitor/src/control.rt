@@ -19,7 +19,10 @@ pub struct Running {
     pub steps: u32,
 }
 
-// The number of the stop, or 0, and where the run stands then.
+// Stands for the script's end where the number of a stop would stand.
+pub const FINISHED: u8 = 255;
+
+// How the run has ended, or 0 where it goes on, and where it stands then.
 pub struct Stepped {
     pub stop: u8,
     pub running: Running,

@@ -1,9 +1,10 @@
 // The run over a job's bytes: the checks 1 to 10, then the job is loaded and run.
+use super::control::FINISHED;
 use super::control::Running;
 use super::control::Stepped;
 use super::guards;
 use super::memory::Memory;
-use super::run::run;
+use super::run::run_from;
 use super::step::Frame;
 use job::Checked;
 use job::prepare;
@@ -77,7 +78,7 @@ fn smaller(a: usize, b: usize) -> usize
 fn ended(a: Stepped) -> Outcome
     ensures { λ r. ⌜ r ≡ outcomeOf a ⌝ }
 {
-    if a.stop == 0 {
+    if a.stop == FINISHED {
         return Outcome::Finished {
             steps: a.running.steps,
             lines: a.running.memory.lines,
@@ -128,7 +129,8 @@ fn run_accepted(
         at: 0,
         steps: 0,
     };
-    ended(run(
+    ended(run_from(
+        start,
         job,
         jumps,
         levels,
@@ -137,7 +139,6 @@ fn run_accepted(
         words,
         values,
         lines,
-        start,
     ))
 }
 

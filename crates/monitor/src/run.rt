@@ -1,56 +1,121 @@
-// A run: step after step, until it ends.
+// A run: step after step, until it ends. The running record is lent to each step, which updates it.
+use super::control::FINISHED;
 use super::control::Running;
 use super::control::Stepped;
 use super::step::Frame;
-use super::step::step;
+use super::step::carry_out;
 use rules::limits::SPENT;
-ghost use Prim.Native.Nat.{_+_, _≤_};
+ghost use mathlib.Core.Path.{_≡_};
+ghost use Prim.Native.Nat.{_≤_, _-_};
 ghost use Rattle.rules.specs.Limits.{maxBudget};
 ghost use Rattle.monitor.specs.Shows.{slices};
-ghost use Rattle.monitor.specs.Stands.{held, Script, Safe, Runs};
+ghost use Rattle.monitor.specs.Stands.{held, Startable, stepped, Turns, Runs};
 
-// With a budget, from where a run stands: 0 where it finishes, or the number of its stop.
-pub fn run(
+// What comes next in a run that may make `limit` steps: the script's end, the budget's, a stop, or one step more.
+fn turn(
+    r: Running,
     job: &[u8],
     jumps: &[u16],
     levels: &[u8],
     f: Frame,
-    budget: u32,
+    limit: u32,
     words: &mut [u32],
     values: &mut [i32],
     lines: &mut [u8],
-    start: Running,
 ) -> Stepped
-    requires { ⌜ Script (held (now job) (now jumps) f)
-        × (Safe (held (now job) (now jumps) f) (slices (now words) (now levels) (now values) (now lines)) start × (start .steps + budget ≤ maxBudget)) ⌝ }
-    ensures { λ a. ⌜ Runs (held (now (job .entry)) (now (jumps .entry)) f)
+    requires { ⌜ Startable (held (now job) (now jumps) f) (slices (now words) (now levels) (now values) (now lines)) r limit ⌝ }
+    ensures { λ a. ⌜ Turns (held (now (job .entry)) (now (jumps .entry)) f)
         (slices (now (words .entry)) (now (levels .entry)) (now (values .entry)) (now (lines .entry)))
-        (slices (now (words .exit)) (now (levels .entry)) (now (values .exit)) (now (lines .exit))) start budget a ⌝ }
+        (slices (now (words .exit)) (now (levels .entry)) (now (values .exit)) (now (lines .exit))) r limit a ⌝ }
 {
-    let mut r = start;
-    let mut left = budget;
-    while left > 0 {
-        if r.at >= f.records {
-            return Stepped {
-                stop: 0,
-                running: r,
-            };
-        }
-        let a = step(job, jumps, levels, f, words, values, lines, r);
-        r = a.running;
-        if a.stop != 0 {
-            return a;
-        }
-        left -= 1;
-    }
     if r.at >= f.records {
         return Stepped {
-            stop: 0,
+            stop: FINISHED,
             running: r,
         };
     }
-    Stepped {
-        stop: SPENT,
-        running: r,
+    if r.steps >= limit {
+        return Stepped {
+            stop: SPENT,
+            running: r,
+        };
     }
+    carry_out(job, jumps, levels, f, words, values, lines, r)
+}
+
+// One step of a run, on the running record that it is lent.
+fn step(
+    r: &mut Running,
+    job: &[u8],
+    jumps: &[u16],
+    levels: &[u8],
+    f: Frame,
+    limit: u32,
+    words: &mut [u32],
+    values: &mut [i32],
+    lines: &mut [u8],
+) -> u8
+    requires { ⌜ Startable (held (now job) (now jumps) f) (slices (now words) (now levels) (now values) (now lines)) (now r) limit ⌝ }
+    ensures { λ c. ⌜ Turns (held (now (job .entry)) (now (jumps .entry)) f)
+        (slices (now (words .entry)) (now (levels .entry)) (now (values .entry)) (now (lines .entry)))
+        (slices (now (words .exit)) (now (levels .entry)) (now (values .exit)) (now (lines .exit))) (now (r .entry)) limit (stepped c (now (r .exit))) ⌝ }
+{
+    let v = *r;
+    let a = turn(v, job, jumps, levels, f, limit, words, values, lines);
+    let t = a.running;
+    *r = t;
+    a.stop
+}
+
+// A run lends the running record to each step, until one says how it has ended.
+fn run(
+    r: &mut Running,
+    job: &[u8],
+    jumps: &[u16],
+    levels: &[u8],
+    f: Frame,
+    limit: u32,
+    words: &mut [u32],
+    values: &mut [i32],
+    lines: &mut [u8],
+) -> u8
+    requires { ⌜ Startable (held (now job) (now jumps) f) (slices (now words) (now levels) (now values) (now lines)) (now r) limit ⌝ }
+    ensures { λ c. ⌜ Runs (held (now (job .entry)) (now (jumps .entry)) f)
+        (slices (now (words .entry)) (now (levels .entry)) (now (values .entry)) (now (lines .entry)))
+        (slices (now (words .exit)) (now (levels .entry)) (now (values .exit)) (now (lines .exit))) (now (r .entry)) (limit - now (r .entry) .steps)
+        (stepped c (now (r .exit))) ⌝ }
+{
+    let mut ending = 0;
+    while ending == 0 {
+        ending = step(r, job, jumps, levels, f, limit, words, values, lines);
+    }
+    ending
+}
+
+fn halted(stop: u8, running: Running) -> Stepped
+    ensures { λ a. ⌜ a ≡ stepped stop running ⌝ }
+{
+    Stepped { stop, running }
+}
+
+// A run from where a running record stands, which may make `limit` steps.
+pub fn run_from(
+    start: Running,
+    job: &[u8],
+    jumps: &[u16],
+    levels: &[u8],
+    f: Frame,
+    limit: u32,
+    words: &mut [u32],
+    values: &mut [i32],
+    lines: &mut [u8],
+) -> Stepped
+    requires { ⌜ Startable (held (now job) (now jumps) f) (slices (now words) (now levels) (now values) (now lines)) start limit ⌝ }
+    ensures { λ a. ⌜ Runs (held (now (job .entry)) (now (jumps .entry)) f)
+        (slices (now (words .entry)) (now (levels .entry)) (now (values .entry)) (now (lines .entry)))
+        (slices (now (words .exit)) (now (levels .entry)) (now (values .exit)) (now (lines .exit))) start (limit - start .steps) a ⌝ }
+{
+    let mut r = start;
+    let stop = run(&mut r, job, jumps, levels, f, limit, words, values, lines);
+    halted(stop, r)
 }

@@ -1,4 +1,4 @@
-// One step: the record that comes next is carried out.
+// The record that comes next, carried out.
 use super::control::Running;
 use super::control::Stepped;
 use super::control::enter_if;
@@ -41,7 +41,7 @@ fn side(command: u8, first: u8) -> u32
     (command - first) as u32
 }
 
-pub fn step(
+pub fn carry_out(
     job: &[u8],
     jumps: &[u16],
     levels: &[u8],

@@ -1,4 +1,4 @@
--- `entry::ended` meets its contract: by whether there was a stop. Assumes nothing.
+-- `entry::ended` meets its contract: by whether the script has come to its end. Assumes nothing.
 use borrow.Author.Tests.{eq-eqb, ne-eqb}
 use Rattle.monitor.specs.Starting.{outcomeOf}
 use Rattle.monitor.proofs.entry.ended.Statement.{statement}
@@ -6,11 +6,11 @@ use Rattle.monitor.proofs.entry.ended.Tie as tie
 
 returns : tie.Need-returns
 unfolding outcomeOf
-returns c = rw (eq-eqb _ 0 (c .if1 .taken))
+returns c = rw (eq-eqb _ 255 (c .if1 .taken))
 
 returns-2 : tie.Need-returns-2
 unfolding outcomeOf
-returns-2 c = rw (ne-eqb _ 0 (c .if1 .left))
+returns-2 c = rw (ne-eqb _ 255 (c .if1 .left))
 
 pub ended-spec : {M : Type 1} → statement M
 ended-spec = tie.close (tie.spec returns returns-2)

@@ -14,11 +14,17 @@ load-variables-requires c κs = loading _ _ _ _ _ _ (c .before .before .before .
 load-requires : tie.Need-load-requires
 load-requires c κs = loadable _ _ _ _ _ _ (c .before .before .before .before .before .before .before .before .before .before .before .before .before .pre)
 
-run-requires : tie.Need-run-requires
-run-requires c κs =
+run-from-requires : tie.Need-run-from-requires
+run-from-requires c κs =
     let w = c .before .before .before .before .before .before .before in
     let p = w .before .before .before .before .before .before .before .before .before .before .before .before .before .before .before .pre in
-    (ready _ _ _ _ _ _ p, (safe _ _ _ _ _ _ p _ _ _ _ (w .words .given) (w .before .before .before .before .before .before .levels .given) (w .before .before .before .before .values .given), omega (arith, p .spend)))
+    let vs = w .before .before .before .before .before .before .levels .given in
+    record {
+      script = ready _ _ _ _ _ _ p;
+      safe = safe _ _ _ _ _ _ p _ _ _ _ (w .words .given) vs (w .before .before .before .before .values .given);
+      early = omega arith;
+      limited = p .spend;
+    }
 
 same-length-2 : tie.Need-same-length-2
 same-length-2 c = c .before .before .before .before .before .before .before .before .before .before .before .before .before .before .before .before .before .before .before .before .levels .given
@@ -31,10 +37,10 @@ returns c =
     let d = c .before .before .before .before .before .before .before .before .before .before .before in
     subst (Left _ _ _ _ _) (sym (c .ended .ensures))
     (left-of _ _ _ _ _ _ (d .before .before .before .before .before .before .before .before .before .before .before .before .before .before .before .before .before .before .pre) (slices _ _ _ _) _ (d .none .ensures)
-    (d .before .before .before .before .before .before .before .before .before .before .load-variables .ensures) (d .before .before .before .before .load .ensures) refl (slices _ _ _ _) refl _ (c .before .before .before .before .before .before .run .ensures))
+    (d .before .before .before .before .before .before .before .before .before .before .load-variables .ensures) (d .before .before .before .before .load .ensures) refl (slices _ _ _ _) refl _ (c .before .before .before .before .before .before .run-from .ensures))
 
 pub run-accepted-spec : {M : Type 1} → statement M
 run-accepted-spec =
     tie.close (tie.spec
-    load-variables-requires (λ c. search needs) load-requires (λ c. search needs) (λ c κs. search needs) run-requires (λ c κs. search needs)
+    load-variables-requires (λ c. search needs) load-requires (λ c. search needs) (λ c κs. search needs) run-from-requires (λ c κs. search needs)
     (λ c. search needs) same-length-2 same-length-3 (λ c. search needs) returns)

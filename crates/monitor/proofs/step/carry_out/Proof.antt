@@ -1,12 +1,12 @@
--- `step::step` meets its contract: each arm asks what the checks of the script give, and gives what the rules' command does. Assumes nothing.
+-- `step::carry_out` meets its contract: each arm asks what the checks of the script give, and gives what the rules' command does. Assumes nothing.
 use mathlib.Core.Path.{refl}
 use native.Mathlib.Omega.{arith}
 use Rattle.rules.specs.Script.{rows}
 use Rattle.monitor.proofs.Doing.{does-next, stays}
 use Rattle.monitor.proofs.Commands.{timely, readable, at-cursor, reads-by, reads-insert, target-by, from-seven, no-rest, skips, assigns, ifs, elses, whiles, ends, outputs, goes, inserts, removes, writes, raises}
 use borrow.Author.Needs.{needs}
-use Rattle.monitor.proofs.step.step.Statement.{statement}
-use Rattle.monitor.proofs.step.step.Tie as tie
+use Rattle.monitor.proofs.step.carry_out.Statement.{statement}
+use Rattle.monitor.proofs.step.carry_out.Tie as tie
 
 assign-requires : tie.Need-assign-requires
 unfolding rows
@@ -260,8 +260,8 @@ returns-13 c =
     absurd (no-rest _ (p .0) _ _ (p .1 .0) (p .1 .1 .0) _ f (c .before .if3 .left) (c .before .before .before .before .match .rest .0 .1) (c .before
     .before .before .before .match .rest .1))
 
-pub step-spec : {M : Type 1} → statement M
-step-spec =
+pub carry-out-spec : {M : Type 1} → statement M
+carry-out-spec =
     tie.close
     (tie.spec
     (λ c κs. search needs) (λ c κs. search needs) (λ c κs. search needs) assign-requires onward-requires-2 evaluate-requires (λ c. search needs)
