@@ -1,15 +1,13 @@
 // The board runner: one job on standard input, with a budget of 100,000, 512 places and 256 lines. The board goes to standard output, how the run
 // ended to standard error.
-use libc::STDERR_FILENO;
 use libc::STDIN_FILENO;
-use libc::STDOUT_FILENO;
 use monitor::Outcome;
 use monitor::run_words;
 use print::Out;
 use print::SIZE;
 use print::answer;
+use print::runner::AREA;
 use print::runner::BUDGET;
-use print::runner::LINES;
 use print::runner::VARIABLES;
 use print::runner::WORDS;
 ghost use Prim.Native.Nat.{_≤_};
@@ -43,15 +41,15 @@ fn ended(buf: &mut [u8; SIZE], out: Out, o: Outcome) -> Out
 // A line of standard error.
 fn verdict(o: Outcome) {
     let mut buf = io::large_buffer();
-    let mut out = ended(&mut buf, print::to(STDERR_FILENO), o);
+    let mut out = ended(&mut buf, print::to(print::ERRORS), o);
     out = print::byte(&mut buf, out, b'\n');
     print::flush(&buf, out);
 }
 
 // The board of a run, with the number of its lines.
-fn board(lines: &[i32], n: usize) {
+fn board(lines: &[u8], n: usize) {
     let mut buf = io::large_buffer();
-    let mut out = print::to(STDOUT_FILENO);
+    let mut out = print::to(print::OUTPUT);
     out = print::text(&mut buf, out, b"board\n");
     out = print::lines(&mut buf, out, b"", lines, n);
     out = print::item(&mut buf, out, b"end ", n as u64);
@@ -63,7 +61,7 @@ fn run(job: &[u8]) {
     let mut words = [0u32; WORDS];
     let mut levels = [0u8; VARIABLES];
     let mut values = [0i32; VARIABLES];
-    let mut lines = [0i32; LINES];
+    let mut lines = [0u8; AREA];
     let o = run_words(
         job,
         BUDGET,
@@ -73,7 +71,7 @@ fn run(job: &[u8]) {
         &mut lines,
     );
     let a = answer::of(o);
-    if answer::was_run(a) {
+    if answer::was_run(o) {
         board(&lines, a.lines);
     }
     verdict(o);

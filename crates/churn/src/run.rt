@@ -95,7 +95,7 @@ pub fn must(m: Moved) -> Run
 pub fn add(words: &mut [u32; 4096], run: Run, side: u32, value: u32, well: bool) -> Run
     requires { ⌜ side < 2 ⌝ }
 {
-    let n = shape::Node {
+    let n = shape::NewNode {
         value: value,
         existence: 0,
         content: 0,

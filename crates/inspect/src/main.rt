@@ -5,14 +5,13 @@ mod tree;
 
 use job::Checked;
 use libc::STDIN_FILENO;
-use libc::STDOUT_FILENO;
 use monitor::run_words;
 use print::Out;
 use print::SIZE;
 use print::answer;
 use print::answer::Answer;
+use print::runner::AREA;
 use print::runner::BUDGET;
-use print::runner::LINES;
 use print::runner::VARIABLES;
 use print::runner::WORDS;
 use rules::numbers::bits;
@@ -31,7 +30,7 @@ fn ending(buf: &mut [u8; SIZE], out: Out, a: Answer) -> Out
 }
 
 // The steps and the board lines.
-fn board(buf: &mut [u8; SIZE], out: Out, a: Answer, lines: &[i32]) -> Out
+fn board(buf: &mut [u8; SIZE], out: Out, a: Answer, lines: &[u8]) -> Out
     requires { ⌜ out .used ≤ 65536 ⌝ }
     ensures { λ r. ⌜ r .used ≤ 65536 ⌝ }
 {
@@ -98,7 +97,7 @@ fn run(job: &[u8]) {
     let mut words = [0u32; WORDS];
     let mut levels = [0u8; VARIABLES];
     let mut values = [0i32; VARIABLES];
-    let mut lines = [0i32; LINES];
+    let mut lines = [0u8; AREA];
     let o = run_words(
         job,
         BUDGET,
@@ -109,8 +108,8 @@ fn run(job: &[u8]) {
     );
     let a = answer::of(o);
     let mut buf = io::large_buffer();
-    let mut out = ending(&mut buf, print::to(STDOUT_FILENO), a);
-    if answer::was_run(a) {
+    let mut out = ending(&mut buf, print::to(print::OUTPUT), a);
+    if answer::was_run(o) {
         out = board(&mut buf, out, a, &lines);
         out = variables(&mut buf, out, variables_of(job), &levels, &values);
         out = tree::show(&mut buf, out, &words);

@@ -2,29 +2,43 @@
 use mathlib.Core.Path.{_≡_, refl, sym, _∙_, ap, subst}
 use mathlib.Core.Bool.{Bool, true, false, _&&_}
 use mathlib.Core.List.{List}
-use Prim.Native.Nat.{ℕ, _*_, _/_, _<_, _≤_, min}
+use Prim.Native.Nat.{ℕ, _*_, _<_, _≤_, min}
 use native.Mathlib.Omega.{arith}
 use lib.Dec.{leb}
 use lib.ListN.{length, getD}
 use borrow.Author.Tests.{leb-true}
 use Rattle.rules.specs.Limits.{maxNodes, maxRecords, maxBudget, badBudget, badBuffers}
+use Rattle.rules.specs.Tree.{Forest, Place}
 use Rattle.rules.specs.Bytes.{nodeCount, variableCount, recordCount}
 use Rattle.rules.specs.Blocks.{goesTo}
 use Rattle.rules.specs.Script.{numberAt}
 use Rattle.rules.specs.Check as Check
 use Rattle.rules.specs.Check.{require, checkBytes}
 use Rattle.rules.specs.Job.{script}
+use Rattle.rules.specs.Run.{Buffers, Ending, finished, stopped, Ended, run}
 use Rattle.rules.specs.Outcome as Rules
-use Rattle.rules.specs.Outcome.{answer, runJob, checkJob, andThen, budgetRule, bufferRule}
+use Rattle.rules.specs.Outcome.{answer, endingNumber, endingIndex, runJob, checkJob, andThen, budgetRule, bufferRule, begin}
 use Rattle.rules.proofs.Tests.{both}
 use Rattle.rules.proofs.Noninterference.{runs}
 use Rattle.job.specs.declared.sections.Layout.{Layout}
 use Rattle.job.specs.Layout.{layoutOf}
 use Rattle.monitor.specs.declared.entry.Outcome.{Outcome}
 use Rattle.monitor.specs.declared.entry.Outcome.the-variants.{Refused}
+use Rattle.monitor.specs.Board.{capacity}
 use Rattle.monitor.specs.Shows.{Slices}
-use Rattle.monitor.specs.Promises.{answerOf, lentBy, placesIn, Tree, Leaves, Promises}
+use Rattle.monitor.specs.Promises.{answerOf, told, toldBy, Lent, lentBy, Ran, Tree, Leaves, Promises}
 use Rattle.monitor.specs.Starting.{bufferTest, Begun, asLent, Left}
+
+-- an outcome that says what the rules' outcome is has its answer
+answered-by : (k : Ending) (e : Ended) → e .ending ≡ k → answerOf (toldBy k e) ≡ answer (Rules.ran e)
+unfolding answerOf answer toldBy endingNumber endingIndex
+answered-by finished e w = rw w
+answered-by (stopped k) e w = rw w
+
+answers : (o : Rules.Outcome) → answerOf (told o) ≡ answer o
+unfolding answerOf answer told
+answers (Rules.rejected k i) = refl
+answers (Rules.ran e) = answered-by (e .ending) e refl
 
 -- what the test of the buffers says
 record Enough (n v places room : ℕ) : Type 0 where
@@ -40,30 +54,34 @@ enough nodes variables places room e =
     let w₁ = both (leb 1 places) (leb places maxNodes) (w₂ .0) in
     record { few = leb-true _ _ (w₁ .1); nodes = leb-true _ _ (w₂ .1); variables = leb-true _ _ (w₃ .1) }
 
-module _ (b : List ℕ) (budget : ℕ) (x : Slices) where
-  rejected-so : (k i : ℕ) → checkJob b budget (lentBy placesIn (asLent x)) ≡ Check.refused k i → Promises placesIn Tree b budget (asLent x) (asLent x) (Refused k i)
-  unfolding runJob answer answerOf
+module _ (b : List ℕ) (budget places : ℕ) (x : Slices) where
+  -- what the rules are given
+  abbrev given : Buffers
+  given = lentBy (λ _. places) (asLent x)
+
+  rejected-so : (k i : ℕ) → checkJob b budget given ≡ Check.refused k i → Promises (λ _. places) Tree b budget (asLent x) (asLent x) (Refused k i)
+  unfolding runJob answer answerOf told
   rejected-so k i e =
-      let o : runJob b budget (lentBy placesIn (asLent x)) ≡ Rules.rejected k i = rw (e, runJob) in
-      record { answered = sym (ap answer o); leaves = subst (Leaves placesIn Tree (variableCount b) (asLent x) (asLent x)) (sym o) refl }
+      let o : runJob b budget given ≡ Rules.rejected k i = rw (e, runJob) in
+      record { outcome = sym (ap told o); answered = sym (ap answer o); leaves = subst (Leaves (λ _. places) Tree (variableCount b) (asLent x) (asLent x)) (sym o) refl }
 
   -- the checks 9 and 10
   abbrev limits : Check.Checked
-  limits = require badBudget (budgetRule budget) (require badBuffers (bufferRule b (lentBy placesIn (asLent x))) Check.accepted)
+  limits = require badBudget (budgetRule budget) (require badBuffers (bufferRule b given) Check.accepted)
 
-  pub turned-back : (k i : ℕ) → checkBytes b ≡ Check.refused k i → Promises placesIn Tree b budget (asLent x) (asLent x) (Refused k i)
+  pub turned-back : (k i : ℕ) → checkBytes b ≡ Check.refused k i → Promises (λ _. places) Tree b budget (asLent x) (asLent x) (Refused k i)
   unfolding checkJob andThen
   turned-back k i e = rejected-so k i (ap (λ (c : Check.Checked). andThen c limits) e)
 
   -- from here on the bytes are accepted
   module _ (ok : checkBytes b ≡ Check.accepted) where
-    later : checkJob b budget (lentBy placesIn (asLent x)) ≡ limits
+    later : checkJob b budget given ≡ limits
     unfolding checkJob andThen
     later = ap (λ (c : Check.Checked). andThen c limits) ok
 
-    pub bad-budget : budgetRule budget ≡ false → Promises placesIn Tree b budget (asLent x) (asLent x) (Refused badBudget 0)
+    pub bad-budget : budgetRule budget ≡ false → Promises (λ _. places) Tree b budget (asLent x) (asLent x) (Refused badBudget 0)
     unfolding require
-    bad-budget e = rejected-so badBudget 0 (later ∙ ap (λ (t : Bool). require badBudget t (require badBuffers (bufferRule b (lentBy placesIn (asLent x))) Check.accepted)) e)
+    bad-budget e = rejected-so badBudget 0 (later ∙ ap (λ (t : Bool). require badBudget t (require badBuffers (bufferRule b given) Check.accepted)) e)
 
     module _ (spend : budgetRule budget ≡ true) where
       pub within : budget ≤ maxBudget
@@ -72,53 +90,73 @@ module _ (b : List ℕ) (budget : ℕ) (x : Slices) where
 
     module _ (l : Layout) (layout : l ≡ layoutOf b) (spend : budgetRule budget ≡ true) (room : ℕ) (least : room ≡ min (length (x .levels)) (length (x .values))) where
       abbrev pub fits : Bool → Type 0
-      fits t = bufferTest (l .nodes) (l .variables) (length (x .words) / 8) room ≡ t
+      fits t = bufferTest (l .nodes) (l .variables) (places) room ≡ t
 
-      rule : (t : Bool) → fits t → bufferRule b (lentBy placesIn (asLent x)) ≡ t
+      rule : (t : Bool) → fits t → bufferRule b given ≡ t
       unfolding bufferRule bufferTest lentBy layoutOf
       rule t e =
-          subst (λ (n : ℕ). bufferTest (nodeCount b) (variableCount b) (length (x .words) / 8) n ≡ t) least
-          (subst (λ (k : Layout). bufferTest (k .nodes) (k .variables) (length (x .words) / 8) room ≡ t) layout e)
+          subst (λ (n : ℕ). bufferTest (nodeCount b) (variableCount b) (places) n ≡ t) least
+          (subst (λ (k : Layout). bufferTest (k .nodes) (k .variables) (places) room ≡ t) layout e)
 
-      last : (t : Bool) → fits t → checkJob b budget (lentBy placesIn (asLent x)) ≡ require badBuffers t Check.accepted
+      last : (t : Bool) → fits t → checkJob b budget given ≡ require badBuffers t Check.accepted
       unfolding require
       last t e =
-          later ∙ ap (λ (u : Bool). require badBudget u (require badBuffers (bufferRule b (lentBy placesIn (asLent x))) Check.accepted)) spend
+          later ∙ ap (λ (u : Bool). require badBudget u (require badBuffers (bufferRule b given) Check.accepted)) spend
           ∙ ap (λ (u : Bool). require badBuffers u Check.accepted) (rule t e)
 
-      pub bad-buffers : fits false → Promises placesIn Tree b budget (asLent x) (asLent x) (Refused badBuffers 0)
+      pub bad-buffers : fits false → Promises (λ _. places) Tree b budget (asLent x) (asLent x) (Refused badBuffers 0)
       unfolding require
       bad-buffers e = rejected-so badBuffers 0 (last false e)
 
       module _ (e : fits true) where
-        large : Enough (l .nodes) (l .variables) (length (x .words) / 8) room
+        large : Enough (l .nodes) (l .variables) (places) room
         large = enough _ _ _ _ e
 
-        pub few : length (x .words) / 8 ≤ maxNodes
+        pub few : places ≤ maxNodes
         few = large .few
 
-        pub begun : (js : List ℕ) → maxRecords ≤ length js
+        pub begun : 8 * min places maxNodes ≤ length (x .words) → (js : List ℕ) → maxRecords ≤ length js
             → ((k : ℕ) → k < recordCount b → getD js k 0 ≡ goesTo (numberAt (script b)) (recordCount b) k)
-            → Begun b l js budget x (length (x .words) / 8)
-        begun js long goes =
+            → Begun b l js budget x (places)
+        begun room js long goes =
             record {
               accepted = ok;
               layout = layout;
               long = long;
               goes = goes;
               spend = within spend;
-              words = omega arith;
+              words = omega (arith, few, room);
               few = few;
               nodes = large .nodes;
               levelled = omega (arith, large .variables, least);
               valued = omega (arith, large .variables, least);
             }
 
-        pub is-run : (x′ : Slices) (r : Outcome) → Left b budget (length (x .words) / 8) x x′ r → Promises placesIn Tree b budget (asLent x) (asLent x′) r
+        pub is-run : (x′ : Slices) (r : Outcome) → Left b budget (places) x x′ r → Promises (λ _. places) Tree b budget (asLent x) (asLent x′) r
         unfolding require lentBy
         is-run x′ r h =
-            let o = runs b budget (lentBy placesIn (asLent x)) (last true e) in
+            let o = runs b budget given (last true e) in
             record {
-              answered = h .answered (lentBy placesIn (asLent x)) refl refl ∙ sym (ap answer o);
-              leaves = subst (Leaves placesIn Tree (variableCount b) (asLent x) (asLent x′)) (sym o) (h .leaves (lentBy placesIn (asLent x)) refl refl);
+              outcome = h .outcome given refl refl ∙ sym (ap told o);
+              answered = ap answerOf (h .outcome given refl refl) ∙ answers (Rules.ran (run given (script b) budget (begin b))) ∙ sym (ap answer o);
+              leaves = subst (Leaves (λ _. places) Tree (variableCount b) (asLent x) (asLent x′)) (sym o) (h .leaves given refl refl);
             }
+
+-- the promise rests on how many places the table lent has, and on nothing else of how places are counted
+module _ {T : Type 0} (HoldsTree : T → ℕ → Forest → Place → Type 0) (places counted : T → ℕ) (b : List ℕ) (budget : ℕ) (x x′ : Lent T) (r : Outcome)
+    (e : places (x .table) ≡ counted (x .table)) where
+  same : lentBy places x ≡ lentBy counted x
+  unfolding lentBy
+  same = λ i. record { places = e i; variables = min (length (x .levels)) (length (x .values)); lines = capacity (x .board) }
+
+  leaves : (o : Rules.Outcome) → Leaves places HoldsTree (variableCount b) x x′ o → Leaves counted HoldsTree (variableCount b) x x′ o
+  leaves (Rules.rejected k i) h = h
+  leaves (Rules.ran a) h = subst (λ k. Ran HoldsTree (variableCount b) k x x′ a) e h
+
+  pub recount : Promises places HoldsTree b budget x x′ r → Promises counted HoldsTree b budget x x′ r
+  recount h =
+      record {
+        outcome = h .outcome ∙ ap (λ l. told (runJob b budget l)) same;
+        answered = h .answered ∙ ap (λ l. answer (runJob b budget l)) same;
+        leaves = subst (λ l. Leaves counted HoldsTree (variableCount b) x x′ (runJob b budget l)) same (leaves (runJob b budget (lentBy places x)) (h .leaves));
+      }

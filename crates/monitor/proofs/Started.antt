@@ -20,7 +20,7 @@ use Rattle.rules.specs.Job.{Variable, variableOf, variables, treeOf, jobTree, s
 use Rattle.rules.specs.Script.{Command}
 use Rattle.rules.specs.Run.{Buffers, State, Ended, Ending, finished, stopped, stopNumber, noVariable, variableAt, start, run}
 use Rattle.rules.specs.Outcome as Rules
-use Rattle.rules.specs.Outcome.{Answer, answer, endingNumber, endingIndex, begin}
+use Rattle.rules.specs.Outcome.{endingNumber, begin}
 use Rattle.rules.proofs.Accepted.{Right, right, blocks-right}
 use Rattle.rules.proofs.Checks.{Sections, sections, counts}
 use Rattle.rules.proofs.Control.{Valid}
@@ -39,7 +39,7 @@ use Rattle.monitor.specs.Guards.{Holds as Guarded}
 use Rattle.monitor.specs.Board.{capacity}
 use Rattle.monitor.specs.Shows.{Slices, slices, Variables, Shows}
 use Rattle.monitor.specs.Stands.{Stands, Held, held, scriptIn, Script, Safe, Startable, Runs, codeOf}
-use Rattle.monitor.specs.Promises.{answerOf, Tree, Ran}
+use Rattle.monitor.specs.Promises.{told, toldBy, Tree, Ran}
 use Rattle.monitor.specs.Starting.{outcomeOf, Loading, VariablesLoaded, Begun, asLent, Left}
 use Rattle.monitor.proofs.Board.{no-lines, lines-many, as-written}
 use Rattle.monitor.proofs.Stepping.{stop-below}
@@ -138,12 +138,12 @@ module _ (b jumps : List ℕ) (budget : ℕ) (x : Slices) (places : ℕ) (ok : c
       line-count = lines-many (ran .last .memory .lines)
 
       answered : (k : Ending) → run lent (script b) budget (begin b) .ending ≡ k → a .stop ≡ codeOf k
-          → answerOf (outcomeOf a) ≡ answer (Rules.ran (run lent (script b) budget (begin b)))
-      unfolding answer answerOf outcomeOf endingNumber endingIndex codeOf
+          → outcomeOf a ≡ told (Rules.ran (run lent (script b) budget (begin b)))
+      unfolding told toldBy outcomeOf codeOf
       answered finished w z = rw (w, line-count, ran .last .steps, eq-eqb _ 255 z)
       answered (stopped k) w z = rw (w, line-count, ran .last .steps, ran .last .at, ne-eqb _ 255 (λ y. stop-below k (sym z ∙ y)), z)
 
-      pub answers : answerOf (outcomeOf a) ≡ answer (Rules.ran (run lent (script b) budget (begin b)))
+      pub answers : outcomeOf a ≡ told (Rules.ran (run lent (script b) budget (begin b)))
       answers = answered (run lent (script b) budget (begin b) .ending) refl (ran .ending)
 
       pub leaves : Ran Tree (variableCount b) places (asLent x) (asLent x₂) (run lent (script b) budget (begin b))
@@ -161,7 +161,7 @@ module _ (b jumps : List ℕ) (budget : ℕ) (x : Slices) (places : ℕ) (ok : c
     -- the two together
     pub left : (x₂ : Slices) → x₂ .levels ≡ x₁ .levels → (a : Stepped)
         → Runs (held b jumps (frame (layoutOf b) places)) x₁ x₂ (startOf (layoutOf b) gs) budget a → Left b budget places x x₂ (outcomeOf a)
-    left x₂ same a rs = record { answered = λ lent lp lb. answers x₂ same a rs lent lp lb; leaves = λ lent lp lb. leaves x₂ same a rs lent lp lb }
+    left x₂ same a rs = record { outcome = λ lent lp lb. answers x₂ same a rs lent lp lb; leaves = λ lent lp lb. leaves x₂ same a rs lent lp lb }
 
 -- the same for a layout that is the job's: what the functions called ask for, and what they leave
 module _ (b jumps : List ℕ) (budget : ℕ) (x : Slices) (places : ℕ) (l : Layout) (g : Begun b l jumps budget x places) where

@@ -6,7 +6,7 @@ use lib.ListN.{length, getD}
 use lib.IntN.{ℤ, pos}
 use Rattle.rules.specs.Tree.{Forest, Place}
 use Rattle.rules.specs.Bytes.{variableCount}
-use Rattle.rules.specs.Run.{Buffers, Ended}
+use Rattle.rules.specs.Run.{Buffers, Ending, finished, stopped, stopNumber, Ended}
 use Rattle.rules.specs.Outcome as Rules
 use Rattle.rules.specs.Outcome.{Answer, answer, runJob}
 use Rattle.table.specs.Cells.{cells}
@@ -21,6 +21,15 @@ unfoldable pub answerOf : Outcome → Answer
 answerOf (Refused k i) = record { ending = k; index = i; steps = 0; lines = 0 }
 answerOf (Finished s n) = record { ending = 0; index = 0; steps = s; lines = n }
 answerOf (Stopped k i s n) = record { ending = k; index = i; steps = s; lines = n }
+
+-- the outcome that says what the rules' outcome is
+unfoldable pub toldBy : Ending → Ended → Outcome
+toldBy finished e = Finished (e .last .steps) (length (e .last .memory .lines))
+toldBy (stopped k) e = Stopped (stopNumber k) (e .last .at) (e .last .steps) (length (e .last .memory .lines))
+
+unfoldable pub told : Rules.Outcome → Outcome
+told (Rules.rejected k i) = Refused k i
+told (Rules.ran e) = toldBy (e .ending) e
 
 -- what a caller lends: a node table, the variables' levels and values, a byte area for lines
 pub record Lent (T : Type 0) : Type 0 where
@@ -54,6 +63,7 @@ module _ {T : Type 0} (places : T → ℕ) (HoldsTree : T → ℕ → Forest →
 
   -- the answer is the rules', and so is all that stands in what was lent
   pub record Promises (b : List ℕ) (budget : ℕ) (x x′ : Lent T) (r : Outcome) : Type 0 where
+    pub outcome : r ≡ told (runJob b budget (lentBy places x))
     pub answered : answerOf r ≡ answer (runJob b budget (lentBy places x))
     pub leaves : Leaves (variableCount b) x x′ (runJob b budget (lentBy places x))
 

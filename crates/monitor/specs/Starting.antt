@@ -15,7 +15,7 @@ use Rattle.rules.specs.Check.{checkBytes}
 use Rattle.rules.specs.Job.{variableOf, script}
 use Rattle.rules.specs.Run.{Buffers, run}
 use Rattle.rules.specs.Outcome as Rules
-use Rattle.rules.specs.Outcome.{answer, begin}
+use Rattle.rules.specs.Outcome.{begin}
 use Rattle.job.specs.declared.sections.Layout.{Layout}
 use Rattle.job.specs.Layout.{layoutOf}
 use Rattle.monitor.specs.declared.control.Stepped.{Stepped}
@@ -24,7 +24,7 @@ use Rattle.monitor.specs.declared.entry.Outcome.the-variants.{Finished, 
 use Rattle.monitor.specs.Board.{capacity}
 use Rattle.monitor.specs.Shows.{Slices}
 use Rattle.monitor.specs.Stands.{ended}
-use Rattle.monitor.specs.Promises.{answerOf, Lent, lent, Tree, Ran}
+use Rattle.monitor.specs.Promises.{told, Lent, lent, Tree, Ran}
 
 -- the outcome of a run that has ended
 unfoldable pub outcomeOf : Stepped → Outcome
@@ -68,7 +68,7 @@ asLent x = lent (x .words) (x .levels) (x .values) (x .board)
 
 -- what is left of such a job's run
 pub record Left (b : List ℕ) (budget places : ℕ) (x x′ : Slices) (r : Outcome) : Type 0 where
-  pub answered : (given : Buffers) → given .places ≡ places → given .lines ≡ capacity (x .board)
-      → answerOf r ≡ answer (Rules.ran (run given (script b) budget (begin b)))
+  pub outcome : (given : Buffers) → given .places ≡ places → given .lines ≡ capacity (x .board)
+      → r ≡ told (Rules.ran (run given (script b) budget (begin b)))
   pub leaves : (given : Buffers) → given .places ≡ places → given .lines ≡ capacity (x .board)
       → Ran Tree (variableCount b) places (asLent x) (asLent x′) (run given (script b) budget (begin b))

@@ -17,7 +17,9 @@ use rules::limits::MAX_NODES;
 use rules::limits::MAX_RECORDS;
 use table::records;
 ghost use mathlib.Core.Path.{_≡_};
-ghost use Prim.Native.Nat.{min};
+ghost use Prim.Native.Nat.{_*_, _≤_, min};
+ghost use lib.ListN.{length};
+ghost use Rattle.rules.specs.Limits.{maxNodes};
 ghost use Rattle.rules.specs.Outcome.{budgetRule};
 ghost use Rattle.monitor.specs.Shows.{slices};
 ghost use Rattle.monitor.specs.Promises.{lent, placesIn, Tree, Promises};
@@ -142,17 +144,19 @@ fn run_accepted(
     ))
 }
 
-// The run over a job's bytes, with a budget and what the caller lends: a node table of eight words to a place, the variables' levels and values, and
-// an area for board lines of four bytes each.
-pub fn run_words(
+// The run over a job's bytes, with a budget and what the caller lends: a node table of some places, eight words to each, the variables' levels and
+// values, and an area for board lines of four bytes each. With more than 512 places, which is check 10, no more words are needed than for 512.
+pub fn run_places(
     job: &[u8],
     budget: u64,
+    places: usize,
     words: &mut [u32],
     levels: &mut [u8],
     values: &mut [i32],
     lines: &mut [u8],
 ) -> Outcome
-    ensures { λ r. ⌜ Promises placesIn Tree (now (job .entry)) budget
+    requires { ⌜ 8 * min places maxNodes ≤ length (now words) ⌝ }
+    ensures { λ r. ⌜ Promises (λ _. places) Tree (now (job .entry)) budget
         (lent (now (words .entry)) (now (levels .entry)) (now (values .entry)) (now (lines .entry)))
         (lent (now (words .exit)) (now (levels .exit)) (now (values .exit)) (now (lines .exit))) r ⌝ }
 {
@@ -167,7 +171,6 @@ pub fn run_words(
                     index: 0,
                 };
             }
-            let places = words.len() / 8;
             let room = smaller(levels.len(), values.len());
             if !buffers_ok(l.nodes, l.variables, places, room) {
                 return Outcome::Refused {
@@ -188,4 +191,21 @@ pub fn run_words(
             )
         }
     }
+}
+
+// The same with a table of words alone: it has as many places as there are eights of words.
+pub fn run_words(
+    job: &[u8],
+    budget: u64,
+    words: &mut [u32],
+    levels: &mut [u8],
+    values: &mut [i32],
+    lines: &mut [u8],
+) -> Outcome
+    ensures { λ r. ⌜ Promises placesIn Tree (now (job .entry)) budget
+        (lent (now (words .entry)) (now (levels .entry)) (now (values .entry)) (now (lines .entry)))
+        (lent (now (words .exit)) (now (levels .exit)) (now (values .exit)) (now (lines .exit))) r ⌝ }
+{
+    let places = words.len() / 8;
+    run_places(job, budget, places, words, levels, values, lines)
 }

@@ -11,4 +11,5 @@ mod step;
 mod variables;
 
 pub use entry::Outcome;
+pub use entry::run_places;
 pub use entry::run_words;

@@ -114,7 +114,7 @@ pub fn insert(
         };
     }
     let mark = f.target;
-    let new = shape::Node {
+    let new = shape::NewNode {
         value: numbers::bits(e.value),
         existence: c,
         content: join(flow(e.level, pc, m), secret_if(mark % 2 == 1)),

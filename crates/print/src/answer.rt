@@ -1,5 +1,8 @@
-// The answer of a run: the paper's four numbers, and the name of each ending.
+// The answer of a run: the paper's four numbers.
 use monitor::Outcome;
+ghost use mathlib.Core.Path.{_≡_};
+ghost use Rattle.monitor.specs.Promises.{answerOf};
+ghost use Rattle.print.specs.Answers.{Says, ran};
 
 // Ending (0 for finished), record index, steps and line count.
 pub struct Answer {
@@ -9,7 +12,9 @@ pub struct Answer {
     pub lines: usize,
 }
 
-pub fn of(o: Outcome) -> Answer {
+pub fn of(o: Outcome) -> Answer
+    ensures { λ r. ⌜ Says (r .ending) (r .index) (r .steps) (r .lines) (answerOf o) ⌝ }
+{
     match o {
         Outcome::Refused { number, index } => Answer {
             ending: number,
@@ -37,7 +42,18 @@ pub fn of(o: Outcome) -> Answer {
     }
 }
 
-// Whether the job was run: stops have the numbers from 21 on.
-pub fn was_run(a: Answer) -> bool {
-    (a.ending == 0) | (a.ending > 20)
+// Whether the job was run.
+pub fn was_run(o: Outcome) -> bool
+    ensures { λ r. ⌜ r ≡ ran o ⌝ }
+{
+    match o {
+        Outcome::Refused { number, index } => false,
+        Outcome::Finished { steps, lines } => true,
+        Outcome::Stopped {
+            number,
+            index,
+            steps,
+            lines,
+        } => true,
+    }
 }

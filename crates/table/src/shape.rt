@@ -13,7 +13,7 @@ use super::levels;
 use super::space;
 
 // What a new node shows: its value, as its 32 bits, and its three levels.
-pub struct Node {
+pub struct NewNode {
     pub value: u32,
     pub existence: u8,
     pub content: u8,
@@ -32,7 +32,7 @@ fn parent_on(words: &[u32], places: u32, at: u32, side: u32) -> u32
 }
 
 // Links the place y in front of what stands on a side of the node at `at`, under the parent u.
-fn attach(words: &mut [u32], places: u32, at: u32, side: u32, u: u32, y: u32, node: Node)
+fn attach(words: &mut [u32], places: u32, at: u32, side: u32, u: u32, y: u32, node: NewNode)
     requires { ⌜ Within (now words) places at × ((side < 2) × ((u < places) × (y < places))) ⌝ }
     ensures { λ _. ⌜ Attached side (labelWith (node .value) (node .existence) (node .content) (node .structure))
         (cells (now (words .entry))) (cells (now (words .exit))) at u y ⌝ }
@@ -65,7 +65,7 @@ pub fn add(
     free: u32,
     at: u32,
     side: u32,
-    node: Node,
+    node: NewNode,
 ) -> Taken
     requires { ⌜ Within (now words) places at × (side < 2) ⌝ }
     ensures { λ r. ⌜ ((t : Forest) (p : Place) → Holds (cells (now (words .entry))) places used free at t p

@@ -1,19 +1,41 @@
--- `run` meets its contract: the lengths are within the arrays. Assumes nothing.
-use mathlib.Core.Path.{sym}
-use lib.Seq.{length-take-le}
-use native.Mathlib.Omega.{arith}
 use borrow.Author.Needs.{needs}
 use Rattle.replay.proofs.show.run.Statement.{statement}
 use Rattle.replay.proofs.show.run.Tie as tie
+use Rattle.replay.proofs.show.run.Reads as reads
+use Rattle.replay.proofs.show.run.Lts as lts
+use Rattle.replay.proofs.show.run_lent.Reads as run-lent-reads
 
+-- src/show.rt:218:16
+mul-area : tie.Need-mul-area
+mul-area c = search needs
+
+-- src/show.rt:221:9
+cast-run-lent : tie.Need-cast-run-lent
+cast-run-lent c = search needs
+
+-- src/show.rt:225:9
+array-borrow-prefix-lines : tie.Need-array-borrow-prefix-lines
+array-borrow-prefix-lines c = search needs
+
+-- src/show.rt:225:9
 slice-aggregate-run-lent : tie.Need-slice-aggregate-run-lent
-slice-aggregate-run-lent c = sym (length-take-le _ _ (omega (arith, c .before .before .before .before .pre .0)))
+slice-aggregate-run-lent c = ?
 
-slice-aggregate-run-lent-2 : tie.Need-slice-aggregate-run-lent-2
-slice-aggregate-run-lent-2 c = sym (length-take-le _ _ (c .before .before .before .before .before .before .before .pre .1))
+-- src/show.rt:219:5
+run-lent-requires : tie.Need-run-lent-requires
+run-lent-requires c κs = search needs
+
+-- src/show.rt:210:1
+returns : tie.Need-returns
+returns c = search needs
 
 pub run-spec : {M : Type 1} → statement M
 run-spec =
-    tie.close (tie.spec
-    (λ c. search needs) (λ c. search needs) (λ c. search needs) slice-aggregate-run-lent (λ c. search needs) slice-aggregate-run-lent-2
-    (λ c κs. search needs) (λ c. search needs))
+    tie.close
+    (tie.spec
+    mul-area
+    cast-run-lent
+    array-borrow-prefix-lines
+    slice-aggregate-run-lent
+    run-lent-requires
+    returns)

@@ -1,0 +1,7 @@
+-- The laws of the run over lent node records; those that callers cite come first.
+pub mod Secret
+mod Runs
+mod Own
+mod Numbers
+mod Slots
+mod Big

@@ -1,0 +1,56 @@
+-- A lent table: a slice of node records, one to a place, each of which says what the cell of its place says. Assumes nothing.
+use mathlib.Core.List.{List}
+use Prim.Native.Nat.{ℕ, zero, suc, _+_, _*_}
+use lib.ListN.{getD, set}
+use lib.IntN.{pos}
+use Rattle.rules.specs.Number.{bits}
+use Rattle.table.specs.declared.lent.Node.{Node}
+use Rattle.table.specs.Cells.{Cell, Table, cells}
+
+-- the record of a cell, and the cell of a record
+abbrev pub nodeOf : Cell → Node
+nodeOf a =
+    record {
+      first = a .first;
+      right = a .right;
+      parent = a .parent;
+      children = a .children;
+      value = a .label .value;
+      existence = a .label .existence;
+      content = a .label .content;
+      structure = a .label .structure;
+    }
+
+abbrev pub cellOf : Node → Cell
+cellOf d =
+    record {
+      first = d .first;
+      right = d .right;
+      parent = d .parent;
+      children = d .children;
+      label = record { value = d .value; existence = d .existence; content = d .content; structure = d .structure };
+    }
+
+-- the record of no numbers
+abbrev pub blank : Node
+blank = record { first = 0; right = 0; parent = 0; children = 0; value = pos 0; existence = 0; content = 0; structure = 0 }
+
+-- the table that records spell
+unfoldable pub nodesTable : List Node → Table
+nodesTable ns x = cellOf (getD ns x blank)
+
+-- the first n records become those of the first n places of the words; the others stay
+abbrev pub stored : List ℕ → ℕ → List Node → List Node
+stored ws zero ns = ns
+stored ws (suc n) ns = set (stored ws n ns) n (nodeOf (cells ws n))
+
+-- words with those of place x those of a record; the place's two free words stay
+unfoldable pub putNode : List ℕ → ℕ → Node → List ℕ
+putNode ws x d =
+    set (set (set (set (set (set ws (8 * x) (d .first)) (8 * x + 1) (d .right)) (8 * x + 2) (d .parent))
+    (8 * x + 3) (d .existence + d .content * 256 + d .structure * 65536)) (8 * x + 4) (d .children)) (8 * x + 5) (bits (d .value))
+
+-- the first n places become those of the first n records; the others stay
+abbrev pub loaded : List Node → ℕ → List ℕ → List ℕ
+loaded ns zero ws = ws
+loaded ns (suc n) ws = putNode (loaded ns n ws) n (getD ns n blank)
