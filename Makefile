@@ -1,11 +1,17 @@
 # make test: the whole gate. make help: what else there is.
 .POSIX:
-.PHONY: help test check fmt
+.PHONY: help run test check fmt
 
 help:
+	@echo 'make run     build the board runner and show the board of an example job'
 	@echo 'make test    prove every crate, try every must-fail edit, run every other test'
 	@echo 'make check   prove every crate that changed, and run its programs'
 	@echo 'make fmt     lay out the sources'
+
+# The example is a portal's depth summary; its board is examples/expected/depths.out.
+run:
+	rt check board
+	tools/job assemble examples/depths.yoke -o - | target/bin/board
 
 test:
 	@bash tests/gate
