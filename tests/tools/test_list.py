@@ -111,6 +111,11 @@ class Lists(unittest.TestCase):
         self.assertEqual((done.status, done.output), (0, "tree\n  n0 = 1\nscript\n  up\n"))
         self.assertIn("3 bytes that nobody reads are not zero", done.error)
 
+    def test_a_source_is_no_job(self):
+        done = tool("list", str(HOME / "examples" / "first.yoke"))
+        self.assertEqual((done.status, done.output), (2, ""))
+        self.assertIn("this is a source and no job", done.error)
+
     def test_damaged_jobs(self):
         for data, number, index, message in DAMAGED:
             with self.subTest(message):

@@ -134,6 +134,14 @@ class Refused(unittest.TestCase):
         self.assertEqual(done.status, 1)
         self.assertTrue(done.output.startswith("<standard input>: refused with 3 (count out of range)\n"), done.output)
 
+    def test_an_empty_job(self):
+        with scratch() as folder:
+            path = Path(folder, "x.job")
+            path.write_bytes(b"")
+            done = tool("run", str(path), INSPECT=program("inspect"))
+        self.assertEqual(done.status, 1)
+        self.assertIn("refused with 1 (wrong size): the job has 0 bytes", done.output)
+
     def test_a_damaged_job(self):
         done = run(bytes(8))
         self.assertEqual(done.status, 1)
