@@ -164,17 +164,32 @@ class Programs(unittest.TestCase):
         self.assertEqual((done.status, done.output), (2, ""))
         self.assertIn("'ending' expected in line 1, there is 'hello'", done.error)
 
-    def test_another_monitor_is_not_explained(self):
-        """The reasons come from following the rules; they are shown only where the monitor came to the same end."""
+    def answered(self, text, answer):
+        """A run with a monitor that answers this, whatever the job."""
         with scratch() as folder:
             path = Path(folder, "inspect")
-            path.write_text("#!/bin/sh\ncat >/dev/null\nprintf 'ending 21 flow rule broken\\nrecord 0\\nsteps 0\\nlines 0\\n"
-                            "variables 0\\ntree 1\\n  value 1, existence 0, content 0, list 0\\n'\n")
+            path.write_text(f"#!/bin/sh\ncat >/dev/null\ncat <<'.'\n{answer}.\n")
             path.chmod(0o755)
-            done = run("tree\n  a = 1\nscript\n  print value\n", INSPECT=str(path))
+            return run(text, INSPECT=str(path))
+
+    def test_another_monitor_is_not_explained(self):
+        """The reasons come from following the rules; they are shown only where the monitor came to the same end."""
+        done = self.answered("tree\n  a = 1\nscript\n  print value\n",
+                             "ending 21 flow rule broken\nrecord 0\nsteps 0\nlines 0\n"
+                             "variables 0\ntree 1\n  value 1, existence 0, content 0, list 0\n")
         self.assertEqual(done.status, 1)
         self.assertIn("came to another end than the monitor", done.output)
         self.assertNotIn("The rule:", done.output)
+
+    def test_another_monitor_refuses(self):
+        done = self.answered("tree\n  a = 1\n", "ending 6 tree rule broken\nrecord 4\n")
+        self.assertEqual(done.status, 1)
+        self.assertIn("refused with 6 (tree rule broken)\n  at record 4\n", done.output)
+
+    def test_another_monitor_accepts(self):
+        done = self.answered("script\n  up\n", "ending 0 finished\nrecord 0\nsteps 0\nlines 0\nvariables 0\ntree 0\n")
+        self.assertEqual((done.status, done.output), (2, ""))
+        self.assertIn("this tool holds that it is refused with 3", done.error)
 
 
 class Followed(unittest.TestCase):
