@@ -54,9 +54,10 @@ def generated(kind, seed, count):
     return jobs
 
 
-def replayed(jobs, budget, places=512, lines=256):
-    """What replay says of each job, as lists of its lines."""
-    frames = b"".join(struct.pack("<IIHH", len(data), budget, places, lines) + data for data in jobs)
+def replayed(jobs, budget, places=None, lines=256):
+    """What replay says of each job, as lists of its lines; places are 512, or one number for each job."""
+    frames = b"".join(struct.pack("<IIHH", len(data), budget, room, lines) + data
+                      for data, room in zip(jobs, places or [512] * len(jobs)))
     text = subprocess.run([program("replay")], input=frames, stdout=subprocess.PIPE, check=True).stdout.decode()
     answers = [part.split("\n")[1:] for part in ("\n" + text).split("\njob ")[1:]]
     assert len(answers) == len(jobs), (len(answers), len(jobs))

@@ -197,10 +197,11 @@ class Followed(unittest.TestCase):
         """The rules as the tool follows them, beside the monitor."""
         budget = 1_500
         jobs = generated("clean", 70_000, 400)
+        places = [min(512, len(job.decode(data).nodes) + 2) for data in jobs]
         seen = set()
-        for data, answer in zip(jobs, replayed(jobs, budget, 512, 3)):
+        for data, room, answer in zip(jobs, places, replayed(jobs, budget, places, 3)):
             source = job.parse(job.listing(job.decode(data)), "test")
-            state = job.Run(source, budget, 512, 3).go()
+            state = job.Run(source, budget, room, 3).go()
             index = state.at if state.ending else 0
             rows = [f"ending {state.ending} index {index} steps {state.steps} lines {len(state.board)}"]
             rows += [f"line {line}" for line in state.board]
@@ -210,7 +211,7 @@ class Followed(unittest.TestCase):
             seen.add(state.ending)
             if state.ending:
                 self.assertTrue(job.account_lines(job.Account(state)))
-        self.assertLessEqual({0, 21, 22, 24, 25}, seen)
+        self.assertEqual(seen, {0, 21, 22, 23, 24, 25})
 
     def test_examples(self):
         for path in sorted((HOME / "examples").glob("*.yoke")):
