@@ -48,12 +48,11 @@ class Shown(unittest.TestCase):
             self.assertTrue(done.output.startswith(f"{folder}/{block('first.yoke:')}\n"), done.output)
 
     def test_c_program(self):
-        library = os.environ["PORTAL_LIBRARY"]
         with scratch() as folder:
             path, built = Path(folder, "program.c"), Path(folder, "program")
             path.write_text(block("#include <stdio.h>") + "\n", encoding="utf-8")
-            subprocess.run(["cc", "-std=c11", "-Wall", "-Wextra", "-Werror", "-Iinclude", str(path), library, "-o", str(built)],
-                           cwd=HOME, check=True)
+            subprocess.run(["cc", "-std=c11", "-Wall", "-Wextra", "-Werror", "-I", "include", str(path), "include/libportal.a",
+                            "-o", str(built)], cwd=HOME, check=True)
             for name, status in (("first", 0), ("trap-4-removal", 1)):
                 done = subprocess.run([str(built)], input=assembled(example(f"{name}.yoke")), stdout=subprocess.PIPE, check=False)
                 board = example(f"expected/{name}.out").split("\n")[1:-2]
