@@ -65,6 +65,14 @@ class Lists(unittest.TestCase):
         self.assertEqual({(name, int(number)) for name, number in found},
                          {("PORTAL_FINISHED", 0), *((page.c_name, page.number) for page in PAGES.values())})
 
+    def test_names_of_the_programs(self):
+        names = {0: "finished", **{page.number: page.name for page in PAGES.values()}}
+        found = re.findall(r'^\s*(\d+) => .*b"([^"]+)"', read("crates/inspect/src/names.rt"), re.M)
+        self.assertEqual({int(number): name for number, name in found}, names)
+        c_names = {"PORTAL_FINISHED": "finished", **{page.c_name: page.name for page in PAGES.values()}}
+        found = re.findall(r'case (PORTAL_\w+):\s*return "([^"]+)"', read("examples/portal.c"))
+        self.assertEqual(dict(found), c_names)
+
     def test_code(self):
         found = re.findall(r"^pub const (\w+): u8 = (\d+);$", read("crates/rules/src/limits.rt"), re.M)
         self.assertEqual({(name, int(number)) for name, number in found},
