@@ -10,8 +10,11 @@ help:
 
 # The example is a portal's depth summary; its board is examples/expected/depths.out.
 run:
-	rt check board
-	tools/job assemble examples/depths.yoke -o - | target/bin/board
+	@echo 'Proving and building the board runner; the first time this takes some minutes.'
+	@mkdir -p target
+	@rt check board > target/run.log 2>&1 || { cat target/run.log; exit 1; }
+	@echo 'The board of examples/depths.yoke:'
+	@tools/job assemble examples/depths.yoke -o - | target/bin/board
 
 test:
 	@bash tests/gate
