@@ -1,16 +1,17 @@
-//! What a set of cases has reached: commands carried out, endings, stops by
-//! command, and levels of nodes.
+//! What a set of cases has reached: commands carried out and the levels they
+//! ran at, expressions, endings, stops by command, reasons for a refusal, and
+//! levels of nodes.
 
 use std::collections::BTreeMap;
 use std::fmt;
 
 use crate::ending::Ending;
 use crate::generate::Case;
-use crate::job::{self, command, Record};
+use crate::job::{self, command, kind, operator, Record, Target, MAX_BLOCKS, READS};
 use crate::mistake::Mistake;
 use crate::run::{self, Outcome, State};
 use crate::tree::Tree;
-use crate::Level;
+use crate::{Level, HOUSE, PUBLIC};
 
 /// How often each thing came up, by its name.
 #[derive(Clone, Debug, Default, PartialEq, Eq)]
@@ -36,6 +37,9 @@ impl Coverage {
             &mut |state, record| self.add_step(state, record),
         );
         self.count(ending_name(outcome.ending));
+        if !outcome.ending.turned_back() {
+            self.add_nodes(case);
+        }
         for least in LONG_RUNS
             .into_iter()
             .filter(|&least| outcome.steps >= least)
@@ -64,6 +68,14 @@ impl Coverage {
 
     fn add_step(&mut self, state: &State, record: &Record) {
         self.count(command_name(record.command));
+        let context = state.guards.iter().copied().max().unwrap_or(PUBLIC);
+        self.count(levels_name(record.command, context, state.cursor_level));
+        if READS[record.command as usize].expression {
+            self.count(expression_name(record));
+        }
+        if state.guards.len() == MAX_BLOCKS {
+            self.count(String::from(DEEPEST));
+        }
         let new_node = match (record.command, state.cursor.split_last()) {
             (command::NEW_FIRST_CHILD, _) => &state.tree.at(&state.cursor).children[0],
             (command::NEW_RIGHT_SIBLING, Some((place, above))) => {
@@ -74,11 +86,23 @@ impl Coverage {
         self.count(insertion_name(record.command, levels(new_node)));
     }
 
+    /// The levels of the nodes that an accepted job brings.
+    fn add_nodes(&mut self, case: &Case) {
+        for node in job::split(&case.bytes).expect("check 2 passed").nodes {
+            self.count(node_name([node.existence, node.content, node.list]));
+        }
+    }
+
     /// Where a stop or a refusal came from.
     fn add_place(&mut self, case: &Case, outcome: &Outcome) {
         let at = |script: &[Record]| script.get(outcome.index).map(|record| record.command);
         match outcome.ending {
             Ending::Finished => {}
+            Ending::Field => {
+                let parts = job::split(&case.bytes).expect("check 2 passed");
+                let record = &parts.script[outcome.index];
+                self.count(field_name(faulty_field(record, parts.variables.len())));
+            }
             Ending::Block => {
                 let script = job::split(&case.bytes).expect("check 2 passed").script;
                 self.count(block_name(at(&script)));
@@ -104,6 +128,60 @@ impl fmt::Display for Coverage {
 
 fn levels(node: &Tree) -> [Level; 3] {
     [node.existence, node.content, node.list]
+}
+
+/// Sixteen blocks open at once, in a run.
+const DEEPEST: &str = "run with 16 open blocks";
+
+/// The fields that check 7 looks at.
+const FIELDS: [&str; 8] = [
+    "command",
+    "variable as target",
+    "mark",
+    "operator",
+    "left kind",
+    "left variable",
+    "right kind",
+    "right variable",
+];
+
+/// The first of them that is out of range in a record that check 7 turned back.
+fn faulty_field(record: &Record, variables: usize) -> &'static str {
+    let Some(reads) = READS.get(record.command as usize) else {
+        return FIELDS[0];
+    };
+    let kind_fault = |kind: u8| kind > kind::CHILDREN;
+    match reads.target {
+        Target::Variable if record.target as usize >= variables => FIELDS[1],
+        Target::Mark if record.target > 3 => FIELDS[2],
+        _ if record.operator > operator::MEAN => FIELDS[3],
+        _ if kind_fault(record.left_kind) => FIELDS[4],
+        _ if record.left_kind == kind::VARIABLE && record.left as usize >= variables => FIELDS[5],
+        _ if kind_fault(record.right_kind) => FIELDS[6],
+        _ => FIELDS[7],
+    }
+}
+
+fn field_name(field: &str) -> String {
+    format!("refusal 07 for the {field}")
+}
+
+fn node_name(levels: [Level; 3]) -> String {
+    let [existence, content, list] = levels;
+    format!("job with a node of levels {existence} {content} {list}")
+}
+
+/// The context and the cursor level that a command leaves.
+fn levels_name(command: u8, context: Level, cursor: Level) -> String {
+    format!("command {command:02}, then context {context} and cursor level {cursor}")
+}
+
+fn expression_name(record: &Record) -> String {
+    let (operator, left, right) = (record.operator, record.left_kind, record.right_kind);
+    match operator {
+        operator::LEFT => format!("operator 0 of kind {left}"),
+        _ => format!("operator {operator} of kinds {left} and {right}"),
+    }
 }
 
 fn command_name(command: u8) -> String {
@@ -134,9 +212,10 @@ fn block_name(command: Option<u8>) -> String {
     }
 }
 
-/// Everything that a generator must reach: all commands, all endings but 26,
-/// every stop at every command that can give it, every reason for 8, long runs,
-/// and new nodes of all five combinations of levels.
+/// Everything that a generator must reach: all commands at all levels that they
+/// can leave, all operators with all kinds, all endings but 26, every stop at
+/// every command that can give it, every reason for 7 and 8, long runs, sixteen
+/// open blocks, and nodes of all five combinations of levels.
 pub fn wanted() -> Vec<String> {
     let mut names = Vec::new();
     names.extend((0..command::COUNT as u8).map(command_name));
@@ -161,9 +240,56 @@ pub fn wanted() -> Vec<String> {
         None,
     ];
     names.extend(reasons.into_iter().map(block_name));
+    names.extend(FIELDS.map(field_name));
+    names.push(String::from(DEEPEST));
+    names.extend(wanted_levels());
+    names.extend(wanted_expressions());
     for levels in [[0, 0, 0], [0, 0, 1], [0, 1, 0], [0, 1, 1], [1, 1, 1]] {
+        names.push(node_name(levels));
         names.push(insertion_name(command::NEW_FIRST_CHILD, levels));
         names.push(insertion_name(command::NEW_RIGHT_SIBLING, levels));
     }
+    names
+}
+
+/// A line needs public levels, a move a context not above the cursor level;
+/// root leaves the context as cursor level, and cover leaves 1.
+fn wanted_levels() -> Vec<String> {
+    let can_leave = |command: u8, context: Level, cursor: Level| match command {
+        command::PRINT => context == PUBLIC && cursor == PUBLIC,
+        command::ROOT => context == cursor,
+        command::COVER => cursor == HOUSE,
+        command::UP | command::FIRST_CHILD | command::RIGHT_SIBLING => context <= cursor,
+        _ => true,
+    };
+    let mut names = Vec::new();
+    for command in 0..command::COUNT as u8 {
+        for (context, cursor) in [(0, 0), (0, 1), (1, 0), (1, 1)] {
+            if can_leave(command, context, cursor) {
+                names.push(levels_name(command, context, cursor));
+            }
+        }
+    }
+    names
+}
+
+fn wanted_expressions() -> Vec<String> {
+    let kinds = kind::CONSTANT..=kind::CHILDREN;
+    let operators = operator::LEFT..=operator::MEAN;
+    let mut names = Vec::new();
+    for operator in operators {
+        for left_kind in kinds.clone() {
+            for right_kind in kinds.clone() {
+                names.push(expression_name(&Record {
+                    operator,
+                    left_kind,
+                    right_kind,
+                    ..Record::default()
+                }));
+            }
+        }
+    }
+    names.sort();
+    names.dedup();
     names
 }

@@ -584,3 +584,36 @@ fn combine(operator: u8, left: i32, right: i32, mistake: Mistake) -> i32 {
         (other, _) => unreachable!("operator {other} does not pass check 7"),
     }
 }
+
+#[cfg(test)]
+mod tests {
+    use super::*;
+    use crate::source::{new_first_child, new_right_sibling, node, root_node};
+
+    /// 26: "none found so far". No accepted job is known to reach it, so the
+    /// state is made by hand: a cursor of level 0 on a node of existence 1.
+    #[test]
+    fn ending_26_context_below_the_node() {
+        let below = [1, 1, 1];
+        let nodes = [root_node([0, 0, 1], 0), node(0, below, 0)];
+        for record in [new_first_child(0, 1), new_right_sibling(0, 1)] {
+            for places in [2, 3] {
+                let job = Job {
+                    nodes: nodes.to_vec(),
+                    script: vec![record],
+                    ..Job::default()
+                };
+                let limits = Limits {
+                    places,
+                    ..Limits::ample(10)
+                };
+                let mut monitor = Monitor::new(&job, &limits, Mistake::None);
+                monitor.state.cursor = vec![0];
+                let outcome = monitor.run(&mut |_, _| {});
+                // Before 23, which two places would give.
+                let answer = (outcome.ending.number(), outcome.index, outcome.steps);
+                assert_eq!(answer, (26, 0, 0));
+            }
+        }
+    }
+}

@@ -10,9 +10,10 @@ use lib.Seq.{length-take-le, take-at, drop-at, getD-append-add, sets-eq}
 use lib.IntN.{ℤ, pos}
 use Rattle.rules.specs.Number.{range, bits, signed, wrap}
 use Rattle.rules.specs.Bytes.{full}
-use Rattle.rules.proofs.Number.{bits-below}
+use Rattle.rules.proofs.Number.{bits-below, signed-bits}
 use Rattle.monitor.specs.Board.{fourBytes, spell, written, replaced}
 use Rattle.monitor.specs.Shows.{Lines}
+use Rattle.monitor.specs.Acts.{Fits}
 
 -- ---- four bytes
 
@@ -75,7 +76,7 @@ spell-one z = append-nil (fourBytes (bits z))
 pub spell-prefix : (ls ks : List ℤ) → IsPrefix ls ks → IsPrefix (spell ls) (spell ks)
 spell-prefix ls ks p = (spell (p .0), sym (spell-append ls (p .0)) ∙ ap spell (p .1))
 
--- line i, read from the bytes, is the line that was put out
+-- line i, read from the bytes as the rules read a number, has the bits of the line that was put out
 pub line-read : (ls : List ℤ) (rest : List ℕ) (i : ℕ) → i < length ls → signed (full (spell ls ++ rest) (4 * i)) ≡ wrap (getD ls i (pos 0))
 unfolding spell wrap
 line-read [] rest i h = absurd (omega arith)
@@ -83,6 +84,11 @@ line-read (z ∷ zs) rest zero h = ap signed (ap (λ (r : List ℕ). full r 0) (
 line-read (z ∷ zs) rest (suc i) h =
     let e : 4 * suc i ≡ 4 + 4 * i = omega arith in
     rw (e, append-assoc (fourBytes (bits z)) (spell zs) rest, four-on (bits z) (spell zs ++ rest) (4 * i)) (line-read zs rest i (omega arith))
+
+-- and is that line, where it is a 32-bit number
+pub line-exact : (ls : List ℤ) (rest : List ℕ) (i : ℕ) → i < length ls → Fits (getD ls i (pos 0)) → signed (full (spell ls ++ rest) (4 * i)) ≡ getD ls i (pos 0)
+unfolding wrap
+line-exact ls rest i h f = line-read ls rest i h ∙ signed-bits (record { sfits = f })
 
 -- ---- an area with lines
 

@@ -308,6 +308,16 @@ pub from-seven : (k : ℕ) → (k ≡ 0 → ⊥) → (k ≡ 1 → ⊥) → (k �
 from-seven k a b c d e f g =
     above 6 k (above 5 k (above 4 k (above 3 k (above 2 k (above 1 k (above 0 k (omega arith) a) b) c) d) e) f) g
 
+-- 11 and 12 have an expression
+pub insert-row : (k : ℕ) → 11 ≤ k → k < 13 → rowOf k .expression ≡ true
+unfolding rows
+insert-row k l m = pick (k - 11) refl
+  where
+    pick : (d : ℕ) → k - 11 ≡ d → rowOf k .expression ≡ true
+    pick zero e = ap (λ (n : ℕ). rowOf n .expression) {x = k} {y = 11} (omega arith)
+    pick (suc zero) e = ap (λ (n : ℕ). rowOf n .expression) {x = k} {y = 12} (omega arith)
+    pick (suc (suc d)) e = absurd (omega arith)
+
 -- what the arms ask
 module _ (h : Held) (sc : Script h) (x : Slices) (r : Running) (sf : Safe h x r) (inside : r .at < h .records) where
   pub readable : Readable (x .words) (x .levels) (x .values) (h .places) (h .vars) (r .memory)
@@ -324,19 +334,9 @@ module _ (h : Held) (sc : Script h) (x : Slices) (r : Running) (sf : Safe h x r)
     unfolding fieldsOf
     command-is = sym (ap (λ (g : Fields). g .command) got)
 
-    pub reads-by : (k : ℕ) → f .command ≡ k → (rowOf k) .expression ≡ true → Reads (h .vars) f
-    reads-by k key e =
-        subst (Reads (h .vars)) (sym got)
-        (reads h sc (r .at) inside (ap (λ (n : ℕ). (rowOf n) .expression) (command-is ∙ key) ∙ e))
-
-    pub reads-insert : 11 ≤ f .command → f .command < 13 → Reads (h .vars) f
-    unfolding rows
-    reads-insert l m = pick (f .command - 11) refl
-      where
-        pick : (d : ℕ) → f .command - 11 ≡ d → Reads (h .vars) f
-        pick zero e = reads-by 11 (omega arith) refl
-        pick (suc zero) e = reads-by 12 (omega arith) refl
-        pick (suc (suc d)) e = absurd (omega arith)
+    -- the variables that its expression names, if it has one
+    pub reads-of : rowOf (f .command) .expression ≡ true → Reads (h .vars) f
+    reads-of e = subst (Reads (h .vars)) (sym got) (reads h sc (r .at) inside (ap (λ (n : ℕ). rowOf n .expression) command-is ∙ e))
 
     pub target-by : f .command ≡ 1 → f .target < h .vars
     unfolding rows fieldsOf

@@ -1,27 +1,25 @@
 -- Demand 3 of the public run, from its promise alone and from demand 3 of the rules' run. Assumes nothing.
-use mathlib.Core.Path.{_≡_, refl, sym, _∙_, ap, ap₂, subst}
+use mathlib.Core.Path.{_≡_, refl, sym, _∙_, ap, subst}
 use mathlib.Core.Logic.{⊎-map}
-use mathlib.Core.List.{List, IsPrefix, map}
+use mathlib.Core.List.{List}
 use Prim.Native.Nat.{ℕ, _*_, _<_}
 use lib.ListN.{length, getD, take, List·getD-map, length-map}
-use lib.IntN.{ℤ, pos}
 use Rattle.rules.specs.Level.{Level}
 use Rattle.rules.specs.Tree.{Forest, Place}
 use Rattle.rules.specs.Bytes.{variableCount}
 use Rattle.rules.specs.Check.{accepted}
 use Rattle.rules.specs.Job.{Variable, variables, script}
-use Rattle.rules.specs.Run.{Buffers, Ending, finished, stopped, Ended, run, variableAt, noVariable}
+use Rattle.rules.specs.Run.{Ending, finished, stopped, Ended, run, variableAt, noVariable}
 use Rattle.rules.specs.Outcome as Rules
 use Rattle.rules.specs.Outcome.{answer, checkJob, runJob, endingNumber, begin}
-use Rattle.rules.specs.Public.{seenVariable, AgreeVariables, AgreeTrees, Alike, Secret, Indistinguishable, Noninterference}
+use Rattle.rules.specs.Public.{seenVariable, AgreeVariables, Alike, Secret, Indistinguishable, Noninterference}
 use Rattle.rules.proofs.Decode.{listed-length}
 use Rattle.rules.proofs.Noninterference.{runs, noninterference}
-use Rattle.table.specs.Cells.{cells}
 use Rattle.table.proofs.Unique.{one-tree}
 use Rattle.monitor.specs.declared.entry.Outcome.{Outcome}
 use Rattle.monitor.specs.Board.{spell}
 use Rattle.monitor.specs.Promises.{answerOf, Lent, lentBy, placesIn, Tree, Ran, Leaves, Promises}
-use Rattle.monitor.specs.Secrecy.{boardOf, variableIn, SameLeft, Unseen, SecretCalls}
+use Rattle.monitor.specs.Secrecy.{boardOf, variableIn, Unseen, SecretCalls}
 use Rattle.monitor.proofs.Board.{spell-prefix, written-lines}
 use Rattle.monitor.proofs.Stepping.{stop-number}
 

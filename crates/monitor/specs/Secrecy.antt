@@ -4,7 +4,7 @@ use mathlib.Core.Logic.{_⊎_}
 use mathlib.Core.List.{List, IsPrefix}
 use Prim.Native.Nat.{ℕ, _*_, _<_}
 use lib.ListN.{getD, take}
-use lib.IntN.{ℤ, pos}
+use lib.IntN.{pos}
 use Rattle.rules.specs.Level.{Level}
 use Rattle.rules.specs.Tree.{Forest, Place}
 use Rattle.rules.specs.Bytes.{variableCount}

@@ -12,7 +12,7 @@ use Rattle.rules.specs.Blocks.{goesTo}
 use Rattle.rules.specs.Script.{numberAt}
 use Rattle.rules.specs.Check as Check
 use Rattle.rules.specs.Check.{checkBytes}
-use Rattle.rules.specs.Job.{Variable, variableOf, script}
+use Rattle.rules.specs.Job.{variableOf, script}
 use Rattle.rules.specs.Run.{Buffers, run}
 use Rattle.rules.specs.Outcome as Rules
 use Rattle.rules.specs.Outcome.{begin}

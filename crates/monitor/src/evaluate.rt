@@ -5,9 +5,11 @@ use rules::levels::PUBLIC;
 use rules::levels::join;
 use rules::numbers;
 use table::node;
+ghost use mathlib.Core.Bool.{true};
 ghost use mathlib.Core.Path.{_≡_};
 ghost use Prim.Native.Nat.{_<_};
 ghost use Rattle.rules.specs.Job.{operand};
+ghost use Rattle.rules.specs.Script.{rowOf};
 ghost use Rattle.job.specs.Fields.{expressionFrom};
 ghost use Rattle.monitor.specs.Shows.{Readable, Reads};
 ghost use Rattle.monitor.specs.Acts.{Operates, Applies, Evaluates};
@@ -75,7 +77,7 @@ fn apply(operator: u8, a: i32, b: i32) -> i32
 }
 
 // The expression of a record.
-pub fn evaluate(
+fn evaluate(
     f: Fields,
     levels: &[u8],
     values: &[i32],
@@ -96,5 +98,42 @@ pub fn evaluate(
     Valued {
         value: apply(operator, left.value, right.value),
         level: join(left.level, right.level),
+    }
+}
+
+// Whether a command reads an expression: as its row says, but with no table to look it up in at each step.
+fn reads_expression(command: u8) -> bool
+    ensures { λ r. ⌜ r ≡ rowOf command .expression ⌝ }
+{
+    (command == 1)
+        | (command == 2)
+        | (command == 4)
+        | (command == 6)
+        | (command == 11)
+        | (command == 12)
+        | (command == 15)
+}
+
+// The value and the level of a record's expression, if its command reads one.
+pub fn expression(
+    command: u8,
+    f: Fields,
+    levels: &[u8],
+    values: &[i32],
+    vars: usize,
+    words: &[u32],
+    places: u32,
+    m: Memory,
+) -> Valued
+    requires { ⌜ Readable (now words) (now levels) (now values) places vars m × (rowOf command .expression ≡ true → Reads vars f) ⌝ }
+    ensures { λ r. ⌜ (rowOf command .expression ≡ true
+        → Evaluates (now (words .entry)) (now (levels .entry)) (now (values .entry)) places vars m (expressionFrom f) r) ⌝ }
+{
+    if reads_expression(command) {
+        return evaluate(f, levels, values, vars, words, places, m);
+    }
+    Valued {
+        value: 0,
+        level: PUBLIC,
     }
 }

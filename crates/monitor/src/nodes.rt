@@ -1,10 +1,9 @@
 // The actions on nodes: commands 11 to 15.
-use super::evaluate::evaluate;
+use super::evaluate::Valued;
 use super::memory::Effect;
 use super::memory::Memory;
 use super::memory::flow;
 use super::memory::position;
-use job::records::Fields;
 use rules::levels::join;
 use rules::levels::not_above;
 use rules::limits::ABSENT;
@@ -24,10 +23,10 @@ ghost use Rattle.rules.specs.Limits.{maxNodes};
 ghost use Rattle.rules.specs.Tree.{to, up};
 ghost use Rattle.rules.specs.Run as Run;
 ghost use Rattle.rules.specs.Run.{secretIf};
-ghost use Rattle.job.specs.Fields.{expressionFrom};
+ghost use Rattle.rules.specs.Script.{Expression};
 ghost use Rattle.table.specs.Cells.{Within, sideOf};
-ghost use Rattle.monitor.specs.Shows.{Readable, Reads, slices};
-ghost use Rattle.monitor.specs.Acts.{Acts, ParentOn, MayTouch, MayAdd};
+ghost use Rattle.monitor.specs.Shows.{slices};
+ghost use Rattle.monitor.specs.Acts.{Acts, Evaluates, ParentOn, MayTouch, MayAdd};
 
 // The place of the parent that a node on a side of the cursor's has, or no place.
 fn parent_on(words: &[u32], places: u32, m: Memory, side: u32) -> u32
@@ -79,24 +78,21 @@ fn secret_if(t: bool) -> u8
     }
 }
 
-// Commands 11 and 12, by the side: a new node in front of what stands there.
+// Commands 11 and 12, by the side: a new node in front of what stands there, with the expression whose value and level are e.
 pub fn insert(
     side: u32,
-    f: Fields,
-    levels: &[u8],
-    values: &[i32],
-    vars: usize,
+    mark: u8,
+    e: Valued,
     words: &mut [u32],
     places: u32,
     pc: u8,
     m: Memory,
 ) -> Effect
-    requires { ⌜ Readable (now words) (now levels) (now values) places vars m × (Reads vars f × (side < 2)) ⌝ }
-    ensures { λ r. ⌜ ((b : List ℕ) → Acts places vars (slices (now (words .entry)) (now (levels .entry)) (now (values .entry)) b)
-        (slices (now (words .exit)) (now (levels .entry)) (now (values .entry)) b) m r
-        (λ μ. Run.insertAt pc μ places (to (sideOf side) (μ .cursor)) (up (to (sideOf side) (μ .cursor))) (f .target) (expressionFrom f))) ⌝ }
+    requires { ⌜ Within (now words) places (m .cursor) × (side < 2) ⌝ }
+    ensures { λ r. ⌜ ((l b : List ℕ) (v : List ℤ) (vars : ℕ) (x : Expression) → Evaluates (now (words .entry)) l v places vars m x e
+        → Acts places vars (slices (now (words .entry)) l v b) (slices (now (words .exit)) l v b) m r
+        (λ μ. Run.insertAt pc μ places (to (sideOf side) (μ .cursor)) (up (to (sideOf side) (μ .cursor))) mark x)) ⌝ }
 {
-    let e = evaluate(f, levels, values, vars, words, places, m);
     let above = parent_on(words, places, m, side);
     if above >= places {
         return Effect {
@@ -113,7 +109,6 @@ pub fn insert(
             memory: m,
         };
     }
-    let mark = f.target;
     let new = shape::NewNode {
         value: numbers::bits(e.value),
         existence: c,
@@ -163,22 +158,12 @@ pub fn remove(side: u32, words: &mut [u32], places: u32, pc: u8, m: Memory) -> E
     }
 }
 
-// Command 15: the value of the cursor's node.
-pub fn write(
-    f: Fields,
-    levels: &[u8],
-    values: &[i32],
-    vars: usize,
-    words: &mut [u32],
-    places: u32,
-    pc: u8,
-    m: Memory,
-) -> Effect
-    requires { ⌜ Readable (now words) (now levels) (now values) places vars m × Reads vars f ⌝ }
-    ensures { λ r. ⌜ ((b : List ℕ) → Acts places vars (slices (now (words .entry)) (now (levels .entry)) (now (values .entry)) b)
-        (slices (now (words .exit)) (now (levels .entry)) (now (values .entry)) b) m r (λ μ. Run.write pc μ (expressionFrom f))) ⌝ }
+// Command 15: the value of the cursor's node becomes the expression, whose value and level are e.
+pub fn write(e: Valued, words: &mut [u32], places: u32, pc: u8, m: Memory) -> Effect
+    requires { ⌜ Within (now words) places (m .cursor) ⌝ }
+    ensures { λ r. ⌜ ((l b : List ℕ) (v : List ℤ) (vars : ℕ) (x : Expression) → Evaluates (now (words .entry)) l v places vars m x e
+        → Acts places vars (slices (now (words .entry)) l v b) (slices (now (words .exit)) l v b) m r (λ μ. Run.write pc μ x)) ⌝ }
 {
-    let e = evaluate(f, levels, values, vars, words, places, m);
     if !not_above(flow(e.level, pc, m), node::content(words, places, m.cursor)) {
         return Effect {
             stop: FLOW,

@@ -6,7 +6,7 @@ use super::control::enter_while;
 use super::control::jump;
 use super::control::leave;
 use super::control::onward;
-use super::evaluate::evaluate;
+use super::evaluate::expression;
 use super::guards;
 use super::memory::Effect;
 use super::moves;
@@ -65,48 +65,25 @@ pub fn carry_out(
     let pc = guards::top(r.guards);
     let record = fields_at(job, f.script, at);
     let command = record.command;
+    let e = expression(command, record, levels, values, vars, words, places, m);
     match command {
         0 => onward(r, Effect { stop: 0, memory: m }),
         1 => onward(
             r,
-            variables::assign(record, levels, values, vars, words, places, pc, m),
+            variables::assign(record.target, e, levels, values, pc, m),
         ),
-        2 => enter_if(
-            r,
-            evaluate(record, levels, values, vars, words, places, m),
-            index(jumps[at]),
-        ),
+        2 => enter_if(r, e, index(jumps[at])),
         3 => jump(r, index(jumps[at])),
-        4 => enter_while(
-            r,
-            evaluate(record, levels, values, vars, words, places, m),
-            index(jumps[at]),
-        ),
+        4 => enter_while(r, e, index(jumps[at])),
         5 => leave(r, index(jumps[at])),
-        6 => onward(
-            r,
-            variables::output(record, levels, values, vars, words, places, lines, pc, m),
-        ),
+        6 => onward(r, variables::output(e, lines, pc, m)),
         7..=10 => onward(r, moves::go(command, words, places, pc, m)),
         11..=12 => onward(
             r,
-            nodes::insert(
-                side(command, 11),
-                record,
-                levels,
-                values,
-                vars,
-                words,
-                places,
-                pc,
-                m,
-            ),
+            nodes::insert(side(command, 11), record.target, e, words, places, pc, m),
         ),
         13..=14 => onward(r, nodes::remove(side(command, 13), words, places, pc, m)),
-        15 => onward(
-            r,
-            nodes::write(record, levels, values, vars, words, places, pc, m),
-        ),
+        15 => onward(r, nodes::write(e, words, places, pc, m)),
         16 => onward(r, moves::raise(places, pc, m)),
         _ => onward(r, Effect { stop: 0, memory: m }),
     }

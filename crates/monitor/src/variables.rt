@@ -1,9 +1,8 @@
 // The actions on variables and the board: commands 1 and 6.
-use super::evaluate::evaluate;
+use super::evaluate::Valued;
 use super::memory::Effect;
 use super::memory::Memory;
 use super::memory::flow;
-use job::records::Fields;
 use rules::levels::PUBLIC;
 use rules::levels::not_above;
 use rules::limits::BOARD_FULL;
@@ -15,10 +14,10 @@ ghost use Prim.Native.Nat.{ℕ, _+_, _*_, _%_, _<_, _≤_};
 ghost use lib.IntN.{ℤ};
 ghost use lib.ListN.{length};
 ghost use Rattle.rules.specs.Run as Run;
-ghost use Rattle.job.specs.Fields.{expressionFrom};
+ghost use Rattle.rules.specs.Script.{Expression};
 ghost use Rattle.monitor.specs.Board.{capacity, replaced};
-ghost use Rattle.monitor.specs.Shows.{Readable, Reads, slices};
-ghost use Rattle.monitor.specs.Acts.{Acts};
+ghost use Rattle.monitor.specs.Shows.{slices};
+ghost use Rattle.monitor.specs.Acts.{Acts, Evaluates};
 
 fn index(x: u8) -> usize
     ensures { λ r. ⌜ r ≡ x ⌝ }
@@ -26,24 +25,15 @@ fn index(x: u8) -> usize
     x as usize
 }
 
-// Command 1: the target becomes the expression.
-pub fn assign(
-    f: Fields,
-    levels: &[u8],
-    values: &mut [i32],
-    vars: usize,
-    words: &[u32],
-    places: u32,
-    pc: u8,
-    m: Memory,
-) -> Effect
-    requires { ⌜ Readable (now words) (now levels) (now values) places vars m × (Reads vars f × (f .target < vars)) ⌝ }
-    ensures { λ r. ⌜ ((b : List ℕ) → Acts places vars (slices (now (words .entry)) (now (levels .entry)) (now (values .entry)) b)
-        (slices (now (words .entry)) (now (levels .entry)) (now (values .exit)) b) m r
-        (λ μ. Run.assign pc μ (f .target) (Run.variableAt (μ .variables) (f .target)) (expressionFrom f))) ⌝ }
+// Command 1: the target becomes the expression, whose value and level are e.
+pub fn assign(target: u8, e: Valued, levels: &[u8], values: &mut [i32], pc: u8, m: Memory) -> Effect
+    requires { ⌜ (target < length (now levels)) × (target < length (now values)) ⌝ }
+    ensures { λ r. ⌜ ((w b : List ℕ) (places vars : ℕ) (x : Expression) → m .cursor < places → target < vars → vars ≤ length (now (values .entry))
+        → Evaluates w (now (levels .entry)) (now (values .entry)) places vars m x e
+        → Acts places vars (slices w (now (levels .entry)) (now (values .entry)) b) (slices w (now (levels .entry)) (now (values .exit)) b) m r
+        (λ μ. Run.assign pc μ target (Run.variableAt (μ .variables) target) x)) ⌝ }
 {
-    let e = evaluate(f, levels, values, vars, words, places, m);
-    let i = index(f.target);
+    let i = index(target);
     if !not_above(flow(e.level, pc, m), levels[i]) {
         return Effect {
             stop: FLOW,
@@ -74,24 +64,13 @@ fn put_line(lines: &mut [u8], n: usize, v: i32)
     lines[at + 3] = low_byte(w / 16777216);
 }
 
-// Command 6: a board line.
-pub fn output(
-    f: Fields,
-    levels: &[u8],
-    values: &[i32],
-    vars: usize,
-    words: &[u32],
-    places: u32,
-    lines: &mut [u8],
-    pc: u8,
-    m: Memory,
-) -> Effect
-    requires { ⌜ Readable (now words) (now levels) (now values) places vars m × (Reads vars f × (4 * m .lines ≤ length (now lines))) ⌝ }
-    ensures { λ r. ⌜ Acts places vars (slices (now (words .entry)) (now (levels .entry)) (now (values .entry)) (now (lines .entry)))
-        (slices (now (words .entry)) (now (levels .entry)) (now (values .entry)) (now (lines .exit))) m r
-        (λ μ. Run.output pc μ (capacity (now (lines .entry))) (expressionFrom f)) ⌝ }
+// Command 6: a board line, the expression whose value and level are e.
+pub fn output(e: Valued, lines: &mut [u8], pc: u8, m: Memory) -> Effect
+    requires { ⌜ 4 * m .lines ≤ length (now lines) ⌝ }
+    ensures { λ r. ⌜ ((w l : List ℕ) (v : List ℤ) (places vars : ℕ) (x : Expression) → m .cursor < places → Evaluates w l v places vars m x e
+        → Acts places vars (slices w l v (now (lines .entry))) (slices w l v (now (lines .exit))) m r
+        (λ μ. Run.output pc μ (capacity (now (lines .entry))) x)) ⌝ }
 {
-    let e = evaluate(f, levels, values, vars, words, places, m);
     if !not_above(flow(e.level, pc, m), PUBLIC) {
         return Effect {
             stop: FLOW,

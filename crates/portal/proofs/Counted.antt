@@ -1,22 +1,22 @@
 -- A run has no more lines than steps, so no more than its budget: a step adds one at most. By induction on the budget. Assumes nothing.
-use mathlib.Core.Path.{_≡_, refl, sym, ap, subst}
-use mathlib.Core.Bool.{Bool, true, false, cond}
+use mathlib.Core.Path.{_≡_, refl}
+use mathlib.Core.Bool.{Bool, true, false}
 use mathlib.Core.Option.{Option, none, some}
-use mathlib.Core.List.{List, [], _∷_, _++_}
+use mathlib.Core.List.{List, [], _∷_}
 use Prim.Native.Nat.{ℕ, zero, suc, _+_, _≤_}
 use native.Mathlib.Omega.{arith}
 use lib.ListN.{length, length-append}
 use lib.Dec.{leb}
 use borrow.Author.Tests.{leb-true}
-use Rattle.rules.specs.Limits.{maxBudget, badBudget, badBuffers}
+use Rattle.rules.specs.Limits.{maxBudget, badBudget}
 use Rattle.rules.specs.Level.{Level}
 use Rattle.rules.specs.Tree.{Place}
 use Rattle.rules.specs.Script.{Expression, Action, Command, act, fetch}
 use Rattle.rules.specs.Check as Check
 use Rattle.rules.specs.Check.{Checked, checkBytes, require}
 use Rattle.rules.specs.Job.{script}
-use Rattle.rules.specs.Run.{Memory, State, Buffers, value, withVariables, withTree, withCursor, withLine, assign, output, moveTo, goTo, insertAt, removeAt, write, effect, stepped, onward, enterIf, enterWhile, carried, step, start, run}
-use Rattle.rules.specs.Outcome.{Outcome, rejected, ran, answer, andThen, checkJob, budgetRule, bufferRule, begin, runJob}
+use Rattle.rules.specs.Run.{Memory, State, Buffers, value, withVariables, withTree, withCursor, withLine, assign, output, moveTo, goTo, insertAt, removeAt, write, effect, stepped, enterIf, enterWhile, carried, step, start, run}
+use Rattle.rules.specs.Outcome.{rejected, answer, andThen, checkJob, budgetRule, begin, runJob}
 use Rattle.rules.proofs.Tests.{Test, holds, fails, test, both}
 use Rattle.rules.proofs.Results.{Good, good-need, good-onward, good-next}
 use Rattle.rules.proofs.Runs.{more, run-spent, run-over, Turn, stops, goes, turn}

@@ -1,7 +1,7 @@
 -- What the run over words leaves, with the portal's own buffers, is what the portal hands back: by the outcome of the rules' run. Assumes nothing.
-use mathlib.Core.Path.{_≡_, refl, sym, _∙_, ap, ap₂, subst}
+use mathlib.Core.Path.{_≡_, _∙_, ap, ap₂}
 use mathlib.Core.List.{List}
-use Prim.Native.Nat.{ℕ, _+_, _*_, _/_, _≤_, min}
+use Prim.Native.Nat.{ℕ, _≤_}
 use lib.ListN.{length}
 use lib.IntN.{ℤ}
 use Rattle.rules.specs.Limits.{maxBudget}
@@ -12,7 +12,7 @@ use Rattle.rules.specs.Outcome.{answer, runJob, boardLines}
 use Rattle.monitor.specs.declared.entry.Outcome.{Outcome}
 use Rattle.monitor.specs.Board.{spell, written}
 use Rattle.monitor.specs.Promises.{answerOf, Lent, lent, lentBy, placesIn, Tree, Leaves, Promises}
-use Rattle.portal.specs.Portal.{buffersFor, numberOf, Handed, handed, handBack, portal}
+use Rattle.portal.specs.Portal.{buffersFor, numberOf, handed, handBack, portal}
 use Rattle.portal.proofs.Counted.{few-lines}
 
 -- the area after each outcome
@@ -22,8 +22,8 @@ area-after (Rules.rejected k i) n x x′ h = ap (λ y. y .board) h
 area-after (Rules.ran e) n x x′ h = h .board
 
 module _ (b : List ℕ) (budget : ℕ) (words levels : List ℕ) (values : List ℤ) (area : List ℕ) (x′ : Lent (List ℕ)) (o : Outcome)
-    (w : length words ≡ 4096) (l : length levels ≡ 64) (v : length values ≡ 64)
-    (p : Promises placesIn Tree b budget (lent words levels values area) x′ o) where
+    (p : Promises placesIn Tree b budget (lent words levels values area) x′ o) (w : length words ≡ 4096) (l : length levels ≡ 64)
+    (v : length values ≡ 64) where
   same-buffers : lentBy placesIn (lent words levels values area) ≡ buffersFor area
   unfolding lentBy buffersFor
   same-buffers = rw (w, l, v)

@@ -2,18 +2,17 @@
 -- outcome. Assumes nothing.
 use mathlib.Core.Path.{_≡_, refl, sym, _∙_, ap, subst}
 use mathlib.Core.Logic.{⊎-map}
-use mathlib.Core.List.{List, IsPrefix}
+use mathlib.Core.List.{List}
 use Prim.Native.Nat.{ℕ, _+_, _*_, _/_, _%_, _≤_}
 use native.Mathlib.Omega.{arith}
 use lib.ListN.{length, take}
-use lib.IntN.{ℤ}
 use Rattle.rules.specs.Limits.{maxBudget}
 use Rattle.rules.specs.Level.{Level}
 use Rattle.rules.specs.Number.{range}
 use Rattle.rules.specs.Check.{accepted}
 use Rattle.rules.specs.Job.{script}
-use Rattle.rules.specs.Run.{Buffers, Ended, finished, run}
-use Rattle.rules.specs.Outcome.{Outcome, rejected, ran, answer, checkJob, endingNumber, begin, runJob, boardLines}
+use Rattle.rules.specs.Run.{Ended, finished, run}
+use Rattle.rules.specs.Outcome.{Outcome, rejected, ran, answer, checkJob, begin, runJob, boardLines}
 use Rattle.rules.specs.Public.{Alike, Secret, Indistinguishable, Noninterference}
 use Rattle.rules.proofs.Noninterference.{runs, noninterference}
 use Rattle.monitor.specs.Board.{spell, written}

@@ -1,5 +1,5 @@
 -- Each outcome has its ending and its line count, as the paper's answer has them. Assumes nothing.
-use mathlib.Core.Path.{_≡_, sym, _∙_, ap, subst}
+use mathlib.Core.Path.{sym, _∙_, ap, subst}
 use Prim.Native.Nat.{_≤_}
 use borrow.Author.Needs.{needs}
 use Rattle.rules.specs.Limits.{maxBudget}

@@ -1,6 +1,4 @@
 -- What the run over words promises, with the portal's own buffers, is what the portal hands back. Assumes nothing.
-use Prim.Native.Nat.{ℕ}
-use lib.IntN.{ℤ, pos}
 use lib.ListN.{length-replicate}
 use Rattle.monitor.specs.Promises.{lent}
 use Rattle.portal.proofs.Handed.{few, hands}
@@ -10,11 +8,11 @@ use Rattle.portal.proofs.portal_run.Tie as tie
 
 number-requires : tie.Need-number-requires
 number-requires c κs =
-    few _ _ _ _ _ _ (lent _ _ _ _) _ (length-replicate {A = ℕ} 4096 0) (length-replicate {A = ℕ} 64 0) (length-replicate {A = ℤ} 64 (pos 0)) (c .before .before .before .before .before .run-words .ensures)
+    few _ _ _ _ _ _ (lent _ _ _ _) _ (c .before .before .before .before .before .run-words .ensures) (simp length-replicate) (simp length-replicate) (simp length-replicate)
 
 returns : tie.Need-returns
 returns c =
-    hands _ _ _ _ _ _ (lent _ _ _ _) _ (length-replicate {A = ℕ} 4096 0) (length-replicate {A = ℕ} 64 0) (length-replicate {A = ℤ} 64 (pos 0)) (c .before .before .before .before .before .before .run-words .ensures) _
+    hands _ _ _ _ _ _ (lent _ _ _ _) _ (c .before .before .before .before .before .before .run-words .ensures) (simp length-replicate) (simp length-replicate) (simp length-replicate) _
     (c .number .ensures)
 
 pub portal-run-spec : {M : Type 1} → statement M

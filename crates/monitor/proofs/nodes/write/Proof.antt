@@ -7,25 +7,16 @@ use Rattle.monitor.proofs.nodes.write.Statement.{statement}
 use Rattle.monitor.proofs.nodes.write.Tie as tie
 
 returns : tie.Need-returns
-returns c =
-    let f = c .before .before .before .before in
-    let s = f .before .before .before .before .before in
-    λ b.
-    write-refused (s .args .pc) (f .before .evaluate .ensures) (f .flow .ensures) b (s .pre .0 .cursor) (c .before .before .content .ensures)
-    (refused (c .before .not-above .ensures) (c .if1 .taken))
+returns c = λ l b v vars x e.
+    let s = c .before .before .before .before .before .before in
+    write-refused (s .args .pc) e (c .before .before .before .before .flow .ensures) b (s .pre .inside) (c .before .before .content .ensures) (refused (c .before .not-above .ensures) (c .if1 .taken))
 
 returns-2 : tie.Need-returns-2
-returns-2 c =
-    let n = c .before .before .before .before .before .before .before in
-    let f = n .before .before .before in
-    let s = f .before .before .before .before .before in
-    λ b.
-    written (s .args .pc) (f .before .evaluate .ensures) (f .flow .ensures) b (s .pre .0 .cursor) (n .before .content .ensures) _
-    (allowed (n .not-above .ensures) (c .before .before .before .before .before .before .if1 .left))
-    (c .before .before .before .bits .ensures) (c .before .before .set-value .ensures)
+returns-2 c = λ l b v vars x e.
+    let s = c .before .before .before .before .before .before .before .before .before .before .before .before in
+    written (s .args .pc) e (c .before .before .before .before .before .before .before .before .before .before .flow .ensures) b (s .pre .inside) (c .before .before .before .before .before .before .before .before .content .ensures) _
+    (allowed (c .before .before .before .before .before .before .before .not-above .ensures) (c .before .before .before .before .before .before .if1 .left)) (c .before .before .before .bits .ensures) (c .before .before .set-value .ensures)
 
 pub write-spec : {M : Type 1} → statement M
 write-spec =
-    tie.close
-    (tie.spec (λ c κs. search needs) (λ c κs. search needs) (λ c κs. search needs) (λ c κs. search needs) (λ c. search needs) returns
-    (λ c κs. search needs) (λ c κs. search needs) (λ c. search needs) returns-2)
+    tie.close (tie.spec (λ c κs. search needs) (λ c κs. search needs) (λ c κs. search needs) (λ c. search needs) returns (λ c κs. search needs) (λ c κs. search needs) (λ c. search needs) returns-2)

@@ -8,23 +8,16 @@ use Rattle.monitor.proofs.variables.assign.Statement.{statement}
 use Rattle.monitor.proofs.variables.assign.Tie as tie
 
 returns : tie.Need-returns
-returns c = λ b.
-    let s = c .before .before .before .before .before .before .before .before .before in
-    let e = c .before .before .before .before .before .evaluate .ensures in
-    let i = c .before .before .before .before .index .ensures in
-    no-assign (s .args .pc) e (s .pre .0 .cursor) (c .before .before .before .flow .ensures) b (s .pre .1 .1) i
-    (refused (c .before .not-above .ensures) (c .if1 .taken))
+returns c = λ w b places vars x inside lt long e.
+    let s = c .before .before .before .before .before .before in
+    no-assign (s .args .pc) e inside (c .before .before .before .flow .ensures) b lt (c .before .before .before .before .index .ensures) (refused (c .before .not-above .ensures) (c .if1 .taken))
 
 returns-2 : tie.Need-returns-2
-returns-2 c = λ b.
-    let s = c .before .before .before .before .before .before .before .before .before .before in
-    let e = c .before .before .before .before .before .before .evaluate .ensures in
-    let i = c .before .before .before .before .before .index .ensures in
-    did-assign (s .args .pc) e (s .pre .0 .cursor) (c .before .before .before .before .flow .ensures) b (s .pre .1 .1) i _
-    (sym (read (e .fits))) (s .pre .0 .valued) (allowed (c .before .before .not-above .ensures) (c .before .if1 .left))
+returns-2 c = λ w b places vars x inside lt long e.
+    let s = c .before .before .before .before .before .before .before in
+    did-assign (s .args .pc) e inside (c .before .before .before .before .flow .ensures) b lt (c .before .before .before .before .before .index .ensures) _ (sym (read (e .fits))) long
+    (allowed (c .before .before .not-above .ensures) (c .before .if1 .left))
 
 pub assign-spec : {M : Type 1} → statement M
 assign-spec =
-    tie.close
-    (tie.spec (λ c κs. search needs) (λ c κs. search needs) (λ c κs. search needs) (λ c. search needs) (λ c κs. search needs) (λ c. search needs)
-    returns (λ c. search needs) (λ c. search needs) (λ c. search needs) returns-2)
+    tie.close (tie.spec (λ c κs. search needs) (λ c κs. search needs) (λ c. search needs) (λ c κs. search needs) returns (λ c. search needs) (λ c. search needs) (λ c. search needs) returns-2)

@@ -9,26 +9,18 @@ use Rattle.monitor.proofs.variables.output.Statement.{statement}
 use Rattle.monitor.proofs.variables.output.Tie as tie
 
 returns : tie.Need-returns
-returns c =
-    let s = c .before .before .before .before .before .before .before in
-    no-output (s .args .pc) (c .before .before .before .evaluate .ensures) (s .pre .0 .cursor) (c .before .before .flow .ensures) _
-    (refused (c .before .not-above .ensures) (c .if1 .taken))
+returns c = λ w l v places vars x inside e.
+    no-output (c .before .before .before .before .args .pc) e inside (c .before .before .flow .ensures) _ (refused (c .before .not-above .ensures) (c .if1 .taken))
 
 returns-2 : tie.Need-returns-2
-returns-2 c =
-    let s = c .before .before .before .before .before .before .before .before in
-    full-output (s .args .pc) (c .before .before .before .before .evaluate .ensures) (s .pre .0 .cursor) (c .before .before .before .flow .ensures) _
-    (allowed (c .before .before .not-above .ensures) (c .before .if1 .left)) (omega (arith, c .if2 .taken))
+returns-2 c = λ w l v places vars x inside e.
+    full-output (c .before .before .before .before .before .args .pc) e inside (c .before .before .before .flow .ensures) _ (allowed (c .before .before .not-above .ensures) (c .before .if1 .left)) (omega (arith, c .if2 .taken))
 
 returns-3 : tie.Need-returns-3
-returns-3 c =
-    let s = c .before .before .before .before .before .before .before .before .before .before .before .before .before in
-    let e = c .before .before .before .before .before .before .before .before .before .evaluate .ensures in
-    did-output (s .args .pc) e (s .pre .0 .cursor) (c .before .before .before .before .before .before .before .before .flow .ensures) _ _ (sym (read (e .fits)))
-    (allowed (c .before .before .before .before .before .before .before .not-above .ensures) (c .before .before .before .before .before .before .if1 .left)) (c .before .before .before .before .before .if2 .left) _
-    (c .before .before .put-line .ensures)
+returns-3 c = λ w l v places vars x inside e.
+    did-output (c .before .before .before .before .before .before .before .before .before .before .args .pc) e inside (c .before .before .before .before .before .before .before .before .flow .ensures) _ _ (sym (read (e .fits)))
+    (allowed (c .before .before .before .before .before .before .before .not-above .ensures) (c .before .before .before .before .before .before .if1 .left)) (omega (arith, c .before .before .before .before .before .if2 .left)) _ (c .before .before .put-line .ensures)
 
 pub output-spec : {M : Type 1} → statement M
 output-spec =
-    tie.close
-    (tie.spec (λ c κs. search needs) (λ c κs. search needs) (λ c κs. search needs) returns returns-2 (λ c κs. search needs) (λ c. search needs) (λ c. search needs) returns-3)
+    tie.close (tie.spec (λ c κs. search needs) (λ c κs. search needs) returns returns-2 (λ c κs. search needs) (λ c. search needs) (λ c. search needs) returns-3)

@@ -1,0 +1,31 @@
+// The names of the endings.
+use print::Out;
+use print::SIZE;
+use print::text;
+ghost use Prim.Native.Nat.{_≤_};
+
+pub fn name(buf: &mut [u8; SIZE], out: Out, ending: u8) -> Out
+    requires { ⌜ out .used ≤ 65536 ⌝ }
+    ensures { λ r. ⌜ r .used ≤ 65536 ⌝ }
+{
+    match ending {
+        0 => text(buf, out, b"finished"),
+        1 => text(buf, out, b"wrong size"),
+        2 => text(buf, out, b"broken layout"),
+        3 => text(buf, out, b"count out of range"),
+        4 => text(buf, out, b"variable level out of range"),
+        5 => text(buf, out, b"parent rule broken"),
+        6 => text(buf, out, b"tree rule broken"),
+        7 => text(buf, out, b"command or field out of range"),
+        8 => text(buf, out, b"blocks do not match"),
+        9 => text(buf, out, b"budget out of range"),
+        10 => text(buf, out, b"buffers do not fit"),
+        21 => text(buf, out, b"flow rule broken"),
+        22 => text(buf, out, b"node does not exist"),
+        23 => text(buf, out, b"table full"),
+        24 => text(buf, out, b"board full"),
+        25 => text(buf, out, b"budget used up"),
+        26 => text(buf, out, b"context below the node"),
+        _ => text(buf, out, b"unknown"),
+    }
+}

@@ -1,0 +1,19 @@
+-- `take` meets its contract: the span stays within the block. Each turn takes a byte. Assumes nothing.
+use mathlib.Core.Path.{_≡_}
+use Prim.Native.Nat.{_≤_, _-_}
+use lib.ListN.{length}
+use borrow.Author.Needs.{needs}
+use Rattle.replay.proofs.input.take.Statement.{statement}
+use Rattle.replay.proofs.input.take.Tie as tie
+
+abbrev Inv-loop : tie.InvT-loop
+Inv-loop block₀ to₀ s₀ count₀ block to s count = (s .from ≤ s .end) × (s .end ≤ 65536) × (length to ≡ length to₀)
+
+abbrev μ-loop : tie.MeasureT-loop
+μ-loop block₀ to₀ s₀ count₀ block to s count = length to₀ - count
+
+pub take-spec : {M : Type 1} → statement M
+take-spec =
+    tie.close (tie.spec
+    Inv-loop μ-loop (λ c. search needs) (λ c κs. search needs) (λ c. search needs) (λ c. search needs) (λ c. search needs) (λ c. search needs)
+    (λ c. search needs) (λ c. search needs) (λ c. search needs) (λ c. search needs) (λ c. search needs) (λ c. search needs))

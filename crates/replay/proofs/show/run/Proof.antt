@@ -1,0 +1,15 @@
+-- `run` meets its contract: the area is within the array. Assumes nothing.
+use mathlib.Core.Path.{sym}
+use native.Mathlib.Omega.{arith}
+use lib.Seq.{length-take-le}
+use borrow.Author.Needs.{needs}
+use Rattle.replay.proofs.show.run.Statement.{statement}
+use Rattle.replay.proofs.show.run.Tie as tie
+
+slice-aggregate-run-lent : tie.Need-slice-aggregate-run-lent
+slice-aggregate-run-lent c = sym (length-take-le _ _ (omega (arith, c .before .before .before .before .before .before .pre .0)))
+
+pub run-spec : {M : Type 1} → statement M
+run-spec =
+    tie.close (tie.spec
+    (λ c. search needs) (λ c. search needs) (λ c. search needs) slice-aggregate-run-lent (λ c κs. search needs) (λ c. search needs))

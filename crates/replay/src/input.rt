@@ -1,0 +1,92 @@
+// Standard input, read in blocks and handed out in parts of any length.
+use libc::STDIN_FILENO;
+use print::SIZE;
+ghost use Prim.Native.Nat.{_≤_};
+ghost use lib.ListN.{length};
+
+// The bytes of the block that are read and not yet handed out.
+pub struct Span {
+    pub from: usize,
+    pub end: usize,
+}
+
+// How many bytes came, and what is left of the block.
+pub struct Taken {
+    pub count: usize,
+    pub span: Span,
+}
+
+// Reads once, and says how many bytes came.
+fn refill(block: &mut [u8]) -> usize
+    ensures { λ r. ⌜ r ≤ length (now (block .exit)) ⌝ }
+{
+    let got = libc::read(STDIN_FILENO, block);
+    io::count(got, block)
+}
+
+// The span, or where it is empty that of the next block, which is empty where the input has ended.
+fn ready(block: &mut [u8; SIZE], span: Span) -> Span
+    requires { ⌜ (span .from ≤ span .end) × (span .end ≤ 65536) ⌝ }
+    ensures { λ r. ⌜ (r .from ≤ r .end) × (r .end ≤ 65536) ⌝ }
+{
+    if span.from < span.end {
+        return span;
+    }
+    let end = refill(block);
+    Span { from: 0, end }
+}
+
+// Puts the next bytes of the input into `to`, as far as it has so many.
+pub fn take(block: &mut [u8; SIZE], span: Span, to: &mut [u8]) -> Taken
+    requires { ⌜ (span .from ≤ span .end) × (span .end ≤ 65536) ⌝ }
+    ensures { λ r. ⌜ (r .span .from ≤ r .span .end) × (r .span .end ≤ 65536) ⌝ }
+{
+    let mut s = span;
+    let mut count = 0;
+    while count < to.len() {
+        s = ready(block, s);
+        let from = s.from;
+        let end = s.end;
+        if from >= end {
+            return Taken { count, span: s };
+        }
+        to[count] = block[from];
+        s = Span {
+            from: from + 1,
+            end,
+        };
+        count += 1;
+    }
+    Taken { count, span: s }
+}
+
+// Drops the next n bytes of the input, as far as it has so many.
+pub fn skip(block: &mut [u8; SIZE], span: Span, n: usize) -> Taken
+    requires { ⌜ (span .from ≤ span .end) × (span .end ≤ 65536) ⌝ }
+    ensures { λ r. ⌜ (r .span .from ≤ r .span .end) × (r .span .end ≤ 65536) ⌝ }
+{
+    let mut s = span;
+    let mut count = 0;
+    while count < n {
+        s = ready(block, s);
+        let from = s.from;
+        let end = s.end;
+        if from >= end {
+            return Taken { count, span: s };
+        }
+        let have = end - from;
+        let left = n - count;
+        if have >= left {
+            return Taken {
+                count: n,
+                span: Span {
+                    from: from + left,
+                    end,
+                },
+            };
+        }
+        count += have;
+        s = Span { from: end, end };
+    }
+    Taken { count, span: s }
+}

@@ -1,0 +1,220 @@
+//! Nodes in an array, linked by index. The root has place 0.
+
+use crate::MAX_NODES;
+
+/// No node.
+pub const NONE: u16 = u16::MAX;
+
+#[derive(Clone, Copy, Default)]
+pub struct Node {
+    pub parent: u16,
+    pub first: u16,
+    pub right: u16,
+    pub children: u16,
+    pub value: i32,
+    pub existence: u8,
+    pub content: u8,
+    pub list: u8,
+}
+
+/// Removed subtrees are kept whole and taken apart one node at a time, when a
+/// place is needed. They stand in a list of sibling chains: `right` is the next
+/// of a chain, the `parent` of a chain's head is the next chain.
+pub struct Arena {
+    nodes: [Node; MAX_NODES],
+    /// The last child of each node while a job is loaded.
+    last: [u16; MAX_NODES],
+    /// Places from here on were never used.
+    used: usize,
+    /// Head of the first chain of removed nodes.
+    free: u16,
+}
+
+impl Arena {
+    pub fn new() -> Arena {
+        Arena {
+            nodes: [Node::default(); MAX_NODES],
+            last: [NONE; MAX_NODES],
+            used: 0,
+            free: NONE,
+        }
+    }
+
+    /// The remainder is no change: every link is `NONE` or below `MAX_NODES`,
+    /// and `NONE` is tested for before. It spares the test of the index.
+    #[inline(always)]
+    pub fn at(&self, place: u16) -> &Node {
+        &self.nodes[place as usize % MAX_NODES]
+    }
+
+    #[inline(always)]
+    pub fn at_mut(&mut self, place: u16) -> &mut Node {
+        &mut self.nodes[place as usize % MAX_NODES]
+    }
+
+    /// The places that were ever used; after loading, the number of nodes.
+    #[inline(always)]
+    pub fn used(&self) -> usize {
+        self.used
+    }
+
+    pub fn clear(&mut self) {
+        self.used = 0;
+        self.free = NONE;
+    }
+
+    /// The last child so far of a node that is loaded.
+    #[inline(always)]
+    pub fn last_child(&self, parent: u16) -> u16 {
+        self.last[parent as usize % MAX_NODES]
+    }
+
+    /// Puts a record's node into the next place; its parent stands already.
+    #[inline(always)]
+    pub fn load(&mut self, node: Node) {
+        let place = self.used as u16;
+        *self.at_mut(place) = Node {
+            first: NONE,
+            right: NONE,
+            children: 0,
+            ..node
+        };
+        self.last[place as usize % MAX_NODES] = NONE;
+        self.used += 1;
+        if place == 0 {
+            return;
+        }
+        let left = self.last_child(node.parent);
+        if left == NONE {
+            self.at_mut(node.parent).first = place;
+        } else {
+            self.at_mut(left).right = place;
+        }
+        self.at_mut(node.parent).children += 1;
+        self.last[node.parent as usize % MAX_NODES] = place;
+    }
+
+    /// A free place, if one of the first `places` is.
+    #[inline(always)]
+    fn take(&mut self, places: usize) -> Option<u16> {
+        let place = self.free;
+        if place == NONE {
+            if self.used == places {
+                return None;
+            }
+            self.used += 1;
+            return Some(self.used as u16 - 1);
+        }
+        let Node {
+            parent: mut rest,
+            right,
+            first,
+            ..
+        } = *self.at(place);
+        if right != NONE {
+            self.at_mut(right).parent = rest;
+            rest = right;
+        }
+        if first != NONE {
+            self.at_mut(first).parent = rest;
+            rest = first;
+        }
+        self.free = rest;
+        Some(place)
+    }
+
+    /// Removes a subtree that is unlinked already.
+    #[inline(always)]
+    fn give(&mut self, top: u16) {
+        let free = self.free;
+        let node = self.at_mut(top);
+        node.parent = free;
+        node.right = NONE;
+        self.free = top;
+    }
+
+    /// False where every place holds a live node.
+    #[inline(always)]
+    pub fn insert_first(&mut self, parent: u16, node: Node, places: usize) -> bool {
+        let Some(place) = self.take(places) else {
+            return false;
+        };
+        let right = self.at(parent).first;
+        *self.at_mut(place) = Node {
+            parent,
+            first: NONE,
+            right,
+            children: 0,
+            ..node
+        };
+        let above = self.at_mut(parent);
+        above.first = place;
+        above.children += 1;
+        true
+    }
+
+    /// False where every place holds a live node. `left` is not the root.
+    #[inline(always)]
+    pub fn insert_right(&mut self, left: u16, node: Node, places: usize) -> bool {
+        let Some(place) = self.take(places) else {
+            return false;
+        };
+        let Node { parent, right, .. } = *self.at(left);
+        *self.at_mut(place) = Node {
+            parent,
+            first: NONE,
+            right,
+            children: 0,
+            ..node
+        };
+        self.at_mut(left).right = place;
+        self.at_mut(parent).children += 1;
+        true
+    }
+
+    /// `first` is the first child of `parent`.
+    #[inline(always)]
+    pub fn remove_first(&mut self, parent: u16, first: u16) {
+        let right = self.at(first).right;
+        let above = self.at_mut(parent);
+        above.first = right;
+        above.children -= 1;
+        self.give(first);
+    }
+
+    /// `right` is the right sibling of `left`.
+    #[inline(always)]
+    pub fn remove_right(&mut self, left: u16, right: u16) {
+        let Node {
+            parent,
+            right: next,
+            ..
+        } = *self.at(right);
+        self.at_mut(left).right = next;
+        self.at_mut(parent).children -= 1;
+        self.give(right);
+    }
+
+    /// Each node with its depth, a parent before its children.
+    pub fn preorder(&self) -> Vec<(usize, Node)> {
+        let mut rows = Vec::new();
+        let mut open = vec![(0, 0u16)];
+        while let Some((depth, place)) = open.pop() {
+            let node = *self.at(place);
+            rows.push((depth, node));
+            if node.right != NONE {
+                open.push((depth, node.right));
+            }
+            if node.first != NONE {
+                open.push((depth + 1, node.first));
+            }
+        }
+        rows
+    }
+}
+
+impl Default for Arena {
+    fn default() -> Arena {
+        Arena::new()
+    }
+}

@@ -1,0 +1,281 @@
+//! Checks 1 to 8. Each section is read once; of two faults the one with the
+//! lower number is given.
+
+use crate::arena::{Node, NONE};
+use crate::{ending, Answer, Buffers, Op, Variable};
+use crate::{MAX_BLOCKS, MAX_BYTES, MAX_NODES, MAX_RECORDS, MAX_VARIABLES};
+
+/// Codes of decoded records: the paper's command numbers, with the two kinds of
+/// end apart.
+pub mod code {
+    pub const NOTHING: u8 = 0;
+    pub const ASSIGN: u8 = 1;
+    pub const IF: u8 = 2;
+    pub const ELSE: u8 = 3;
+    pub const WHILE: u8 = 4;
+    pub const END: u8 = 5;
+    pub const PRINT: u8 = 6;
+    pub const ROOT: u8 = 7;
+    pub const UP: u8 = 8;
+    pub const FIRST_CHILD: u8 = 9;
+    pub const RIGHT_SIBLING: u8 = 10;
+    pub const NEW_FIRST_CHILD: u8 = 11;
+    pub const NEW_RIGHT_SIBLING: u8 = 12;
+    pub const REMOVE_FIRST_CHILD: u8 = 13;
+    pub const REMOVE_RIGHT_SIBLING: u8 = 14;
+    pub const SET_VALUE: u8 = 15;
+    pub const COVER: u8 = 16;
+    pub const END_WHILE: u8 = 17;
+    pub const FINISH: u8 = 18;
+}
+
+pub mod kind {
+    pub const CONSTANT: u8 = 0;
+    pub const VARIABLE: u8 = 1;
+    pub const VALUE: u8 = 2;
+    pub const CHILDREN: u8 = 3;
+}
+
+pub mod operator {
+    pub const LEFT: u8 = 0;
+    pub const SUM: u8 = 1;
+    pub const DIFFERENCE: u8 = 2;
+    pub const EQUAL: u8 = 3;
+    pub const LESS: u8 = 4;
+    pub const MEAN: u8 = 5;
+}
+
+/// What a command reads besides its number.
+const EXPRESSION: u8 = 1;
+const VARIABLE_TARGET: u8 = 2;
+const MARK_TARGET: u8 = 4;
+
+/// "Commands 1, 2, 4, 6, 11, 12 and 15 read an expression."
+const READS: [u8; 17] = [
+    0,
+    EXPRESSION | VARIABLE_TARGET,
+    EXPRESSION,
+    0,
+    EXPRESSION,
+    0,
+    EXPRESSION,
+    0,
+    0,
+    0,
+    0,
+    EXPRESSION | MARK_TARGET,
+    EXPRESSION | MARK_TARGET,
+    0,
+    0,
+    EXPRESSION,
+    0,
+];
+
+/// Fills `buffers` from an accepted job. Where the job is turned back they
+/// hold nothing of use.
+#[inline(always)]
+pub fn check(buffers: &mut Buffers, job: &[u8]) -> Result<(), Answer> {
+    let refuse = |ending, index| Err(Answer::turned_back(ending, index));
+    if job.len() < 8 || job.len() > MAX_BYTES {
+        return refuse(ending::SIZE, 0);
+    }
+    let end = job.len() - 8;
+    let offset =
+        |place: usize| u16::from_le_bytes([job[end + place], job[end + place + 1]]) as usize;
+    let (variables, nodes, script, trailer) = (offset(0), offset(2), offset(4), offset(6));
+    let ordered = variables == 0 && nodes <= script && script <= trailer && trailer == end;
+    if !ordered {
+        return refuse(ending::LAYOUT, 0);
+    }
+    if nodes % 8 != 0 || (script - nodes) % 12 != 0 || (trailer - script) % 16 != 0 {
+        return refuse(ending::LAYOUT, 0);
+    }
+    let counts = (nodes / 8, (script - nodes) / 12, (trailer - script) / 16);
+    if counts.0 > MAX_VARIABLES || !(1..=MAX_NODES).contains(&counts.1) || counts.2 > MAX_RECORDS {
+        return refuse(ending::COUNT, 0);
+    }
+    check_variables(buffers, &job[..nodes])?;
+    check_nodes(buffers, &job[nodes..script])?;
+    check_script(buffers, &job[script..trailer])
+}
+
+fn check_variables(buffers: &mut Buffers, section: &[u8]) -> Result<(), Answer> {
+    buffers.variable_count = section.len() / 8;
+    for (index, (bytes, variable)) in section
+        .chunks_exact(8)
+        .zip(&mut buffers.variables)
+        .enumerate()
+    {
+        if bytes[0] > 1 {
+            return Err(Answer::turned_back(ending::VARIABLE_LEVEL, index));
+        }
+        *variable = Variable {
+            level: bytes[0],
+            value: number(bytes, 4),
+        };
+    }
+    Ok(())
+}
+
+/// Checks 5 and 6. A 5 in any record comes before a 6 in any other.
+fn check_nodes(buffers: &mut Buffers, section: &[u8]) -> Result<(), Answer> {
+    let parent = |bytes: &[u8]| u16::from_le_bytes([bytes[0], bytes[1]]);
+    for (index, bytes) in section.chunks_exact(12).enumerate() {
+        let right = match index {
+            0 => parent(bytes) == 65_535,
+            _ => (parent(bytes) as usize) < index,
+        };
+        if !right {
+            return Err(Answer::turned_back(ending::PARENT, index));
+        }
+    }
+    let arena = &mut buffers.arena;
+    arena.clear();
+    for (index, bytes) in section.chunks_exact(12).enumerate() {
+        let node = Node {
+            parent: parent(bytes),
+            existence: bytes[2],
+            content: bytes[3],
+            list: bytes[4],
+            value: number(bytes, 8),
+            ..Node::default()
+        };
+        let (e, c, l) = (node.existence, node.content, node.list);
+        let mut keeps = (e | c | l) <= 1 && e <= c && e <= l;
+        if index == 0 {
+            keeps = keeps && e == 0;
+        } else {
+            let above = arena.at(node.parent);
+            keeps = keeps && above.existence <= e && e <= above.list;
+            let left = arena.last_child(node.parent);
+            if left != NONE {
+                keeps = keeps && arena.at(left).existence <= e;
+            }
+        }
+        if !keeps {
+            return Err(Answer::turned_back(ending::TREE, index));
+        }
+        arena.load(node);
+    }
+    Ok(())
+}
+
+/// An open block: its opening, and the if or else that must learn of its end.
+#[derive(Clone, Copy, Default)]
+struct Open {
+    opening: u16,
+    is_if: bool,
+    otherwise: Option<u16>,
+}
+
+/// Checks 7 and 8. A 7 in any record comes before an 8 in any other, so the
+/// first 8 is kept until all fields have been read.
+fn check_script(buffers: &mut Buffers, section: &[u8]) -> Result<(), Answer> {
+    let count = section.len() / 16;
+    let variables = buffers.variable_count;
+    let ops = &mut buffers.ops;
+    let mut open = [Open::default(); MAX_BLOCKS];
+    let mut depth = 0;
+    let mut fault = None;
+    for (index, bytes) in section.chunks_exact(16).enumerate() {
+        let Some(mut op) = decoded(bytes, variables) else {
+            return Err(Answer::turned_back(ending::FIELD, index));
+        };
+        if fault.is_none() {
+            match op.code {
+                code::IF | code::WHILE => {
+                    if depth == MAX_BLOCKS {
+                        fault = Some(index);
+                    } else {
+                        open[depth] = Open {
+                            opening: index as u16,
+                            is_if: op.code == code::IF,
+                            otherwise: None,
+                        };
+                        depth += 1;
+                    }
+                }
+                code::ELSE => match open[..depth].last_mut() {
+                    Some(block) if block.is_if && block.otherwise.is_none() => {
+                        block.otherwise = Some(index as u16);
+                    }
+                    _ => fault = Some(index),
+                },
+                code::END => {
+                    if depth == 0 {
+                        fault = Some(index);
+                    } else {
+                        depth -= 1;
+                        close(ops, open[depth], index as u16, &mut op);
+                    }
+                }
+                _ => {}
+            }
+        }
+        ops[index] = op;
+    }
+    ops[count] = Op {
+        code: code::FINISH,
+        ..Op::default()
+    };
+    match fault {
+        Some(index) => Err(Answer::turned_back(ending::BLOCK, index)),
+        None if depth > 0 => Err(Answer::turned_back(ending::BLOCK, count)),
+        None => Ok(()),
+    }
+}
+
+/// Sets the jumps of a block that ends at `end`.
+#[inline(always)]
+fn close(ops: &mut [Op; MAX_RECORDS + 1], block: Open, end: u16, op: &mut Op) {
+    let opening = &mut ops[block.opening as usize];
+    if !block.is_if {
+        opening.jump = end + 1;
+        op.code = code::END_WHILE;
+        op.jump = block.opening;
+        return;
+    }
+    match block.otherwise {
+        None => opening.jump = end,
+        Some(otherwise) => {
+            opening.jump = otherwise + 1;
+            ops[otherwise as usize].jump = end;
+        }
+    }
+}
+
+/// The record, or none where check 7 turns it back.
+#[inline(always)]
+fn decoded(bytes: &[u8], variables: usize) -> Option<Op> {
+    let reads = *READS.get(bytes[0] as usize)?;
+    let op = Op {
+        code: bytes[0],
+        target: bytes[1],
+        operator: bytes[2],
+        left_kind: bytes[3],
+        right_kind: bytes[4],
+        jump: 0,
+        left: number(bytes, 8),
+        right: number(bytes, 12),
+    };
+    if reads == 0 {
+        return Some(op);
+    }
+    let target = match reads & (VARIABLE_TARGET | MARK_TARGET) {
+        VARIABLE_TARGET => (op.target as usize) < variables,
+        MARK_TARGET => op.target <= 3,
+        _ => true,
+    };
+    let in_range = |kind: u8, number: i32| match kind {
+        kind::VARIABLE => (number as u32 as usize) < variables,
+        _ => kind <= kind::CHILDREN,
+    };
+    let right = op.operator == operator::LEFT || in_range(op.right_kind, op.right);
+    let fields = op.operator <= operator::MEAN && in_range(op.left_kind, op.left) && right;
+    (target && fields).then_some(op)
+}
+
+#[inline(always)]
+fn number(bytes: &[u8], at: usize) -> i32 {
+    i32::from_le_bytes([bytes[at], bytes[at + 1], bytes[at + 2], bytes[at + 3]])
+}

@@ -1,0 +1,278 @@
+//! Checks 9 and 10, and the steps.
+
+use crate::arena::{Arena, Node, NONE};
+use crate::check::{check, code, kind, operator};
+use crate::{ending, Answer, Buffers, Limits, Op, Variable};
+use crate::{MAX_BUDGET, MAX_NODES, MAX_VARIABLES};
+
+/// The answer for a job; its lines go to `area`, 4 little-endian bytes each.
+/// What is left in `buffers` after a run is the last state.
+pub fn run(buffers: &mut Buffers, job: &[u8], limits: Limits, area: &mut [u8]) -> Answer {
+    if let Err(answer) = check(buffers, job) {
+        return answer;
+    }
+    if limits.budget < 1 || limits.budget > MAX_BUDGET {
+        return Answer::turned_back(ending::BUDGET, 0);
+    }
+    let table = limits.places <= MAX_NODES && limits.places >= buffers.arena.used();
+    if !table || limits.variables < buffers.variable_count {
+        return Answer::turned_back(ending::BUFFER, 0);
+    }
+    steps(buffers, limits.budget as u32, limits.places, area)
+}
+
+/// An expression's value and its level E.
+#[inline(always)]
+fn evaluate(op: &Op, variables: &[Variable; MAX_VARIABLES], node: &Node, level: u8) -> (i32, u8) {
+    let (left, left_level) = operand(op.left_kind, op.left, variables, node, level);
+    if op.operator == operator::LEFT {
+        return (left, left_level);
+    }
+    let (right, right_level) = operand(op.right_kind, op.right, variables, node, level);
+    let value = match op.operator {
+        operator::SUM => left.wrapping_add(right),
+        operator::DIFFERENCE => left.wrapping_sub(right),
+        operator::EQUAL => (left == right) as i32,
+        operator::LESS => (left < right) as i32,
+        _ => ((left as i64 + right as i64) >> 1) as i32,
+    };
+    (value, left_level | right_level)
+}
+
+/// Check 7 has seen to it that a variable's index is below their number.
+#[inline(always)]
+fn operand(
+    kind: u8,
+    number: i32,
+    variables: &[Variable; MAX_VARIABLES],
+    node: &Node,
+    level: u8,
+) -> (i32, u8) {
+    match kind {
+        kind::CONSTANT => (number, 0),
+        kind::VARIABLE => {
+            let variable = &variables[number as u32 as usize % MAX_VARIABLES];
+            (variable.value, variable.level)
+        }
+        kind::VALUE => (node.value, level | node.content),
+        _ => (node.children as i32, level | node.list),
+    }
+}
+
+/// Commands 8, 9 and 10: "cursor level joins the new node's existence".
+#[inline(always)]
+fn go(
+    arena: &Arena,
+    to: u16,
+    context: u8,
+    cursor: &mut u16,
+    cursor_level: &mut u8,
+) -> Result<(), u8> {
+    if to == NONE {
+        return Err(ending::MISSING);
+    }
+    if context > *cursor_level {
+        return Err(ending::RULE);
+    }
+    *cursor = to;
+    *cursor_level |= arena.at(to).existence;
+    Ok(())
+}
+
+/// "content is L, and 1 if the mark is odd; list is C, and 1 if the mark is 2
+/// or 3"
+#[inline(always)]
+fn new_node(mark: u8, value: i32, e: u8, c: u8) -> Node {
+    Node {
+        value,
+        existence: c,
+        content: e | c | (mark & 1),
+        list: c | (mark >> 1),
+        ..Node::default()
+    }
+}
+
+fn steps(buffers: &mut Buffers, budget: u32, places: usize, area: &mut [u8]) -> Answer {
+    let Buffers {
+        variables,
+        arena,
+        ops,
+        ..
+    } = buffers;
+    let mut cursor = 0u16;
+    let mut cursor_level = 0u8;
+    // The guards of the open blocks, a bit each, the innermost lowest: at most
+    // sixteen.
+    let mut guards = 0u32;
+    let mut next = 0usize;
+    let mut left = budget;
+    let mut lines = 0usize;
+    let (ending, index) = loop {
+        let op = &ops[next];
+        // "At the script's end the run has finished, even with the budget used up."
+        if left == 0 && op.code != code::FINISH {
+            break (ending::BUDGET_USED, next);
+        }
+        let context = (guards != 0) as u8;
+        let c = context | cursor_level;
+        match op.code {
+            code::NOTHING => next += 1,
+            code::ASSIGN => {
+                let (value, e) = evaluate(op, variables, arena.at(cursor), cursor_level);
+                let target = &mut variables[op.target as usize % MAX_VARIABLES];
+                if e | c > target.level {
+                    break (ending::RULE, next);
+                }
+                target.value = value;
+                next += 1;
+            }
+            code::IF => {
+                let (value, e) = evaluate(op, variables, arena.at(cursor), cursor_level);
+                guards = guards << 1 | e as u32;
+                next = if value == 0 {
+                    op.jump as usize
+                } else {
+                    next + 1
+                };
+            }
+            code::ELSE => next = op.jump as usize,
+            code::WHILE => {
+                let (value, e) = evaluate(op, variables, arena.at(cursor), cursor_level);
+                if value == 0 {
+                    next = op.jump as usize;
+                } else {
+                    guards = guards << 1 | e as u32;
+                    next += 1;
+                }
+            }
+            code::END => {
+                guards >>= 1;
+                next += 1;
+            }
+            code::END_WHILE => {
+                guards >>= 1;
+                next = op.jump as usize;
+            }
+            code::PRINT => {
+                let (value, e) = evaluate(op, variables, arena.at(cursor), cursor_level);
+                if e | c != 0 {
+                    break (ending::RULE, next);
+                }
+                let Some(line) = area.get_mut(4 * lines..4 * lines + 4) else {
+                    break (ending::LINES_FULL, next);
+                };
+                line.copy_from_slice(&value.to_le_bytes());
+                lines += 1;
+                next += 1;
+            }
+            code::ROOT => {
+                if context > cursor_level {
+                    break (ending::RULE, next);
+                }
+                cursor = 0;
+                cursor_level = context;
+                next += 1;
+            }
+            code::UP => {
+                let to = arena.at(cursor).parent;
+                if let Err(stop) = go(arena, to, context, &mut cursor, &mut cursor_level) {
+                    break (stop, next);
+                }
+                next += 1;
+            }
+            code::FIRST_CHILD => {
+                let to = arena.at(cursor).first;
+                if let Err(stop) = go(arena, to, context, &mut cursor, &mut cursor_level) {
+                    break (stop, next);
+                }
+                next += 1;
+            }
+            code::RIGHT_SIBLING => {
+                let to = arena.at(cursor).right;
+                if let Err(stop) = go(arena, to, context, &mut cursor, &mut cursor_level) {
+                    break (stop, next);
+                }
+                next += 1;
+            }
+            code::NEW_FIRST_CHILD => {
+                let node = arena.at(cursor);
+                let (value, e) = evaluate(op, variables, node, cursor_level);
+                let below_old = node.first == NONE || c <= arena.at(node.first).existence;
+                if c > node.list || !below_old {
+                    break (ending::RULE, next);
+                }
+                if c < node.existence {
+                    break (ending::BELOW_EXISTENCE, next);
+                }
+                if !arena.insert_first(cursor, new_node(op.target, value, e, c), places) {
+                    break (ending::TABLE_FULL, next);
+                }
+                next += 1;
+            }
+            code::NEW_RIGHT_SIBLING => {
+                let node = arena.at(cursor);
+                if node.parent == NONE {
+                    break (ending::MISSING, next);
+                }
+                let (value, e) = evaluate(op, variables, node, cursor_level);
+                let below_old = node.right == NONE || c <= arena.at(node.right).existence;
+                if c > arena.at(node.parent).list || !below_old {
+                    break (ending::RULE, next);
+                }
+                if c < node.existence {
+                    break (ending::BELOW_EXISTENCE, next);
+                }
+                if !arena.insert_right(cursor, new_node(op.target, value, e, c), places) {
+                    break (ending::TABLE_FULL, next);
+                }
+                next += 1;
+            }
+            code::REMOVE_FIRST_CHILD => {
+                let first = arena.at(cursor).first;
+                if first == NONE {
+                    break (ending::MISSING, next);
+                }
+                if c > arena.at(first).existence {
+                    break (ending::RULE, next);
+                }
+                arena.remove_first(cursor, first);
+                next += 1;
+            }
+            code::REMOVE_RIGHT_SIBLING => {
+                let right = arena.at(cursor).right;
+                if right == NONE {
+                    break (ending::MISSING, next);
+                }
+                if c > arena.at(right).existence {
+                    break (ending::RULE, next);
+                }
+                arena.remove_right(cursor, right);
+                next += 1;
+            }
+            code::SET_VALUE => {
+                let node = arena.at_mut(cursor);
+                let (value, e) = evaluate(op, variables, node, cursor_level);
+                if e | c > node.content {
+                    break (ending::RULE, next);
+                }
+                node.value = value;
+                next += 1;
+            }
+            code::COVER => {
+                if context > cursor_level {
+                    break (ending::RULE, next);
+                }
+                cursor_level = 1;
+                next += 1;
+            }
+            _ => break (ending::FINISHED, 0),
+        }
+        left -= 1;
+    };
+    Answer {
+        ending,
+        index: index as u32,
+        steps: budget - left,
+        lines: lines as u32,
+    }
+}

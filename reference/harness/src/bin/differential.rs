@@ -1,0 +1,182 @@
+//! Generated jobs through `replay`, through a portal and through the fast
+//! version, compared with the reference.
+//!
+//! Exit status: 0 no difference, 1 a difference, 2 bad usage.
+
+use std::time::Instant;
+
+use harness::arguments::{all_mistakes, fail, Arguments};
+use harness::differential::{portal_unlike, spare, Sides};
+use harness::frame::{self, Frame};
+use harness::progress::Progress;
+use harness::replay::Replay;
+use reference::coverage::Coverage;
+use reference::generate;
+use reference::mistake::Mistake;
+use reference::run;
+
+const USAGE: &str =
+    "differential [--replay PATH | --no-replay] [--portal linked|fast|reference | --no-portal]
+    [--no-fast] [--jobs N] [--seconds S] [--seed N] [--forever] [--mistake NAME] [--each-mistake] [--coverage]";
+
+const KNOWN: [&str; 12] = [
+    "--replay",
+    "--no-replay",
+    "--portal",
+    "--no-portal",
+    "--no-fast",
+    "--jobs",
+    "--seconds",
+    "--seed",
+    "--forever",
+    "--mistake",
+    "--each-mistake",
+    "--coverage",
+];
+
+/// Cases for one process.
+const BATCH: u64 = 500;
+
+fn main() {
+    let arguments = Arguments::read(USAGE, &KNOWN);
+    let replay = match (arguments.has("--no-replay"), arguments.replay()) {
+        (true, _) => None,
+        (false, Some(path)) => Some(Replay { path }),
+        (false, None) => fail("no replay: name it by --replay or REPLAY, or say --no-replay"),
+    };
+    let portal = match arguments.has("--no-portal") {
+        true => None,
+        false => Some(arguments.portal(Mistake::None)),
+    };
+    let sides = Sides {
+        replay,
+        portal,
+        fast: !arguments.has("--no-fast"),
+        mistake: arguments.mistake(),
+    };
+    describe(&sides);
+    let found = match arguments.has("--each-mistake") {
+        true => each_mistake(&sides, &arguments),
+        false => compare(&sides, &arguments),
+    };
+    std::process::exit(if found { 0 } else { 1 });
+}
+
+fn describe(sides: &Sides) {
+    match &sides.replay {
+        Some(replay) => println!("replay: {}", replay.path),
+        None => println!("replay: none"),
+    }
+    match sides.portal {
+        Some(portal) => println!("portal: {}", portal.name()),
+        None => println!("portal: none"),
+    }
+    if sides.mistake != Mistake::None {
+        println!("mistake in the reference: {:?}", sides.mistake);
+    }
+}
+
+/// True where no difference was found.
+fn compare(sides: &Sides, arguments: &Arguments) -> bool {
+    let seed = arguments.number("--seed", 0);
+    let forever = arguments.has("--forever");
+    let most = arguments.number("--jobs", if forever { u64::MAX } else { 20_000 });
+    let limit = arguments.seconds(if forever { u64::MAX } else { 60 });
+    let start = Instant::now();
+    let mut coverage = Coverage::new();
+    let mut progress = Progress::new("differential");
+    let mut done = 0;
+    println!("seed {seed}");
+    while done < most && start.elapsed() < limit {
+        let count = BATCH.min(most - done);
+        let first = seed + done;
+        if let Err(difference) = sides.batch(first..first + count, &mut coverage) {
+            println!("\n{difference}\n");
+            println!(
+                "the smallest job that shows it\n\n{}",
+                sides.smallest(&difference)
+            );
+            return false;
+        }
+        done += count;
+        if forever {
+            progress.show(|| {
+                format!(
+                    "{done} jobs, seeds {seed} to {}, no difference",
+                    seed + done
+                )
+            });
+        }
+    }
+    match sides.truncations(seed) {
+        Ok(tried) => println!("{tried} streams with a cut frame, no difference"),
+        Err(unlike) => {
+            println!("expected\n{}\ngot\n{}", unlike.expected, unlike.got);
+            return false;
+        }
+    }
+    let seconds = start.elapsed().as_secs_f64();
+    if arguments.has("--coverage") {
+        println!("{coverage}");
+    }
+    let missing = coverage.missing();
+    if !missing.is_empty() && done >= 20_000 {
+        println!("never reached: {missing:?}");
+        return false;
+    }
+    println!("{done} jobs in {seconds:.1} s, no difference");
+    true
+}
+
+/// Whether each planted mistake shows: in what `replay` prints, and in what
+/// the portal gives, where it can.
+fn each_mistake(sides: &Sides, arguments: &Arguments) -> bool {
+    let seed = arguments.number("--seed", 0);
+    let jobs = arguments.number("--jobs", 20_000);
+    let mut printed = Vec::new();
+    for first in (seed..seed + jobs).step_by(BATCH as usize) {
+        printed.extend(sides.replayed(first..(first + BATCH).min(seed + jobs)));
+    }
+    let mut all = true;
+    for mistake in all_mistakes() {
+        let by_replay = sides.replay.as_ref().map(|_| {
+            (0..printed.len()).find(|&place| {
+                let seed = seed + place as u64;
+                let case = Frame::varied(&generate::case(seed), seed).case();
+                let wrong = run::outcome_with(&case.bytes, &case.limits, mistake);
+                frame::text(&wrong) != printed[place]
+            })
+        });
+        let by_portal = sides.portal.map(|portal| {
+            let call = |job: &[u8], budget, area: &mut [u8]| portal.call(job, budget, area);
+            (seed..seed + jobs).find(|&seed| {
+                portal_unlike(&call, &generate::case(seed), spare(seed), mistake).is_some()
+            })
+        });
+        println!(
+            "{mistake:?}: replay {}, portal {}",
+            place(by_replay),
+            place(by_portal)
+        );
+        // The portal tells no steps and always has 512 places.
+        let hidden = matches!(mistake, Mistake::StopCountsStep | Mistake::TableFullAt512);
+        all &= by_replay != Some(None) && (hidden || by_portal != Some(None));
+    }
+    println!(
+        "{}",
+        if all {
+            "each mistake was found"
+        } else {
+            "a mistake was not found"
+        }
+    );
+    all
+}
+
+fn place<T: std::fmt::Display>(found: Option<Option<T>>) -> String {
+    match found {
+        None => String::from("not tried"),
+        Some(None) => String::from("not found"),
+        Some(Some(place)) => format!("found by job {place}"),
+    }
+}

@@ -1,0 +1,23 @@
+//! Compares the proved programs with the reference, and measures them.
+//!
+//! - [`frame`]: the frames that `replay` reads, and what it must print.
+//! - [`replay`]: a `replay` process.
+//! - [`portal`]: the portal that is tried: linked, fast, or the reference.
+//! - [`programs`]: what `board` and `inspect` must print.
+//! - [`differential`]: whole outcomes against the reference.
+//! - [`leaks`]: pairs of jobs that agree on their public parts.
+//! - [`quick`]: outcomes of the fast version.
+//! - [`workloads`] and [`clock`]: the jobs that are measured, and how.
+//! - [`arguments`] and [`progress`]: the command lines and the progress lines.
+
+pub mod arguments;
+pub mod clock;
+pub mod differential;
+pub mod frame;
+pub mod leaks;
+pub mod portal;
+pub mod programs;
+pub mod progress;
+pub mod quick;
+pub mod replay;
+pub mod workloads;

@@ -1,0 +1,88 @@
+//! The portal that is tried.
+
+use reference::mistake::Mistake;
+use reference::run::{self, Limits, MAX_PLACES};
+
+#[cfg(portal_linked)]
+extern "C" {
+    fn portal_run(
+        job: *const u8,
+        job_len: usize,
+        budget: u64,
+        lines: *mut u8,
+        lines_len: usize,
+    ) -> u64;
+}
+
+#[derive(Clone, Copy, Debug, PartialEq, Eq)]
+pub enum Portal {
+    /// `portal_run` of `libportal.a`.
+    Linked,
+    /// The fast version.
+    Fast,
+    /// The reference, as it is or with a planted mistake.
+    Reference(Mistake),
+}
+
+impl Portal {
+    /// The linked portal, if this build has one.
+    pub fn linked() -> Option<Portal> {
+        cfg!(portal_linked).then_some(Portal::Linked)
+    }
+
+    pub fn name(self) -> String {
+        match self {
+            Portal::Linked => String::from("portal_run of libportal.a"),
+            Portal::Fast => String::from("the fast version as a portal"),
+            Portal::Reference(Mistake::None) => String::from("the reference as a portal"),
+            Portal::Reference(mistake) => format!("the reference with {mistake:?} as a portal"),
+        }
+    }
+
+    /// The ending times 4,294,967,296 plus the line count.
+    pub fn call(self, job: &[u8], budget: u64, area: &mut [u8]) -> u64 {
+        match self {
+            Portal::Linked => call_linked(job, budget, area),
+            Portal::Fast => fast::entry::portal(job, budget, area),
+            Portal::Reference(mistake) => call_reference(job, budget, area, mistake),
+        }
+    }
+}
+
+#[cfg(portal_linked)]
+fn call_linked(job: &[u8], budget: u64, area: &mut [u8]) -> u64 {
+    // SAFETY: both slices are valid for their lengths and do not overlap; the
+    // portal keeps neither.
+    unsafe {
+        portal_run(
+            job.as_ptr(),
+            job.len(),
+            budget,
+            area.as_mut_ptr(),
+            area.len(),
+        )
+    }
+}
+
+#[cfg(not(portal_linked))]
+fn call_linked(_: &[u8], _: u64, _: &mut [u8]) -> u64 {
+    unreachable!("no portal is linked")
+}
+
+fn call_reference(job: &[u8], budget: u64, area: &mut [u8], mistake: Mistake) -> u64 {
+    let limits = Limits {
+        places: MAX_PLACES,
+        lines: area.len() / 4,
+        ..Limits::ample(budget)
+    };
+    let outcome = run::outcome_with(job, &limits, mistake);
+    for (line, bytes) in outcome.lines.iter().zip(area.chunks_exact_mut(4)) {
+        bytes.copy_from_slice(&line.to_le_bytes());
+    }
+    answer(outcome.ending.number(), outcome.lines.len())
+}
+
+/// "the ending times 4,294,967,296 plus the line count"
+pub fn answer(ending: u32, lines: usize) -> u64 {
+    u64::from(ending) * 4_294_967_296 + lines as u64
+}

@@ -1,0 +1,111 @@
+//! What the programs `board` and `inspect` must print for a job.
+
+use std::fmt::Write;
+use std::io::Write as _;
+use std::process::{Command, Stdio};
+use std::thread;
+
+use reference::ending::Ending;
+use reference::portal::{self, BOARD_BUDGET, BOARD_LINES};
+use reference::run::{self, Limits};
+
+/// Standard output and standard error of a program.
+#[derive(Clone, Debug, PartialEq, Eq)]
+pub struct Streams {
+    pub output: String,
+    pub error: String,
+}
+
+/// The board runner, "byte for byte as the paper says".
+pub fn board(job: &[u8]) -> Streams {
+    let board = portal::board(job);
+    Streams {
+        output: board.output,
+        error: board.error,
+    }
+}
+
+/// For the house: "the ending with its name, the record, the steps, the lines,
+/// the variables with levels, and the last tree, indented, with levels and
+/// values; for a refusal, the number, its name and the record", under the
+/// limits of the board runner.
+pub fn inspect(job: &[u8]) -> Streams {
+    let limits = Limits {
+        lines: BOARD_LINES,
+        ..Limits::ample(BOARD_BUDGET)
+    };
+    let outcome = run::outcome(job, &limits);
+    let (number, name) = (outcome.ending.number(), name(outcome.ending));
+    let mut text = format!("ending {number} {name}\nrecord {}\n", outcome.index);
+    if let Some(last) = &outcome.last {
+        writeln!(text, "steps {}", outcome.steps).unwrap();
+        writeln!(text, "lines {}", outcome.lines.len()).unwrap();
+        for line in &outcome.lines {
+            writeln!(text, "  {line}").unwrap();
+        }
+        writeln!(text, "variables {}", last.variables.len()).unwrap();
+        for (index, (level, value)) in last.variables.iter().enumerate() {
+            writeln!(text, "  {index}: level {level}, value {value}").unwrap();
+        }
+        writeln!(text, "tree {}", last.tree.len()).unwrap();
+        for row in &last.tree {
+            let indent = "  ".repeat(row.depth + 1);
+            let levels = [row.existence, row.content, row.list];
+            let [existence, content, list] = levels;
+            writeln!(
+                text,
+                "{indent}value {}, existence {existence}, content {content}, list {list}",
+                row.value
+            )
+            .unwrap();
+        }
+    }
+    Streams {
+        output: text,
+        error: String::new(),
+    }
+}
+
+fn name(ending: Ending) -> &'static str {
+    match ending {
+        Ending::Finished => "finished",
+        Ending::Size => "wrong size",
+        Ending::Layout => "broken layout",
+        Ending::Count => "count out of range",
+        Ending::VariableLevel => "variable level out of range",
+        Ending::Parent => "parent rule broken",
+        Ending::Tree => "tree rule broken",
+        Ending::Field => "command or field out of range",
+        Ending::Block => "blocks do not match",
+        Ending::Budget => "budget out of range",
+        Ending::Buffer => "buffers do not fit",
+        Ending::Rule => "flow rule broken",
+        Ending::Missing => "node does not exist",
+        Ending::TableFull => "table full",
+        Ending::LinesFull => "board full",
+        Ending::BudgetUsed => "budget used up",
+        Ending::BelowExistence => "context below the node",
+    }
+}
+
+/// What the program at `path` prints for the job on its standard input.
+pub fn printed(path: &str, job: &[u8]) -> Result<Streams, String> {
+    let mut child = Command::new(path)
+        .stdin(Stdio::piped())
+        .stdout(Stdio::piped())
+        .stderr(Stdio::piped())
+        .spawn()
+        .map_err(|error| format!("{path} does not start: {error}"))?;
+    let mut input = child.stdin.take().expect("piped");
+    let job = job.to_vec();
+    // A program need not read all of a job that is too long.
+    let writer = thread::spawn(move || drop(input.write_all(&job)));
+    let output = child
+        .wait_with_output()
+        .map_err(|error| error.to_string())?;
+    writer.join().expect("the writer ends");
+    Ok(Streams {
+        output: String::from_utf8_lossy(&output.stdout).into_owned(),
+        error: String::from_utf8_lossy(&output.stderr).into_owned(),
+    })
+}

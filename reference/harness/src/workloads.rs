@@ -1,0 +1,324 @@
+//! The jobs that are measured. Each is bytes and a budget; both sides get the
+//! same.
+
+use reference::job::{Job, Node, Record, Variable, MAX_NODES, MAX_RECORDS, MAX_VARIABLES};
+use reference::source::*;
+
+/// What a row's time is divided by.
+#[derive(Clone, Copy, Debug, PartialEq, Eq)]
+pub enum Unit {
+    /// Nanoseconds a step, the checks of the job included.
+    Step,
+    /// Microseconds a call.
+    Call,
+}
+
+pub struct Workload {
+    pub name: String,
+    pub job: Vec<u8>,
+    pub budget: u64,
+    /// Bytes lent for lines.
+    pub area: usize,
+    pub unit: Unit,
+}
+
+/// Long enough that the checks are a small part, short enough that most
+/// samples are not interrupted.
+const STEPS: u64 = 250_000;
+
+const PLAIN: [u8; 3] = [0, 0, 0];
+
+fn long(name: &str, variables: &[Variable], nodes: &[Node], script: &[Record]) -> Workload {
+    Workload {
+        name: String::from(name),
+        job: job(variables, nodes, script).encode(),
+        budget: STEPS,
+        area: 0,
+        unit: Unit::Step,
+    }
+}
+
+/// `body` again and again, until the budget is used up.
+fn endless(body: &[Record]) -> Vec<Record> {
+    [&[repeat(1)], body, &[end()]].concat()
+}
+
+/// The rows of the table.
+pub fn table() -> Vec<Workload> {
+    vec![
+        counting(),
+        walk(MAX_NODES),
+        chain_walk(),
+        churn(20),
+        sibling_churn(),
+        children_read(500),
+        subtrees(),
+        guards(),
+        checking(
+            "checking a small job (20 nodes, 29 records)",
+            &small_parts(),
+        ),
+        checking(
+            "checking a full job, all nodes below the root",
+            &full(|_| 0),
+        ),
+        checking(
+            "checking a full job, each node below the last",
+            &full(|index| index - 1),
+        ),
+        small_job(),
+    ]
+}
+
+/// The same work at three sizes.
+pub struct Growth {
+    pub name: &'static str,
+    pub sizes: [usize; 3],
+    pub workloads: [Workload; 3],
+}
+
+impl Growth {
+    fn new(name: &'static str, sizes: [usize; 3], workload: impl Fn(usize) -> Workload) -> Growth {
+        Growth {
+            name,
+            sizes,
+            workloads: sizes.map(workload),
+        }
+    }
+}
+
+/// From 8 to 512 nodes, with the same script or one of the same length.
+pub fn by_nodes() -> Vec<Growth> {
+    let sizes = [8, 64, 512];
+    vec![
+        Growth::new("walk of all nodes", sizes, walk),
+        Growth::new("insert and remove, one place free", sizes, |nodes| {
+            churn(nodes - 1)
+        }),
+        Growth::new("children read at the root", sizes, |nodes| {
+            children_read(nodes - 1)
+        }),
+    ]
+}
+
+/// From 10 to 1,000 records, the loop's two included.
+pub fn by_records() -> Vec<Growth> {
+    let sizes = [10, 100, 1_000];
+    let add_one = |index: usize| assign(index % 8, sum(variable(index % 8), constant(1)));
+    vec![
+        Growth::new("assignments to eight variables", sizes, |records| {
+            straight("assignments", records, add_one)
+        }),
+        Growth::new("moves to the root", sizes, |records| {
+            straight("moves to the root", records, |_| root())
+        }),
+    ]
+}
+
+fn wide(count: usize) -> Vec<Node> {
+    let mut nodes = vec![root_node(PLAIN, 10)];
+    nodes.resize(count, node(0, PLAIN, 3));
+    nodes
+}
+
+fn counting() -> Workload {
+    let script = [
+        repeat(less(variable(0), constant(STEPS as i32 / 3))),
+        assign(0, sum(variable(0), constant(1))),
+        end(),
+    ];
+    long("counting loop", &[public_variable(0)], &wide(2), &script)
+}
+
+/// Groups of seven siblings, each group below the last node of the one before.
+/// A turn of the loop makes as many moves for few nodes as for many.
+fn walk(count: usize) -> Workload {
+    let groups = (count - 1) / 7;
+    let mut nodes = vec![root_node(PLAIN, 0)];
+    for group in 0..groups {
+        let parent = 7 * group as u16;
+        nodes.resize(nodes.len() + 7, node(parent, PLAIN, 1));
+    }
+    let most = (MAX_NODES - 1) / 7;
+    let mut body = Vec::new();
+    for turn in 1..=most {
+        body.push(first_child());
+        body.extend([right_sibling(); 6]);
+        if turn % groups == 0 || turn == most {
+            body.push(root());
+        }
+    }
+    long(
+        &format!("walk of {count} nodes"),
+        &[],
+        &nodes,
+        &endless(&body),
+    )
+}
+
+/// A chain down to its end and up again.
+fn chain_walk() -> Workload {
+    let mut nodes = vec![root_node(PLAIN, 0)];
+    nodes.extend((0..MAX_NODES as u16 - 1).map(|parent| node(parent, PLAIN, 1)));
+    let half = [first_child(); MAX_NODES - 1];
+    let body = [&half[..], &[up(); MAX_NODES - 1]].concat();
+    long(
+        "walk down a chain of 512 nodes and up",
+        &[],
+        &nodes,
+        &endless(&body),
+    )
+}
+
+fn churn(count: usize) -> Workload {
+    let body = [new_first_child(0, 7), remove_first_child()].repeat(100);
+    let name = format!("insert and remove, {count} other nodes");
+    long(&name, &[], &wide(count), &endless(&body))
+}
+
+fn sibling_churn() -> Workload {
+    let body = [new_right_sibling(0, 7), remove_right_sibling()].repeat(100);
+    let script = [vec![first_child()], endless(&body)].concat();
+    long("insert and remove a right sibling", &[], &wide(20), &script)
+}
+
+fn children_read(count: usize) -> Workload {
+    let body = [assign(0, children())].repeat(100);
+    let name = format!("children read, {count} children");
+    long(
+        &name,
+        &[public_variable(0)],
+        &wide(count + 1),
+        &endless(&body),
+    )
+}
+
+/// A chain of 50 nodes with 50 leaves, built and dropped whole.
+fn subtrees() -> Workload {
+    let mut body = vec![new_first_child(0, 0), first_child()];
+    for depth in 0..50 {
+        body.extend([
+            new_first_child(0, depth),
+            new_first_child(0, 1),
+            first_child(),
+        ]);
+    }
+    body.extend([root(), remove_first_child()]);
+    long(
+        "build and drop subtrees of 101 nodes",
+        &[],
+        &wide(20),
+        &endless(&body),
+    )
+}
+
+fn guards() -> Workload {
+    let body = [
+        when(less(variable(0), value())),
+        set_value(mean(value(), variable(0))),
+        otherwise(),
+        set_value(sum(value(), constant(7))),
+        end(),
+        when(mean(value(), constant(-3))),
+        assign(0, difference(variable(0), value())),
+        end(),
+        when(variable(1)),
+        assign(1, mean(variable(1), value())),
+        end(),
+    ]
+    .repeat(10);
+    let variables = [public_variable(5), house_variable(1 << 20)];
+    long(
+        "guards with means and sets",
+        &variables,
+        &wide(20),
+        &endless(&body),
+    )
+}
+
+fn straight(what: &str, records: usize, record: impl Fn(usize) -> Record) -> Workload {
+    let body: Vec<Record> = (0..records - 2).map(record).collect();
+    long(
+        &format!("{records} records, {what}"),
+        &[public_variable(0); 8],
+        &wide(8),
+        &endless(&body),
+    )
+}
+
+/// A budget of 0 is turned back after every check of the bytes.
+fn checking(name: &str, parts: &Job) -> Workload {
+    Workload {
+        name: String::from(name),
+        job: parts.encode(),
+        budget: 0,
+        area: 0,
+        unit: Unit::Call,
+    }
+}
+
+/// As many of everything as there may be.
+fn full(parent: fn(u16) -> u16) -> Job {
+    let mut nodes = vec![root_node(PLAIN, 0)];
+    nodes.extend((1..MAX_NODES as u16).map(|index| node(parent(index), PLAIN, 1)));
+    let some = [
+        assign(0, sum(variable(0), variable(63))),
+        when(less(value(), children())),
+        set_value(mean(value(), variable(1))),
+        end(),
+    ];
+    job(
+        &[public_variable(1); MAX_VARIABLES],
+        &nodes,
+        &some.repeat(MAX_RECORDS / 4),
+    )
+}
+
+/// Twenty nodes below three parents, and a script that counts to eight.
+fn small_parts() -> Job {
+    let mut nodes = vec![root_node(PLAIN, 10)];
+    nodes.extend([node(0, PLAIN, 1), node(0, PLAIN, 2), node(0, PLAIN, 3)]);
+    nodes.extend((4..20).map(|index| node(1 + index % 3, PLAIN, i32::from(index))));
+    let mut script = vec![
+        repeat(less(variable(0), constant(8))),
+        assign(0, sum(variable(0), constant(1))),
+        end(),
+        first_child(),
+        first_child(),
+        print(value()),
+        right_sibling(),
+        print(value()),
+        up(),
+        right_sibling(),
+        print(children()),
+        new_first_child(0, sum(value(), constant(1))),
+        new_right_sibling(1, value()),
+        remove_first_child(),
+        root(),
+        set_value(mean(value(), variable(0))),
+        when(value()),
+        print(value()),
+        end(),
+        cover(),
+        when(variable(1)),
+        first_child(),
+        otherwise(),
+        first_child(),
+        end(),
+        root(),
+        print(variable(0)),
+    ];
+    script.resize(29, nothing());
+    job(&[public_variable(0), house_variable(1)], &nodes, &script)
+}
+
+/// Twenty nodes, fifty steps, five lines.
+fn small_job() -> Workload {
+    Workload {
+        name: String::from("whole small job (20 nodes, 50 steps)"),
+        job: small_parts().encode(),
+        budget: 100,
+        area: 64,
+        unit: Unit::Call,
+    }
+}

@@ -1,0 +1,118 @@
+"""docs/endings: the pages, the code and the monitor have the same endings, and each page's smallest job ends as it says."""
+
+import re
+import struct
+import subprocess
+import unittest
+
+from support import HOME, assembled, job, program
+
+# "Ways a job can end" of paper 01.
+NUMBERS = [*range(1, 11), *range(21, 27)]
+BY_REPLAY = (9, 10)
+NEVER = 26
+
+
+def read(path):
+    return (HOME / path).read_text(encoding="utf-8")
+
+
+class Page:
+    def __init__(self, path):
+        self.text = path.read_text(encoding="utf-8")
+        self.number, self.name = re.match(r"# (\d+): (.+)\n", self.text).groups()
+        self.number = int(self.number)
+        self.c_name, self.rules_name = re.search(r"^In C: `(\w+)`\. In crate `rules`: `(\w+)`\.$", self.text, re.M).groups()
+
+    def block(self, kind):
+        """The one fenced block of this kind, or None."""
+        found = re.findall(rf"^```{kind}\n(.*?)^```$", self.text, re.M | re.S)
+        assert len(found) <= 1, f"page {self.number} has {len(found)} blocks {kind}"
+        return found[0] if found else None
+
+    def job(self):
+        source, digits = self.block("yoke"), self.block("hex")
+        assert (source is None) != (digits is None), f"page {self.number} needs one job, as yoke or hex"
+        return assembled(source) if source else bytes.fromhex("".join(digits.split()))
+
+    def frame(self):
+        """The job as a frame of replay, with the limits that the page names."""
+        budget, places, lines = (int(n) for n in re.search(r"budget (\d+), places (\d+), lines (\d+)", self.text).groups())
+        return struct.pack("<IIHH", len(self.job()), budget, places, lines) + self.job()
+
+
+PAGES = {path.name: Page(path) for path in sorted((HOME / "docs" / "endings").glob("*.md")) if path.name != "README.md"}
+
+
+def answer(name, data):
+    return subprocess.run([program(name)], input=data, stdout=subprocess.PIPE, check=False).stdout.decode()
+
+
+class Lists(unittest.TestCase):
+    def test_a_page_for_each_number(self):
+        self.assertEqual(list(PAGES), [f"{number:02}.md" for number in NUMBERS])
+        self.assertEqual([page.number for page in PAGES.values()], NUMBERS)
+
+    def test_index(self):
+        rows = re.findall(r"^\| \[(\d+)\]\((\d+\.md)\) \| ([^|]+) \|", read("docs/endings/README.md"), re.M)
+        self.assertEqual(rows, [(str(page.number), name, page.name) for name, page in PAGES.items()])
+
+    def test_tool(self):
+        self.assertEqual(job.ENDINGS, {0: "finished", **{page.number: page.name for page in PAGES.values()}})
+
+    def test_header(self):
+        found = re.findall(r"\b(PORTAL_[A-Z_]+)\b\s*=?\s*(\d+)\b", read("include/portal.h"))
+        self.assertEqual({(name, int(number)) for name, number in found},
+                         {("PORTAL_FINISHED", 0), *((page.c_name, page.number) for page in PAGES.values())})
+
+    def test_names_of_the_programs(self):
+        names = {0: "finished", **{page.number: page.name for page in PAGES.values()}}
+        found = re.findall(r'^\s*(\d+) => .*b"([^"]+)"', read("crates/inspect/src/names.rt"), re.M)
+        self.assertEqual({int(number): name for number, name in found}, names)
+        c_names = {"PORTAL_FINISHED": "finished", **{page.c_name: page.name for page in PAGES.values()}}
+        found = re.findall(r'case (PORTAL_\w+):\s*return "([^"]+)"', read("examples/portal.c"))
+        self.assertEqual(dict(found), c_names)
+
+    def test_code(self):
+        found = re.findall(r"^pub const (\w+): u8 = (\d+);$", read("crates/rules/src/limits.rt"), re.M)
+        self.assertEqual({(name, int(number)) for name, number in found},
+                         {(page.rules_name, page.number) for page in PAGES.values()})
+
+    def test_definitions(self):
+        refusals = re.findall(r"^bad\w+ = (\d+)$", read("crates/rules/specs/Limits.antt"), re.M)
+        stops = re.findall(r"^stopNumber \w+ = (\d+)$", read("crates/rules/specs/Run.antt"), re.M)
+        self.assertEqual([int(number) for number in refusals + stops], NUMBERS)
+
+
+class Jobs(unittest.TestCase):
+    def test_inspect(self):
+        for page in PAGES.values():
+            if page.number == NEVER or page.number in BY_REPLAY:
+                continue
+            with self.subTest(page.number):
+                said = page.block("text")
+                self.assertEqual(said.split("\n")[0], f"ending {page.number} {page.name}")
+                got = answer("inspect", page.job())
+                if page.number <= 10:
+                    self.assertEqual(got, said)  # a refusal has these two lines only
+                else:
+                    self.assertEqual(said.count("\n"), 4)  # ending, record, steps, lines
+                    self.assertEqual("".join(got.splitlines(True)[:4]), said)
+
+    def test_replay(self):
+        for page in PAGES.values():
+            if page.number in BY_REPLAY:
+                with self.subTest(page.number):
+                    self.assertEqual(answer("replay", page.frame()), page.block("text"))
+                    self.assertIn(f"ending {page.number} ", page.block("text"))
+
+    def test_the_ending_that_no_run_gives(self):
+        page = PAGES[f"{NEVER}.md"]
+        self.assertIn("It is proved that no run gives it", page.text)
+        self.assertEqual([page.block(kind) for kind in ("yoke", "hex", "text")], [None] * 3)
+        proof = re.search(r"`(crates/\S+\.antt)`", page.text).group(1)
+        self.assertTrue((HOME / proof).is_file(), proof)
+
+
+if __name__ == "__main__":
+    unittest.main(verbosity=2)

@@ -1,0 +1,78 @@
+/* The call portal_run from C: endings, lines, and that nothing else of the area is written. The jobs are those of the paper. */
+#include <stdio.h>
+#include <stdlib.h>
+#include <string.h>
+
+#include "portal.h"
+
+enum { ROOM = 64, MARK = 0xa5 };
+
+static uint8_t area[ROOM];
+static int checked;
+
+static void fail(const char *what, const char *part, long long expected, long long got) {
+    fprintf(stderr, "FAILED: %s: %s: expected %lld, got %lld\n", what, part, expected, got);
+    exit(1);
+}
+
+static void same(const char *what, const char *part, long long expected, long long got) {
+    if (expected != got) {
+        fail(what, part, expected, got);
+    }
+    checked++;
+}
+
+/* Runs a job with the first room bytes of the area, which are marked before; the lines are all to be 10. */
+static void expect(const char *what, const uint8_t *job, size_t length, uint64_t budget, size_t room, int ending, size_t lines) {
+    memset(area, MARK, sizeof area);
+    uint64_t answer = portal_run(job, length, budget, area, room);
+    same(what, "ending", ending, portal_ending(answer));
+    same(what, "lines", (long long)lines, (long long)portal_lines(answer));
+    same(what, "answer", (long long)((uint64_t)ending * 4294967296u + lines), (long long)answer);
+    for (size_t i = 0; i < lines; i++) {
+        same(what, "line", 10, portal_line(area, i));
+    }
+    for (size_t i = 4 * lines; i < sizeof area; i++) {
+        same(what, "a byte behind the lines", MARK, area[i]);
+    }
+}
+
+/* No variables, a root of value 10, command 6 of value: the paper's example. */
+static const uint8_t example[36] = {0xff, 0xff, 0, 0, 0, 0, 0, 0, 10, 0, 0, 0, 6, 0, 0, 2, 0, 0, 0, 0, 0, 0, 0, 0, 0, 0, 0, 0, 0, 0, 0, 0, 12, 0, 28, 0};
+
+/* The same root; while 1, command 6 of value, end. */
+static const uint8_t forever[68] = {
+    0xff, 0xff, 0, 0, 0, 0, 0, 0, 10, 0, 0, 0,
+    4, 0, 0, 0, 0, 0, 0, 0, 1, 0, 0, 0, 0, 0, 0, 0,
+    6, 0, 0, 2, 0, 0, 0, 0, 0, 0, 0, 0, 0, 0, 0, 0,
+    5, 0, 0, 0, 0, 0, 0, 0, 0, 0, 0, 0, 0, 0, 0, 0,
+    0, 0, 0, 0, 12, 0, 60, 0};
+
+int main(void) {
+    static const uint8_t zeros[23049];
+    expect("the paper's example", example, sizeof example, 100000, ROOM, PORTAL_FINISHED, 1);
+    expect("room for one line", example, sizeof example, 1, 4, PORTAL_FINISHED, 1);
+    expect("7 bytes of room", example, sizeof example, 1, 7, PORTAL_FINISHED, 1);
+    expect("3 bytes of room", example, sizeof example, 1, 3, PORTAL_BOARD_FULL, 0);
+    expect("no room", example, sizeof example, 1, 0, PORTAL_BOARD_FULL, 0);
+    expect("room for three lines and 3 bytes", forever, sizeof forever, 100, 15, PORTAL_BOARD_FULL, 3);
+    expect("a budget of 5", forever, sizeof forever, 5, ROOM, PORTAL_BUDGET_USED_UP, 2);
+    expect("a budget of 0", example, sizeof example, 0, ROOM, PORTAL_BAD_BUDGET, 0);
+    expect("a budget of 1000000", example, sizeof example, 1000000, ROOM, PORTAL_FINISHED, 1);
+    expect("a budget of 1000001", example, sizeof example, 1000001, ROOM, PORTAL_BAD_BUDGET, 0);
+    expect("a budget of 2^32 + 1", example, sizeof example, 4294967297u, ROOM, PORTAL_BAD_BUDGET, 0);
+    expect("the largest budget", example, sizeof example, UINT64_MAX, ROOM, PORTAL_BAD_BUDGET, 0);
+    expect("7 bytes", example, 7, 1, ROOM, PORTAL_WRONG_SIZE, 0);
+    expect("no bytes", example, 0, 1, ROOM, PORTAL_WRONG_SIZE, 0);
+    expect("23049 bytes", zeros, 23049, 1, ROOM, PORTAL_WRONG_SIZE, 0);
+    expect("23048 zero bytes", zeros, 23048, 1, ROOM, PORTAL_BROKEN_LAYOUT, 0);
+    expect("8 zero bytes", zeros, 8, 1, ROOM, PORTAL_BAD_COUNT, 0);
+
+    static const uint8_t ends[16] = {0, 0, 0, 0x80, 0xff, 0xff, 0xff, 0x7f, 0xff, 0xff, 0xff, 0xff, 1, 2, 3, 4};
+    same("portal_line", "the least", -2147483647 - 1, portal_line(ends, 0));
+    same("portal_line", "the greatest", 2147483647, portal_line(ends, 1));
+    same("portal_line", "minus one", -1, portal_line(ends, 2));
+    same("portal_line", "four bytes", 0x04030201, portal_line(ends, 3));
+    printf("portal: %d comparisons in C\n", checked);
+    return 0;
+}

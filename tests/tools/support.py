@@ -1,0 +1,106 @@
+"""What the tests of tools/job share: the tool as a module and as a program, the repository's programs, generated jobs."""
+
+import importlib.machinery
+import importlib.util
+import io
+import os
+import struct
+import subprocess
+import sys
+import tempfile
+from pathlib import Path
+from unittest import mock
+
+HOME = Path(__file__).resolve().parent.parent.parent
+TOOL = HOME / "tools" / "job"
+
+
+def load_tool():
+    loader = importlib.machinery.SourceFileLoader("job", str(TOOL))
+    spec = importlib.util.spec_from_loader("job", loader)
+    module = importlib.util.module_from_spec(spec)
+    sys.modules["job"] = module
+    loader.exec_module(module)
+    return module
+
+
+job = load_tool()
+
+
+def program(name):
+    """A program of the repository. Without it there is nothing to test."""
+    path = HOME / "target" / "bin" / name
+    if not path.is_file():
+        raise RuntimeError(f"{path} is missing: run `rt check {name}` first")
+    return str(path)
+
+
+def generator():
+    path = HOME / "reference" / "target" / "release" / "jobs"
+    if not path.is_file():
+        raise RuntimeError(f"{path} is missing: run `cargo build --release --bin jobs` in reference/")
+    return str(path)
+
+
+def generated(kind, seed, count):
+    """Jobs of the reference's generator."""
+    data = subprocess.run([generator(), kind, str(seed), str(count)], stdout=subprocess.PIPE, check=True).stdout
+    jobs, at = [], 0
+    while at < len(data):
+        (length,) = struct.unpack_from("<I", data, at)
+        jobs.append(data[at + 4:at + 4 + length])
+        at += 4 + length
+    assert len(jobs) == count, (len(jobs), count)
+    return jobs
+
+
+def replayed(jobs, budget, places=None, lines=256):
+    """What replay says of each job, as lists of its lines; places are 512, or one number for each job."""
+    frames = b"".join(struct.pack("<IIHH", len(data), budget, room, lines) + data
+                      for data, room in zip(jobs, places or [512] * len(jobs)))
+    text = subprocess.run([program("replay")], input=frames, stdout=subprocess.PIPE, check=True).stdout.decode()
+    answers = [part.split("\n")[1:] for part in ("\n" + text).split("\njob ")[1:]]
+    assert len(answers) == len(jobs), (len(answers), len(jobs))
+    return [[line for line in answer if line] for answer in answers]
+
+
+class Done:
+    """A call of tools/job that has ended."""
+
+    def __init__(self, status, output, error):
+        self.status = status
+        self.bytes = output
+        self.error = error.decode()
+
+    @property
+    def output(self):
+        return self.bytes.decode()
+
+
+def tool(*words, data=b"", **variables):
+    """tools/job, called in this process: a process for each call would take most of a test's time."""
+    given = io.TextIOWrapper(io.BytesIO(data.encode() if isinstance(data, str) else data))
+    output, error = (io.TextIOWrapper(io.BytesIO()) for _ in range(2))
+    with mock.patch.multiple(sys, stdin=given, stdout=output, stderr=error), mock.patch.dict(os.environ, variables):
+        try:
+            status = job.main(list(words))
+        except SystemExit as leaving:
+            status = leaving.code
+        output.flush()
+        error.flush()
+    return Done(status, output.buffer.getvalue(), error.buffer.getvalue())
+
+
+def tool_process(*words, data=b""):
+    """tools/job as its users call it, from the repository's root."""
+    done = subprocess.run(["tools/job", *words], input=data, cwd=HOME, stdout=subprocess.PIPE, stderr=subprocess.PIPE, check=False)
+    return Done(done.returncode, done.stdout, done.stderr)
+
+
+def assembled(text):
+    """A source's bytes."""
+    return job.parse(text, "test").job.encode()
+
+
+def scratch():
+    return tempfile.TemporaryDirectory()

@@ -1,0 +1,66 @@
+"""Help texts, and the help pages of the endings."""
+
+import unittest
+
+from support import HOME, job, tool, tool_process
+
+VERBS = ("assemble", "list", "picture", "explain", "run")
+
+
+class Help(unittest.TestCase):
+    def test_each_fits_in_80_columns(self):
+        for words in (("--help",), *((verb, "--help") for verb in VERBS)):
+            with self.subTest(words):
+                done = tool(*words, COLUMNS="80")
+                self.assertEqual((done.status, done.error), (0, ""))
+                self.assertEqual([line for line in done.output.split("\n") if len(line) > 80], [])
+
+    def test_the_source_in_the_help_is_one(self):
+        help_text = tool("--help", COLUMNS="80").output
+        source = help_text.split("a source:\n")[1].split("\nstatements:\n")[0]
+        parsed = job.parse(source, "help")
+        self.assertIsNone(job.check(parsed.job.encode()))
+        self.assertEqual(len(parsed.job.nodes), 5)
+
+    def test_the_commands_in_the_help_are_all(self):
+        help_text = tool("--help", COLUMNS="80").output.split("statements:\n")[1]
+        for row in job.COMMANDS:
+            if row.words != "end":
+                self.assertIn(row.words, help_text)
+
+    def test_no_verb(self):
+        done = tool()
+        self.assertEqual(done.status, 2)
+        self.assertIn("VERB", done.error)
+
+    def test_as_a_program(self):
+        self.assertEqual(tool_process("explain", "0").output, "0 is no fault: the script came to its end.\n")
+
+
+class Explain(unittest.TestCase):
+    def test_each_page(self):
+        for number, name in job.ENDINGS.items():
+            if number:
+                done = tool("explain", str(number))
+                self.assertEqual((done.status, done.error), (0, ""))
+                self.assertEqual(done.output, (HOME / "docs" / "endings" / f"{number:02}.md").read_text(encoding="utf-8"))
+                self.assertTrue(done.output.startswith(f"# {number}: {name}\n"))
+                self.assertEqual([line for line in done.output.split("\n") if len(line) > 80], [])
+
+    def test_the_list(self):
+        done = tool("explain")
+        for number, name in job.ENDINGS.items():
+            self.assertIn(f"  {number:2}  {name}\n", done.output)
+
+    def test_no_such_ending(self):
+        for number in ("11", "20", "27"):
+            done = tool("explain", number)
+            self.assertEqual((done.status, done.output), (2, ""))
+            self.assertIn(f"there is no ending {number}", done.error)
+
+    def test_no_number(self):
+        self.assertEqual(tool("explain", "flow").status, 2)
+
+
+if __name__ == "__main__":
+    unittest.main()

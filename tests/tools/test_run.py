@@ -1,0 +1,225 @@
+"""run: outcomes with names, lines and reasons. The monitor's answer comes from the repository's inspect."""
+
+import unittest
+from pathlib import Path
+
+from support import HOME, assembled, generated, job, program, replayed, scratch, tool
+
+
+def run(text, **variables):
+    return tool("run", "-", data=text, **{"INSPECT": program("inspect"), **variables})
+
+
+def script(*lines, variables="  v = 0\n  h house = 1\n", tree="  resort = 10\n    slope = 3\n"):
+    """A source whose script starts in line 2 + its variables + its nodes + 2."""
+    return f"variables\n{variables}tree\n{tree}script\n" + "".join(f"  {line}\n" for line in lines)
+
+
+FIRST = 8  # the line of the script's first statement in script(..) as it is by default
+
+
+class Finished(unittest.TestCase):
+    def test_outcome_with_names(self):
+        done = run(script("h := h + value", "new first child content house: 7", "print children", "remove first child",
+                          "first child", "set 4"))
+        self.assertEqual(done.error, "")
+        self.assertEqual(done.output, "<standard input>: finished after 6 steps\n\nboard, 1 line\n  2\n\n"
+                         "variables at the end\n  v = 0\n  h house = 11\n\n"
+                         "tree at the end\n  resort = 10\n  └─ slope = 4\n")
+        self.assertEqual(done.status, 0)
+
+    def test_a_new_node_is_named_for_its_line(self):
+        done = run(script("new first child content house: 7"))
+        self.assertIn("  ├─ new_8 = 7   [house value]\n", done.output)
+
+    def test_a_job(self):
+        with scratch() as folder:
+            path = Path(folder, "x.job")
+            path.write_bytes(assembled(script("first child", "first child")))
+            done = tool("run", str(path), INSPECT=program("inspect"))
+        self.assertEqual(done.status, 1)
+        self.assertIn("x.job:9:3: stopped with 22 (node does not exist) after 1 step\n", done.output)
+        self.assertIn("The cursor stands on n1. n1 has no child.", done.output)
+
+
+class Stopped(unittest.TestCase):
+    def stops(self, text, line, column, number, steps, *parts):
+        done = run(text)
+        with self.subTest(text):
+            self.assertEqual((done.status, done.error), (1, ""))
+            first = done.output.split("\n")[0]
+            self.assertEqual(first, f"<standard input>:{line}:{column}: stopped with {number} ({job.ENDINGS[number]}) after {steps}")
+            quoted = text.split("\n")[line - 1]
+            self.assertIn(f"{line:>6} | {quoted}\n", done.output)
+            self.assertIn("       | " + " " * (column - 1) + "^", done.output)
+            for part in parts:
+                self.assertIn(part, " ".join(done.output.split()))
+            self.assertIn(f"More: tools/job explain {number}\n", done.output)
+
+    def test_assignment(self):
+        self.stops(script("v := h"), FIRST, 3, 21, "0 steps", "v public the variable that should take the number",
+                   "h house a variable", "context public no block is open", "cursor level public",
+                   "Declare a house variable and use it in place of `v`", "do without `h`")
+
+    def test_assignment_in_an_else(self):
+        self.stops(script("if h - 1", "  nothing", "else", "  v := 1"), FIRST + 3, 5, 21, "1 step",
+                   "context house line 8 (if h - 1) has a house guard", "Put the assignment outside the block of line 8")
+
+    def test_print(self):
+        self.stops(script("print value", tree="  resort content house = 10\n"), FIRST - 1, 3, 21, "0 steps",
+                   "A board line must be public", "value house the content level of resort", "do without `value`")
+
+    def test_print_of_children(self):
+        self.stops(script("print 1 + children", tree="  resort list house = 10\n"), FIRST - 1, 3, 21, "0 steps",
+                   "children house the list level of resort", "do without `children`")
+
+    def test_print_under_cover(self):
+        self.stops(script("cover", "print value"), FIRST + 1, 3, 21, "1 step", "value house the cursor level joins it",
+                   "cursor level house since line 8 (cover)", "Write `root` before the print")
+
+    def test_move(self):
+        for move in ("first child", "root", "cover"):
+            self.stops(script("if h", f"  {move}"), FIRST + 1, 5, 21, "1 step", "The cursor moves only if",
+                       "context house line 8 (if h) has a house guard", "Write `cover` before line 8")
+
+    def test_new_node(self):
+        self.stops(script("if h", "  new first child: 1"), FIRST + 1, 5, 21, "1 step", "list of resort public the parent",
+                   "existence of slope public would stand right of the new node", "`resort list house = ...`",
+                   "House nodes stand right of all public siblings")
+
+    def test_new_sibling(self):
+        self.stops(script("first child", "if h", "  new right sibling: 1"), FIRST + 2, 5, 21, "2 steps",
+                   "list of resort public the parent", "`resort list house = ...`")
+
+    def test_removal(self):
+        self.stops(script("if h", "  remove first child"), FIRST + 1, 5, 21, "1 step", "existence of slope public the node to remove",
+                   "A house node may be removed here")
+
+    def test_set(self):
+        self.stops(script("set h"), FIRST, 3, 21, "0 steps", "content of resort public the node that should take the value",
+                   "`resort content house = ...`", "do without `h`")
+
+    def test_missing_nodes(self):
+        self.stops(script("up"), FIRST, 3, 22, "0 steps", "resort is the root: it has no parent and no siblings")
+        self.stops(script("new right sibling: 1"), FIRST, 3, 22, "0 steps", "resort is the root")
+        self.stops(script("first child", "remove first child"), FIRST + 1, 3, 22, "1 step", "slope has no child", "`if children`")
+        self.stops(script("first child", "right sibling"), FIRST + 1, 3, 22, "1 step", "slope has no sibling to its right")
+
+    def test_full_table(self):
+        self.stops(script("while 1", "  new first child: 1"), FIRST + 1, 5, 23, "1,531 steps",
+                   "The tree has 512 nodes, and there is room for 512", "Look at the loop of line 8, `while 1`")
+
+    def test_full_board(self):
+        self.stops(script("while 1", "  print 1"), FIRST + 1, 5, 24, "769 steps", "The board has 256 lines", "`while 1`")
+
+    def test_used_budget(self):
+        # 100,000 steps are 33,333 rounds of while, nothing, end, and one while: nothing is next.
+        self.stops(script("while 1", "  nothing"), FIRST + 1, 5, 25, "100,000 steps", "Look at the loop of line 8, `while 1`")
+
+    def test_used_budget_at_an_end(self):
+        # The while costs two steps a round behind one step: after 100,000 steps the end is next.
+        self.stops(script("nothing", "while 1"), FIRST + 1, 3, 25, "100,000 steps", "at the end of the block that this line opens")
+
+
+class Refused(unittest.TestCase):
+    def test_a_tree_rule(self):
+        done = run("tree\n  resort = 1\n    safe house = 2\n")
+        self.assertEqual(done.status, 1)
+        self.assertTrue(done.output.startswith("<standard input>:3:5: refused with 6 (tree rule broken)\n"), done.output)
+        self.assertIn("     3 |     safe house = 2\n       |     ^^^^\n", done.output)
+        self.assertIn("safe: it is a house node under resort, whose list level is public.", done.output)
+
+    def test_no_node(self):
+        done = run("script\n  up\n")
+        self.assertEqual(done.status, 1)
+        self.assertTrue(done.output.startswith("<standard input>: refused with 3 (count out of range)\n"), done.output)
+
+    def test_an_empty_job(self):
+        with scratch() as folder:
+            path = Path(folder, "x.job")
+            path.write_bytes(b"")
+            done = tool("run", str(path), INSPECT=program("inspect"))
+        self.assertEqual(done.status, 1)
+        self.assertIn("refused with 1 (wrong size): the job has 0 bytes", done.output)
+
+    def test_a_damaged_job(self):
+        done = run(bytes(8))
+        self.assertEqual(done.status, 1)
+        self.assertIn("<standard input>: refused with 3 (count out of range): the job has 0 nodes", done.output)
+
+
+class Programs(unittest.TestCase):
+    def test_inspect_is_missing(self):
+        done = run("tree\n  a = 1\n", INSPECT="/no/such/program")
+        self.assertEqual((done.status, done.output), (2, ""))
+        self.assertIn("inspect is not there", done.error)
+        self.assertIn("rt check inspect", done.error)
+
+    def test_inspect_answers_something_else(self):
+        with scratch() as folder:
+            path = Path(folder, "inspect")
+            path.write_text("#!/bin/sh\ncat >/dev/null\necho hello\n")
+            path.chmod(0o755)
+            done = run("tree\n  a = 1\n", INSPECT=str(path))
+        self.assertEqual((done.status, done.output), (2, ""))
+        self.assertIn("'ending' expected in line 1, there is 'hello'", done.error)
+
+    def answered(self, text, answer):
+        """A run with a monitor that answers this, whatever the job."""
+        with scratch() as folder:
+            path = Path(folder, "inspect")
+            path.write_text(f"#!/bin/sh\ncat >/dev/null\ncat <<'.'\n{answer}.\n")
+            path.chmod(0o755)
+            return run(text, INSPECT=str(path))
+
+    def test_another_monitor_is_not_explained(self):
+        """The reasons come from following the rules; they are shown only where the monitor came to the same end."""
+        done = self.answered("tree\n  a = 1\nscript\n  print value\n",
+                             "ending 21 flow rule broken\nrecord 0\nsteps 0\nlines 0\n"
+                             "variables 0\ntree 1\n  value 1, existence 0, content 0, list 0\n")
+        self.assertEqual(done.status, 1)
+        self.assertIn("came to another end than the monitor", done.output)
+        self.assertNotIn("The rule:", done.output)
+
+    def test_another_monitor_refuses(self):
+        done = self.answered("tree\n  a = 1\n", "ending 6 tree rule broken\nrecord 4\n")
+        self.assertEqual(done.status, 1)
+        self.assertIn("refused with 6 (tree rule broken)\n  at record 4\n", done.output)
+
+    def test_another_monitor_accepts(self):
+        done = self.answered("script\n  up\n", "ending 0 finished\nrecord 0\nsteps 0\nlines 0\nvariables 0\ntree 0\n")
+        self.assertEqual((done.status, done.output), (2, ""))
+        self.assertIn("this tool holds that it is refused with 3", done.error)
+
+
+class Followed(unittest.TestCase):
+    def test_generated_jobs(self):
+        """The rules as the tool follows them, beside the monitor."""
+        budget = 1_500
+        jobs = generated("clean", 70_000, 400)
+        places = [min(512, len(job.decode(data).nodes) + 2) for data in jobs]
+        seen = set()
+        for data, room, answer in zip(jobs, places, replayed(jobs, budget, places, 3)):
+            source = job.parse(job.listing(job.decode(data)), "test")
+            state = job.Run(source, budget, room, 3).go()
+            index = state.at if state.ending else 0
+            rows = [f"ending {state.ending} index {index} steps {state.steps} lines {len(state.board)}"]
+            rows += [f"line {line}" for line in state.board]
+            rows += [f"variable {v.level} {value}" for v, value in zip(source.job.variables, state.values)]
+            rows += [f"node {n.depth} {n.existence} {n.content} {n.list} {n.value}" for n in job.drawn_tree(state.root)]
+            self.assertEqual(answer, rows, data.hex())
+            seen.add(state.ending)
+            if state.ending:
+                self.assertTrue(job.account_lines(job.Account(state)))
+        self.assertEqual(seen, {0, 21, 22, 23, 24, 25})
+
+    def test_examples(self):
+        for path in sorted((HOME / "examples").glob("*.yoke")):
+            with self.subTest(path.name):
+                done = tool("run", str(path), INSPECT=program("inspect"))
+                self.assertNotIn("another end", done.output)
+                self.assertEqual(done.error, "")
+
+
+if __name__ == "__main__":
+    unittest.main()
