@@ -21,7 +21,7 @@ use Rattle.table.proofs.Frames as Frames
 -- lengths stay
 pub length-stored : (ws : List ℕ) (n : ℕ) (ns : List Node) → length (stored ws n ns) ≡ length ns
 length-stored ws zero ns = refl
-length-stored ws (suc n) ns = length-set (stored ws n ns) n (nodeOf (cells ws n)) ∙ length-stored ws n ns
+length-stored ws (suc n) ns = length-set (stored ws n ns) n _ ∙ length-stored ws n ns
 
 length-put : (ws : List ℕ) (x : ℕ) (d : Node) → length (putNode ws x d) ≡ length ws
 unfolding putNode

@@ -1,6 +1,17 @@
--- `entry::run_job` meets its contract: a walk of its MIR, by hand. A local array of words is lent to the run for a lifetime of that call, and then, for a
--- lifetime of the second call, to `store`, which fills the lent records; the other slices are passed on as they came. Assumes nothing.
-use Rattle.monitor.proofs.Walk.{_≡_, refl, sym, ap, _∙_, subst, ℕ, _<_, _≤_, _^_, _*_, [], _∷_, List, length, replicate, lit<, URA, fullShare, named, w32, w64, tyInt, tyUnit, tyArray, Ty, Val, WT, hasTy, vunit, vint, SProp, ent, sep, emp, via, fst∗, snd∗, exE, id⊢, Lft, Share, GName, Fml, ftrue, fat, flft, flent, Memory, Routine, Heap, WpFn, Tables, Atoms, sem, Fun, fact, givenOf, tables, tablesOf, Given, Item, ‵, raw, given, _⊛_, some, later, ⋆, _$_, _∵_, !, qed, by, move, keep, drop, use0, use1, use2, use3, split, join, pick, learn, rewrite, fsplit, fjoin, feqL, feqI, suffices, frame, await, done, look, init, forget, stop, hop, fld, from, load, lit, of-opd, addr, agg, and-then, no-more, assigns, land, returns, enter, alloc1, alloc0, params1, pass1, pass0, free1, free0, lft-new, lft-end, lent-back, whole, sub, look-in, arr-parts, shares, fmOf, WpFn-mono, RattleType, owns, Is, shows, uint-makes, uint-vals, uint-tells, uint-lawful, u32, usize, unit, Array, array-lawful, RefT, plain, sliceVal, MutSlice, ShrSlice, Room, finally, slice-vals, mut-slice-tells, shr-slice-tells, shr-slice-copy, row, Held, lends-shr-slice, only, owned, peeks, heard, nothing, Contract, Triple, calls-at, onEntry, Meets, tripleOf, entered, cited, says, Stays, stay-none, gave-slice, stay-none-slice, walkOf, goes-none, goes-gave-slice, goes-none-slice, Walks, ends-at, walked, walk-meets, ensured, lasts, yes}
+-- `entry::run_job` meets its contract: a walk of its MIR, by hand. A local array of words is lent to the run for a lifetime of that call, and then,
+-- for a lifetime of the second call, to `store`, which fills the lent records; the other slices are passed on as they came. Assumes nothing.
+use Rattle.monitor.proofs.Walk.{_≡_, refl, sym, ap, _∙_, subst, ℕ, _<_, _≤_, _^_, _*_, [], _∷_, List, length, replicate, lit<, URA, fullShare, named}
+use Rattle.monitor.proofs.Walk.{w32, w64, tyInt, tyUnit, tyArray, Ty, Val, WT, hasTy, vunit, vint, SProp, ent, sep, emp, via, fst∗, snd∗, exE, id⊢}
+use Rattle.monitor.proofs.Walk.{Lft, Share, GName, Fml, ftrue, fat, flft, flent, Memory, Routine, Heap, WpFn, Tables, Atoms, sem, Fun, fact, givenOf}
+use Rattle.monitor.proofs.Walk.{tables, tablesOf, Given, Item, ‵, raw, given, _⊛_, some, later, ⋆, _$_, _∵_, !, qed, by, move, keep, drop, use0, use1}
+use Rattle.monitor.proofs.Walk.{use2, use3, split, join, pick, learn, rewrite, fsplit, fjoin, feqL, feqI, suffices, frame, await, done, look, init}
+use Rattle.monitor.proofs.Walk.{forget, stop, hop, fld, from, load, lit, of-opd, addr, agg, and-then, no-more, assigns, land, returns, enter, alloc1}
+use Rattle.monitor.proofs.Walk.{alloc0, params1, pass1, pass0, free1, free0, lft-new, lft-end, lent-back, whole, sub, look-in, arr-parts, shares}
+use Rattle.monitor.proofs.Walk.{fmOf, WpFn-mono, RattleType, owns, Is, shows, uint-makes, uint-vals, uint-tells, uint-lawful, u32, usize, unit, Array}
+use Rattle.monitor.proofs.Walk.{array-lawful, RefT, plain, sliceVal, MutSlice, ShrSlice, Room, finally, slice-vals, mut-slice-tells, shr-slice-tells}
+use Rattle.monitor.proofs.Walk.{shr-slice-copy, row, Held, lends-shr-slice, only, owned, peeks, heard, nothing, Contract, Triple, calls-at, onEntry}
+use Rattle.monitor.proofs.Walk.{Meets, tripleOf, entered, cited, says, Stays, stay-none, gave-slice, stay-none-slice, walkOf, goes-none}
+use Rattle.monitor.proofs.Walk.{goes-gave-slice, goes-none-slice, Walks, ends-at, walked, walk-meets, ensured, lasts, yes}
 use Prim.Native.Nat.{min}
 use native.Mathlib.Omega.{arith}
 use lib.Dec.{T as Holds}
@@ -197,7 +208,8 @@ module _ {M : Type 1} (𝓤 : URA M) (H : Heap 𝓤) (A : Atoms 𝓤) (W : Given
   goes-store μ p ε l k v isk asks =
       qed W (‵ (flft κ₁ q₁) ∷ ‵ (flft (μ ∷ []) fullShare) ∷ ‵ Tb ∷ ‵ (ShrSlice (named 1) (μ ∷ []) u32 .own (c p ε l) (sc p ∷ [])) ∷ []) ∵
       says ! asks $ nothing ! $ move ! (2 ∷ 0 ∷ []) $ join ! $ move ! (1 ∷ 0 ∷ []) $ join ! $ frame ! $
-      nothing ! $ owned ! usize (Is usize) (uint-makes 𝓤 H A W w64) k _ isk $ fjoin ! $ move ! (2 ∷ 0 ∷ []) $ fjoin ! $ move ! (1 ∷ 0 ∷ []) $ fjoin ! $
+      nothing ! $ owned ! usize (Is usize) (uint-makes 𝓤 H A W w64) k _ isk $ fjoin ! $ move ! (2 ∷ 0 ∷ []) $ fjoin ! $ move ! (1 ∷ 0 ∷ []) $
+      fjoin ! $
       done !
 
   -- what `run_places` says of its last values and its answer
@@ -216,7 +228,8 @@ module _ {M : Type 1} (𝓤 : URA M) (H : Heap 𝓤) (A : Atoms 𝓤) (W : Given
         ‵ (flft κ₀ q₀) ∷ ‵ (flft κ₁ q₁) ∷ ‵ (flft κ₂ q₂) ∷ ‵ (flft κ₃ q₃) ∷ ‵ (flft κ₄ q₄) ∷ ‵ J ∷ ‵ (finally N.the-row (t .name) ts)
         ∷ ‵ (finally u8 (le .name) ls) ∷ ‵ (finally i32 (va .name) vs) ∷ ‵ (finally u8 (li .name) bs) ∷ []
 
-    exits : (r : Outcome) (w : Val) → Promises length Tree (job .now) budget (lent ys (le .now) (va .now) (li .now)) (lent ts ls vs bs) r → length ts ≡ n
+    exits : (r : Outcome) (w : Val) → Promises length Tree (job .now) budget (lent ys (le .now) (va .now) (li .now)) (lent ts ls vs bs) r
+        → length ts ≡ n
         → length ls ≡ length (le .now) → length vs ≡ length (va .now) → length bs ≡ length (li .now) → Is O.the-row r (w ∷ [])
         → ent 𝓤 (⋆ 𝓤 H A Left) (Post w)
     exits r w e lt ll lv lb isr =
@@ -242,7 +255,9 @@ module _ {M : Type 1} (𝓤 : URA M) (H : Heap 𝓤) (A : Atoms 𝓤) (W : Given
         fsplit ! $ move ! (1 ∷ []) $ fsplit ! $ move ! (1 ∷ []) $ fsplit ! $ move ! (1 ∷ []) $ fsplit ! $ move ! (1 ∷ []) $ fsplit ! $
         move ! (1 ∷ []) $ fsplit ! $ keep ! (12 ∷ 11 ∷ 10 ∷ 9 ∷ 7 ∷ 6 ∷ 4 ∷ 3 ∷ 2 ∷ 0 ∷ []) $
         enter ! (𝓣 .C) (𝓣 .Λ) code.function (sj ∷ vint w64 budget ∷ st′ ∷ sl ∷ sv ∷ sb ∷ []) _ $
-        alloc1 ! (λ l₀. alloc1 ! (λ l₁. alloc1 ! (λ l₂. alloc1 ! (λ l₃. alloc1 ! (λ l₄. alloc1 ! (λ l₅. alloc1 ! (λ l₆. alloc1 ! (λ l₇. alloc1 ! (λ l₈. alloc1 ! (λ l₉. alloc1 ! (λ l₁₀. alloc1 ! (λ l₁₁. alloc1 ! (λ l₁₂. alloc1 ! (λ l₁₃. alloc1 ! (λ l₁₄. alloc1 ! (λ l₁₅. alloc1 ! (λ l₁₆. alloc1 ! (λ l₁₇. alloc1 ! (λ l₁₈. alloc1 ! (λ l₁₉. alloc1 ! (λ l₂₀. alloc1 ! (λ l₂₁. alloc1 ! (λ l₂₂. alloc1 ! (λ l₂₃. alloc0 ! $ params1 ! $
+        alloc1 ! (λ l₀. alloc1 ! (λ l₁. alloc1 ! (λ l₂. alloc1 ! (λ l₃. alloc1 ! (λ l₄. alloc1 ! (λ l₅. alloc1 ! (λ l₆. alloc1 ! (λ l₇. alloc1 ! (λ
+        l₈. alloc1 ! (λ l₉. alloc1 ! (λ l₁₀. alloc1 ! (λ l₁₁. alloc1 ! (λ l₁₂. alloc1 ! (λ l₁₃. alloc1 ! (λ l₁₄. alloc1 ! (λ l₁₅. alloc1 ! (λ l₁₆.
+        alloc1 ! (λ l₁₇. alloc1 ! (λ l₁₈. alloc1 ! (λ l₁₉. alloc1 ! (λ l₂₀. alloc1 ! (λ l₂₁. alloc1 ! (λ l₂₂. alloc1 ! (λ l₂₃. alloc0 ! $ params1 ! $
         pass1 ! (init ! 44 refl (tt, (tt, (record { fits = rj .0 }, tt)))) $
         pass1 ! (init ! 42 refl (tt, record { fits = budget-fits })) $
         pass1 ! (init ! 40 refl (tt, (tt, (record { fits = rt .0 }, tt)))) $
@@ -251,24 +266,36 @@ module _ {M : Type 1} (𝓤 : URA M) (H : Heap 𝓤) (A : Atoms 𝓤) (W : Given
         pass1 ! (init ! 34 refl (tt, (tt, (record { fits = rb .0 }, tt)))) $
         pass0 ! $ move ! (48 ∷ 49 ∷ 50 ∷ 51 ∷ 52 ∷ 53 ∷ 54 ∷ 55 ∷ 56 ∷ 57 ∷ []) $
         -- [the tokens; the job; the table; the levels; the values; the lines; _23 (10); …; _0]
-        assigns ! (of-opd ! (load ! (from ! (fld ! refl (stop !))) (look-in ! 50 (sub ! 1 refl (whole !))))) (from ! (stop !)) (init ! 42 refl (tt, record { fits = rt .0 })) $
+        assigns ! (of-opd ! (load ! (from ! (fld ! refl (stop !))) (look-in ! 50 (sub ! 1 refl (whole !))))) (from ! (stop !)) (init ! 42 refl (
+          tt,
+          record { fits = rt .0 },
+        )) $
         -- the array of zeros
         owned ! u32 (Is u32) (uint-makes 𝓤 H A W w32) 0 (vint w32 0 ∷ []) (refl, lit< tt) $
         use1 W (‵ (Arr .own zeros (zero-vals ∷ []))) (array-repeat 𝓤 H A W u32 (uint-copy 𝓤 H A W w32) 4096 0 (vint w32 0)) $
         peeks ! Arr (Is Arr) (shows 𝓤 H A Arr) zeros (zero-vals ∷ []) (λ is.
         assigns ! (rep ! 4096 (lit ! tt)) (from ! (stop !)) (init ! 41 refl (typedA zeros zero-vals is)) $
         assigns ! (addr ! (from ! (stop !))) (from ! (stop !)) (init ! 35 refl (tt, tt)) $
-        assigns ! (agg ! (and-then ! (load ! (from ! (stop !)) (look ! 35 refl)) (and-then ! (big ! (record { fits = lit< tt })) (no-more !)))) (from ! (stop !)) (init ! 33 refl (tt, (tt, (record { fits = lit< tt }, tt)))) $
-        assigns ! (addr ! (from ! (fld ! refl (hop ! (look-in ! 49 (sub ! 0 refl (whole !))) (stop !))))) (from ! (stop !)) (init ! 31 refl (tt, tt)) $
-        assigns ! (agg ! (and-then ! (load ! (from ! (stop !)) (look ! 31 refl)) (and-then ! (load ! (from ! (fld ! refl (stop !))) (look-in ! 49 (sub ! 1 refl (whole !)))) (no-more !)))) (from ! (stop !)) (init ! 29 refl (tt, (tt, (record { fits = rl .0 }, tt)))) $
-        assigns ! (addr ! (from ! (fld ! refl (hop ! (look-in ! 47 (sub ! 0 refl (whole !))) (stop !))))) (from ! (stop !)) (init ! 27 refl (tt, tt)) $
-        assigns ! (agg ! (and-then ! (load ! (from ! (stop !)) (look ! 27 refl)) (and-then ! (load ! (from ! (fld ! refl (stop !))) (look-in ! 47 (sub ! 1 refl (whole !)))) (no-more !)))) (from ! (stop !)) (init ! 25 refl (tt, (tt, (record { fits = rv .0 }, tt)))) $
-        assigns ! (addr ! (from ! (fld ! refl (hop ! (look-in ! 45 (sub ! 0 refl (whole !))) (stop !))))) (from ! (stop !)) (init ! 23 refl (tt, tt)) $
-        assigns ! (agg ! (and-then ! (load ! (from ! (stop !)) (look ! 23 refl)) (and-then ! (load ! (from ! (fld ! refl (stop !))) (look-in ! 45 (sub ! 1 refl (whole !)))) (no-more !)))) (from ! (stop !)) (init ! 21 refl (tt, (tt, (record { fits = rb .0 }, tt)))) $
+        assigns ! (agg ! (and-then ! (load ! (from ! (stop !)) (look ! 35 refl)) (and-then ! (big ! (record { fits = lit< tt })) (no-more !)))) (from
+        ! (stop !)) (init ! 33 refl (tt, (tt, (record { fits = lit< tt }, tt)))) $
+        assigns ! (addr ! (from ! (fld ! refl (hop ! (look-in ! 49 (sub ! 0 refl (whole !))) (stop !))))) (from ! (stop !)) (init ! 31 refl (tt, tt))
+        $
+        assigns ! (agg ! (and-then ! (load ! (from ! (stop !)) (look ! 31 refl)) (and-then ! (load ! (from ! (fld ! refl (stop !))) (look-in ! 49
+        (sub ! 1 refl (whole !)))) (no-more !)))) (from ! (stop !)) (init ! 29 refl (tt, (tt, (record { fits = rl .0 }, tt)))) $
+        assigns ! (addr ! (from ! (fld ! refl (hop ! (look-in ! 47 (sub ! 0 refl (whole !))) (stop !))))) (from ! (stop !)) (init ! 27 refl (tt, tt))
+        $
+        assigns ! (agg ! (and-then ! (load ! (from ! (stop !)) (look ! 27 refl)) (and-then ! (load ! (from ! (fld ! refl (stop !))) (look-in ! 47
+        (sub ! 1 refl (whole !)))) (no-more !)))) (from ! (stop !)) (init ! 25 refl (tt, (tt, (record { fits = rv .0 }, tt)))) $
+        assigns ! (addr ! (from ! (fld ! refl (hop ! (look-in ! 45 (sub ! 0 refl (whole !))) (stop !))))) (from ! (stop !)) (init ! 23 refl (tt, tt))
+        $
+        assigns ! (agg ! (and-then ! (load ! (from ! (stop !)) (look ! 23 refl)) (and-then ! (load ! (from ! (fld ! refl (stop !))) (look-in ! 45
+        (sub ! 1 refl (whole !)))) (no-more !)))) (from ! (stop !)) (init ! 21 refl (tt, (tt, (record { fits = rb .0 }, tt)))) $
         -- it is spread, and lent for a lifetime ν of the call
-        move ! (41 ∷ 0 ∷ []) $ use2 W (given (length zeros ≡ 4096) (‵ (row u32 fullShare zeros l₈ 0))) (spread 𝓤 H A W u32 tt 4096 zeros l₈ zero-vals) $
+        move ! (41 ∷ 0 ∷ []) $ use2 W (given (length zeros ≡ 4096) (‵ (row u32 fullShare zeros l₈ 0))) (spread 𝓤 H A W u32 tt 4096 zeros l₈
+        zero-vals) $
         learn ! (λ len. lft-new ! tt (λ ν. move ! (1 ∷ []) $
-        use1 W (later (some (λ (δ : GName). ‵ (MutSlice (named 1) (ν ∷ []) u32 .own (c l₈ δ zeros) (sliceVal (l₈, 0) (length zeros) ∷ [])) ⊛ ‵ (flent (ν ∷ []) (Held u32 (length zeros) l₈ 0 δ)))))
+        use1 W (later (some (λ (δ : GName). ‵ (MutSlice (named 1) (ν ∷ []) u32 .own (c l₈ δ zeros) (sliceVal (l₈, 0) (length zeros) ∷ []))
+        ⊛ ‵ (flent (ν ∷ []) (Held u32 (length zeros) l₈ 0 δ)))))
         (lends-row 𝓤 H A W u32 (named 1) (ν ∷ []) zeros l₈ 0 (subst (Room u32) (sym len) roomy)) $ await ! tt $ pick ! (λ δ. split ! $
         rewrite ! 0 (λ (m : ℕ). ‵ (MutSlice (named 1) (ν ∷ []) u32 .own (c l₈ δ zeros) (sliceVal (l₈, 0) m ∷ []))) len refl $
         -- [the slice; the lender's part; the token of ν; the tokens (3); the job (8); the table; the levels; the values; the lines; _23 (13); …]
@@ -277,57 +304,94 @@ module _ {M : Type 1} (𝓤 : URA M) (H : Heap 𝓤) (A : Atoms 𝓤) (W : Given
         use1 W (raw (Core 𝓤 H A mem run .pre (to-core ν l₈ δ zeros))) (goes-core ν l₈ δ zeros (rt .0) (core-asks len)) $
         -- [the pre; the job; the lender's part; the second token; the table; _23 (5); …]
         calls-at ! (fmOf 𝓤 H (W .laws) 𝓣) (Core 𝓤 H A mem run) known-core (to-core ν l₈ δ zeros)
-        (and-then ! (load ! (from ! (stop !)) (look ! 48 refl)) (and-then ! (load ! (from ! (stop !)) (look ! 46 refl)) (and-then ! (load ! (from ! (stop !)) (look ! 36 refl)) (and-then ! (load ! (from ! (stop !)) (look ! 27 refl)) (and-then ! (load ! (from ! (stop !)) (look ! 23 refl)) (and-then ! (load ! (from ! (stop !)) (look ! 19 refl)) (and-then ! (load ! (from ! (stop !)) (look ! 15 refl)) (no-more !)))))))) (λ w.
-        use1 W (later (some (λ (r : Outcome). ((‵ (flft κ₀ q₀) ⊛ ‵ (flft (ν ∷ []) fullShare) ⊛ ‵ (flft κ₂ q₂) ⊛ ‵ (flft κ₃ q₃) ⊛ ‵ (flft κ₄ q₄) ⊛ ‵ ftrue) ⊛ ‵ (O.the-row .own r (w ∷ [])))
-        ⊛ raw (ensured 𝓤 H A co.ended (co.clauses 𝓤 H A mem run) (to-core ν l₈ δ zeros .0 .0) (to-core ν l₈ δ zeros .0 .3) tt r)))) (id⊢ 𝓤 _) $ await ! tt $ pick ! (λ r.
-        split ! $ move ! (1 ∷ []) $ use1 W (some (λ (zs : Lasts). ‵ (lasts co.ended (to-core ν l₈ δ zeros .0 .0) (to-core ν l₈ δ zeros .0 .3) zs) ⊛ raw (fact 𝓤 (Said zs r)))) (id⊢ 𝓤 _) $ pick ! (λ zs.
+        (and-then ! (load ! (from ! (stop !)) (look ! 48 refl)) (and-then ! (load ! (from ! (stop !)) (look ! 46 refl)) (and-then ! (load ! (from !
+        (stop !)) (look ! 36 refl)) (and-then ! (load ! (from ! (stop !)) (look ! 27 refl)) (and-then ! (load ! (from ! (stop !)) (look ! 23 refl))
+        (and-then ! (load ! (from ! (stop !)) (look ! 19 refl)) (and-then ! (load ! (from ! (stop !)) (look ! 15 refl)) (no-more !)))))))) (λ w.
+        use1 W (later (some (λ (r : Outcome). ((‵ (flft κ₀ q₀) ⊛ ‵ (flft (ν ∷ []) fullShare) ⊛ ‵ (flft κ₂ q₂) ⊛ ‵ (flft κ₃ q₃) ⊛ ‵ (flft κ₄ q₄)
+        ⊛ ‵ ftrue) ⊛ ‵ (O.the-row .own r (w ∷ [])))
+        ⊛ raw (ensured 𝓤 H A co.ended (co.clauses 𝓤 H A mem run) (to-core ν l₈ δ zeros .0 .0) (to-core ν l₈ δ zeros .0 .3) tt r)))) (id⊢ 𝓤 _) $
+        await ! tt $ pick ! (λ r.
+        split ! $ move ! (1 ∷ []) $ use1 W (some (λ (zs : Lasts). ‵ (lasts co.ended (to-core ν l₈ δ zeros .0 .0) (to-core ν l₈ δ zeros .0 .3) zs)
+        ⊛ raw (fact 𝓤 (Said zs r)))) (id⊢ 𝓤 _) $ pick ! (λ zs.
         let ws = zs .1 .1 .1 .0 in
         split ! $ move ! (1 ∷ []) $ heard ! (Said zs r) (λ said.
-        fsplit ! $ move ! (1 ∷ []) $ fsplit ! $ move ! (1 ∷ []) $ fsplit ! $ move ! (1 ∷ []) $ fsplit ! $ move ! (1 ∷ []) $ fsplit ! $ move ! (1 ∷ []) $ fsplit ! $ move ! (1 ∷ []) $ fsplit ! $
+        fsplit ! $ move ! (1 ∷ []) $ fsplit ! $ move ! (1 ∷ []) $ fsplit ! $ move ! (1 ∷ []) $ fsplit ! $ move ! (1 ∷ []) $ fsplit ! $
+        move ! (1 ∷ []) $ fsplit ! $ move ! (1 ∷ []) $ fsplit ! $
         fsplit ! $ move ! (1 ∷ []) $ feqL ! (λ lb. move ! (2 ∷ []) $ fsplit ! $ move ! (1 ∷ []) $ feqL ! (λ lv.
         move ! (3 ∷ []) $ fsplit ! $ move ! (1 ∷ []) $ feqL ! (λ ll. move ! (4 ∷ []) $ fsplit ! $ move ! (1 ∷ []) $ feqL ! (λ same.
         move ! (8 ∷ []) $ split ! $ move ! (1 ∷ []) $ peeks ! O.the-row (Is O.the-row) (shows 𝓤 H A O.the-row) r (w ∷ []) (λ isr.
-        -- [what r owns; the tokens; the last words, levels, values, lines; four; the job (10); the lender's part; the second token; the table; _23 (14); …]
+        -- [what r owns; the tokens; the last words, levels, values, lines; four; the job (10); the lender's part; the second token; the table; _23
+        -- (14); …]
         land ! (from ! (stop !)) (init ! 42 refl (typedO r w isr)) $
         -- the lifetime is ended, and the row comes back
-        keep ! (1 ∷ 2 ∷ 3 ∷ 4 ∷ 5 ∷ span 10 51) $ split ! $ move ! (1 ∷ []) $ split ! $ move ! (1 ∷ []) $ split ! $ move ! (1 ∷ []) $ split ! $ move ! (1 ∷ []) $ split ! $
+        keep ! (1 ∷ 2 ∷ 3 ∷ 4 ∷ 5 ∷ span 10 51) $ split ! $ move ! (1 ∷ []) $ split ! $ move ! (1 ∷ []) $ split ! $ move ! (1 ∷ []) $ split ! $
+        move ! (1 ∷ []) $ split ! $
         move ! (4 ∷ []) $ lft-end ! tt $ move ! (0 ∷ 11 ∷ 6 ∷ []) $
         use3 W (later (‵ (row u32 fullShare ws l₈ 0))) (row-back 𝓤 H A W u32 (named 1) (ν ∷ []) ws l₈ 0 δ (length zeros)) $ await ! tt $
         keep ! (0 ∷ 5 ∷ 4 ∷ 3 ∷ 1 ∷ span 6 53) $
         -- [the row; the tokens but the second; the last levels, values, lines (5); the job; the second token; the table; _23 (11); …]
         use0 W (raw (Kept 𝓤 H A mem run .pre (to-kept r w))) (goes-kept r w isr (rt .0)) $
-        calls-at ! (fmOf 𝓤 H (W .laws) 𝓣) (Kept 𝓤 H A mem run) known-kept (to-kept r w) (and-then ! (load ! (from ! (stop !)) (look ! 40 refl)) (and-then ! (load ! (from ! (stop !)) (look ! 43 refl)) (no-more !))) (λ v.
-        use1 W (later (some (λ (k : ℕ). (‵ ftrue ⊛ ‵ (usize .own k (v ∷ []))) ⊛ raw (ensured 𝓤 H A ke.ended (ke.clauses 𝓤 H A mem run) tt (r, (n, tt)) tt k)))) (id⊢ 𝓤 _) $ await ! tt $ pick ! (λ k.
-        split ! $ move ! (1 ∷ []) $ use1 W (raw (fact 𝓤 (k ≡ keptOf r n))) (kept-of 𝓤 H A mem run r n k) $ heard ! (k ≡ keptOf r n) (λ ek. split ! $ drop ! $
+        calls-at ! (fmOf 𝓤 H (W .laws) 𝓣) (Kept 𝓤 H A mem run) known-kept (to-kept r w) (and-then ! (load ! (from ! (stop !)) (look ! 40 refl))
+        (and-then ! (load ! (from ! (stop !)) (look ! 43 refl)) (no-more !))) (λ v.
+        use1 W (later (some (λ (k : ℕ). (‵ ftrue ⊛ ‵ (usize .own k (v ∷ [])))
+        ⊛ raw (ensured 𝓤 H A ke.ended (ke.clauses 𝓤 H A mem run) tt (r, (n, tt)) tt k)))) (id⊢ 𝓤 _) $ await ! tt $ pick ! (λ k.
+        split ! $ move ! (1 ∷ []) $ use1 W (raw (fact 𝓤 (k ≡ keptOf r n))) (kept-of 𝓤 H A mem run r n k) $ heard ! (k ≡ keptOf r n) (λ ek. split ! $
+        drop ! $
         peeks ! usize (Is usize) (shows 𝓤 H A usize) k (v ∷ []) (λ isk.
         land ! (from ! (stop !)) (init ! 38 refl (uint-lawful 𝓤 H A W w64 .typed k _ isk .0)) $ drop ! $
-        assigns ! (addr ! (from ! (fld ! refl (hop ! (look-in ! 50 (sub ! 0 refl (whole !))) (stop !))))) (from ! (stop !)) (init ! 17 refl (tt, tt)) $
-        assigns ! (agg ! (and-then ! (load ! (from ! (stop !)) (look ! 17 refl)) (and-then ! (load ! (from ! (fld ! refl (stop !))) (look-in ! 50 (sub ! 1 refl (whole !)))) (no-more !)))) (from ! (stop !)) (init ! 15 refl (tt, (tt, (record { fits = rt .0 }, tt)))) $
+        assigns ! (addr ! (from ! (fld ! refl (hop ! (look-in ! 50 (sub ! 0 refl (whole !))) (stop !))))) (from ! (stop !)) (init ! 17 refl (tt, tt))
+        $
+        assigns ! (agg ! (and-then ! (load ! (from ! (stop !)) (look ! 17 refl)) (and-then ! (load ! (from ! (fld ! refl (stop !))) (look-in ! 50
+        (sub ! 1 refl (whole !)))) (no-more !)))) (from ! (stop !)) (init ! 15 refl (tt, (tt, (record { fits = rt .0 }, tt)))) $
         assigns ! (addr ! (from ! (stop !))) (from ! (stop !)) (init ! 13 refl (tt, tt)) $
-        assigns ! (agg ! (and-then ! (load ! (from ! (stop !)) (look ! 13 refl)) (and-then ! (big ! (record { fits = lit< tt })) (no-more !)))) (from ! (stop !)) (init ! 11 refl (tt, (tt, (record { fits = lit< tt }, tt)))) $
+        assigns ! (agg ! (and-then ! (load ! (from ! (stop !)) (look ! 13 refl)) (and-then ! (big ! (record { fits = lit< tt })) (no-more !)))) (from
+        ! (stop !)) (init ! 11 refl (tt, (tt, (record { fits = lit< tt }, tt)))) $
         -- the row is lent as `&`
         feqI ! ℕ (length ws) (length ws) refl $ fjoin ! $ lft-new ! tt (λ μ. move ! (1 ∷ []) $
-        use1 W (later (some (λ (ε : GName). ‵ (ShrSlice (named 1) (μ ∷ []) u32 .own (c l₈ ε ws) (sliceVal (l₈, 0) (length ws) ∷ [])) ⊛ ‵ (flent (μ ∷ []) (arr-parts (shares u32) (length ws) .part fullShare ws l₈ 0)))))
-        (lends-shr-slice 𝓤 H A W u32 (named 1) (μ ∷ []) fullShare ws l₈ 0 (subst (Room u32) (sym (same ∙ len)) roomy)) $ await ! tt $ pick ! (λ ε. split ! $
+        use1 W (later (some (λ (ε : GName). ‵ (ShrSlice (named 1) (μ ∷ []) u32 .own (c l₈ ε ws) (sliceVal (l₈, 0) (length ws) ∷ [])) ⊛ ‵ (flent (μ
+        ∷ []) (arr-parts (shares u32) (length ws) .part fullShare ws l₈ 0)))))
+        (lends-shr-slice 𝓤 H A W u32 (named 1) (μ ∷ []) fullShare ws l₈ 0 (subst (Room u32) (sym (same ∙ len)) roomy)) $ await ! tt $
+        pick ! (λ ε. split ! $
         rewrite ! 0 (λ (m : ℕ). ‵ (ShrSlice (named 1) (μ ∷ []) u32 .own (c l₈ ε ws) (sliceVal (l₈, 0) m ∷ []))) (same ∙ len) refl $
-        -- [the slice; the lender's part; the token of μ; the tokens but the second (3); the last levels, values, lines (7); the job; the second token (11); the table; _23 (13); …]
+        -- [the slice; the lender's part; the token of μ; the tokens but the second (3); the last levels, values, lines (7); the job; the second token
+        -- (11); the table; _23 (13); …]
         move ! (11 ∷ 2 ∷ 12 ∷ 0 ∷ []) $ group ! 4 $
-        use1 W (raw (Store 𝓤 H A mem run .pre (to-store μ l₈ ε ws k v))) (goes-store μ l₈ ε ws k v isk (store-asks _ _ ys (lent _ _ _ _) (lent _ _ _ _) r k ek said (same ∙ len))) $
+        use1 W (raw (Store 𝓤 H A mem run .pre (to-store μ l₈ ε ws k v))) (goes-store μ l₈ ε ws k v isk (store-asks _ _ ys (lent _ _ _ _) (lent _ _ _
+        _) r k ek said (same ∙ len))) $
         -- [the pre; the lender's part; the tokens but the second; the last levels, values, lines; the job; _23 (10); …]
-        calls-at ! (fmOf 𝓤 H (W .laws) 𝓣) (Store 𝓤 H A mem run) known-store (to-store μ l₈ ε ws k v) (and-then ! (load ! (from ! (stop !)) (look ! 14 refl)) (and-then ! (load ! (from ! (stop !)) (look ! 10 refl)) (and-then ! (load ! (from ! (stop !)) (look ! 36 refl)) (no-more !)))) (λ w₂.
-        use1 W (later (some (λ (u : Unit {0}). ((‵ (flft κ₁ q₁) ⊛ ‵ (flft (μ ∷ []) fullShare) ⊛ ‵ ftrue) ⊛ ‵ (unit .own u (w₂ ∷ []))) ⊛ raw (ensured 𝓤 H A st.ended (st.clauses 𝓤 H A mem run) (κ₁, (μ ∷ [], tt)) (t, (c l₈ ε ws, (k, tt))) tt u)))) (id⊢ 𝓤 _) $ await ! tt $ pick ! (λ u.
-        split ! $ move ! (1 ∷ []) $ use1 W (some (λ (us : StoreLasts). ‵ (lasts st.ended (κ₁, (μ ∷ [], tt)) (t, (c l₈ ε ws, (k, tt))) us) ⊛ raw (fact 𝓤 (us .0 ≡ stored ws k ys)))) (id⊢ 𝓤 _) $ pick ! (λ us.
-        split ! $ move ! (1 ∷ []) $ heard ! (us .0 ≡ stored ws k ys) (λ et. fsplit ! $ fsplit ! $ move ! (1 ∷ []) $ feqL ! (λ lt. move ! (2 ∷ []) $ split ! $ move ! (1 ∷ []) $ feqL ! (λ eu.
+        calls-at ! (fmOf 𝓤 H (W .laws) 𝓣) (Store 𝓤 H A mem run) known-store (to-store μ l₈ ε ws k v) (and-then ! (load ! (from ! (stop !)) (look ! 14
+        refl)) (and-then ! (load ! (from ! (stop !)) (look ! 10 refl)) (and-then ! (load ! (from ! (stop !)) (look ! 36 refl)) (no-more !)))) (λ w₂.
+        use1 W (later (some (λ (u : Unit {0}). ((‵ (flft κ₁ q₁) ⊛ ‵ (flft (μ ∷ []) fullShare) ⊛ ‵ ftrue) ⊛ ‵ (unit .own u (w₂ ∷ [])))
+        ⊛ raw (ensured 𝓤 H A st.ended (st.clauses 𝓤 H A mem run) (κ₁, (μ ∷ [], tt)) (t, (c l₈ ε ws, (k, tt))) tt u)))) (id⊢ 𝓤 _) $ await ! tt $
+        pick ! (λ u.
+        split ! $ move ! (1 ∷ []) $ use1 W (some (λ (us : StoreLasts). ‵ (lasts st.ended (κ₁, (μ ∷ [], tt)) (t, (c l₈ ε ws, (k, tt))) us)
+        ⊛ raw (fact 𝓤 (us .0 ≡ stored ws k ys)))) (id⊢ 𝓤 _) $ pick ! (λ us.
+        split ! $ move ! (1 ∷ []) $ heard ! (us .0 ≡ stored ws k ys) (λ et. fsplit ! $ fsplit ! $ move ! (1 ∷ []) $ feqL ! (λ lt. move ! (2 ∷ []) $
+        split ! $ move ! (1 ∷ []) $ feqL ! (λ eu.
         -- [the tokens; the last table; …; the lender's part; the tokens but the second (4); the last levels, values, lines (8); the job; _23 (12); …]
         land ! (from ! (stop !)) (init ! 20 refl (subst (λ (z : Val). Holds (hasTy tyUnit z) × WT z) (sym (ap only eu)) (tt, tt))) $
         -- the lifetime is ended, the row comes back, and the array is gathered
         keep ! (0 ∷ 1 ∷ span 3 56) $ split ! $ move ! (1 ∷ []) $ split ! $ lft-end ! tt $ move ! (0 ∷ 4 ∷ []) $ lent-back ! tt $ fsplit ! $ drop ! $
-        use1 W (some (λ (z : Val). ‵ (fat fullShare arr-ty l₈ 0 z) ⊛ ‵ (Arr .own ws (z ∷ [])))) (gather 𝓤 H A W u32 tt 4096 ws l₈ (same ∙ len)) $ pick ! (λ z. split ! $
-        -- [_8; what it owns; true; the second token; the last table; the tokens but the second (5); the last levels, values, lines (9); the job; _23 (13); …; _0 (58)]
-        assigns ! (of-opd ! (load ! (from ! (stop !)) (look ! 41 refl))) (from ! (stop !)) (init ! 58 refl (typedO r w isr)) $ returns ! (look ! 58 refl) $
-        forget ! 0 refl $ forget ! 13 refl $ forget ! 15 refl $ forget ! 17 refl $ forget ! 19 refl $ forget ! 21 refl $ forget ! 23 refl $ forget ! 25 refl $ forget ! 27 refl $ forget ! 29 refl $ forget ! 31 refl $ forget ! 33 refl $ forget ! 35 refl $ forget ! 37 refl $ forget ! 39 refl $ forget ! 41 refl $ forget ! 44 refl $ forget ! 46 refl $ forget ! 48 refl $ forget ! 50 refl $ forget ! 52 refl $ forget ! 54 refl $ forget ! 56 refl $ forget ! 58 refl $
-        move ! (58 ∷ 59 ∷ []) $ free1 ! $ move ! (56 ∷ 57 ∷ []) $ free1 ! $ move ! (54 ∷ 55 ∷ []) $ free1 ! $ move ! (52 ∷ 53 ∷ []) $ free1 ! $ move ! (50 ∷ 51 ∷ []) $ free1 ! $ move ! (48 ∷ 49 ∷ []) $ free1 ! $ move ! (46 ∷ 47 ∷ []) $ free1 ! $ move ! (44 ∷ 45 ∷ []) $ free1 ! $ move ! (0 ∷ 43 ∷ []) $ free1 ! $ move ! (40 ∷ 41 ∷ []) $ free1 ! $ move ! (38 ∷ 39 ∷ []) $ free1 ! $ move ! (36 ∷ 37 ∷ []) $ free1 ! $ move ! (34 ∷ 35 ∷ []) $ free1 ! $ move ! (32 ∷ 33 ∷ []) $ free1 ! $ move ! (30 ∷ 31 ∷ []) $ free1 ! $ move ! (28 ∷ 29 ∷ []) $ free1 ! $ move ! (26 ∷ 27 ∷ []) $ free1 ! $ move ! (24 ∷ 25 ∷ []) $ free1 ! $ move ! (22 ∷ 23 ∷ []) $ free1 ! $ move ! (20 ∷ 21 ∷ []) $ free1 ! $ move ! (18 ∷ 19 ∷ []) $ free1 ! $ move ! (16 ∷ 17 ∷ []) $ free1 ! $ move ! (14 ∷ 15 ∷ []) $ free1 ! $ move ! (12 ∷ 13 ∷ []) $ free1 ! $ free0 ! $
-        keep ! (4 ∷ 2 ∷ 5 ∷ 6 ∷ 7 ∷ 11 ∷ 3 ∷ 8 ∷ 9 ∷ 10 ∷ []) $ by ! (exits (us .0) (zs .1 .1 .1 .1 .0) (zs .1 .1 .1 .1 .1 .0) (zs .1 .1 .1 .1 .1 .1 .0) r w (promised _ _ ys (lent _ _ _ _) (lent _ _ _ _) r k ek said (us .0) et) lt ll lv lb isr)))))))))))))))))))))))))))))))))))))))))))))))))))
+        use1 W (some (λ (z : Val). ‵ (fat fullShare arr-ty l₈ 0 z) ⊛ ‵ (Arr .own ws (z ∷ [])))) (gather 𝓤 H A W u32 tt 4096 ws l₈ (same ∙ len)) $
+        pick ! (λ z. split ! $
+        -- [_8; what it owns; true; the second token; the last table; the tokens but the second (5); the last levels, values, lines (9); the job; _23
+        -- (13); …; _0 (58)]
+        assigns ! (of-opd ! (load ! (from ! (stop !)) (look ! 41 refl))) (from ! (stop !)) (init ! 58 refl (typedO r w isr)) $
+        returns ! (look ! 58 refl) $
+        forget ! 0 refl $ forget ! 13 refl $ forget ! 15 refl $ forget ! 17 refl $ forget ! 19 refl $ forget ! 21 refl $ forget ! 23 refl $
+        forget ! 25 refl $ forget ! 27 refl $ forget ! 29 refl $ forget ! 31 refl $ forget ! 33 refl $ forget ! 35 refl $ forget ! 37 refl $
+        forget ! 39 refl $ forget ! 41 refl $ forget ! 44 refl $ forget ! 46 refl $ forget ! 48 refl $ forget ! 50 refl $ forget ! 52 refl $
+        forget ! 54 refl $ forget ! 56 refl $ forget ! 58 refl $
+        move ! (58 ∷ 59 ∷ []) $ free1 ! $ move ! (56 ∷ 57 ∷ []) $ free1 ! $ move ! (54 ∷ 55 ∷ []) $ free1 ! $ move ! (52 ∷ 53 ∷ []) $ free1 ! $
+        move ! (50 ∷ 51 ∷ []) $ free1 ! $ move ! (48 ∷ 49 ∷ []) $ free1 ! $ move ! (46 ∷ 47 ∷ []) $ free1 ! $ move ! (44 ∷ 45 ∷ []) $ free1 ! $
+        move ! (0 ∷ 43 ∷ []) $ free1 ! $ move ! (40 ∷ 41 ∷ []) $ free1 ! $ move ! (38 ∷ 39 ∷ []) $ free1 ! $ move ! (36 ∷ 37 ∷ []) $ free1 ! $
+        move ! (34 ∷ 35 ∷ []) $ free1 ! $ move ! (32 ∷ 33 ∷ []) $ free1 ! $ move ! (30 ∷ 31 ∷ []) $ free1 ! $ move ! (28 ∷ 29 ∷ []) $ free1 ! $
+        move ! (26 ∷ 27 ∷ []) $ free1 ! $ move ! (24 ∷ 25 ∷ []) $ free1 ! $ move ! (22 ∷ 23 ∷ []) $ free1 ! $ move ! (20 ∷ 21 ∷ []) $ free1 ! $
+        move ! (18 ∷ 19 ∷ []) $ free1 ! $ move ! (16 ∷ 17 ∷ []) $ free1 ! $ move ! (14 ∷ 15 ∷ []) $ free1 ! $ move ! (12 ∷ 13 ∷ []) $ free1 ! $
+        free0 ! $
+        keep ! (4 ∷ 2 ∷ 5 ∷ 6 ∷ 7 ∷ 11 ∷ 3 ∷ 8 ∷ 9 ∷ 10 ∷ []) $ by ! (exits (us .0) (zs .1 .1 .1 .1 .0) (zs .1 .1 .1 .1 .1 .0) (zs .1 .1 .1 .1 .1 .1
+        .0) r w (promised _ _ ys (lent _ _ _ _) (lent _ _ _ _) r k ek said (us .0) et) lt ll lv lb
+        isr)))))))))))))))))))))))))))))))))))))))))))))))))))
 
 module _ {M : Type 1} (𝓤 : URA M) (H : Heap 𝓤) (A : Atoms 𝓤) (W : Given 𝓤 H A) (mem : Memory → SProp 𝓤) (run : Routine → Fun 𝓤) (𝓣 : Tables 𝓤 H)
     (k₁ : Triple 𝓤 (𝓣 .C #core) (Core 𝓤 H A mem run)) (k₂ : Triple 𝓤 (𝓣 .C #kept) (Kept 𝓤 H A mem run))
@@ -342,12 +406,23 @@ module _ {M : Type 1} (𝓤 : URA M) (H : Heap 𝓤) (A : Atoms 𝓤) (W : Given
           uint-tells w64,
           (
             mut-slice-tells (named 1) (κs .1 .0) N.the-row,
-            (mut-slice-tells (named 2) (κs .1 .1 .0) u8, (mut-slice-tells (named 3) (κs .1 .1 .1 .0) i32, (mut-slice-tells (named 4) (κs .1 .1 .1 .1 .0) u8, tt))),
+            (
+              mut-slice-tells (named 2) (κs .1 .1 .0) u8,
+              (
+                mut-slice-tells (named 3) (κs .1 .1 .1 .0) i32,
+                (
+                  mut-slice-tells (named 4) (κs .1 .1 .1 .1
+                      .0) u8,
+                  tt,
+                ),
+              ),
+            ),
           ),
         ),
       ))
       (λ κs qs bounds a g are. via 𝓤 _ (fst∗ 𝓤 _ (emp 𝓤))
-      (walk 𝓤 H A W mem run (κs .0) (κs .1 .0) (κs .1 .1 .0) (κs .1 .1 .1 .0) (κs .1 .1 .1 .1 .0) (qs .0) (qs .1 .0) (qs .1 .1 .0) (qs .1 .1 .1 .0) (qs .1 .1 .1 .1 .0)
+      (walk 𝓤 H A W mem run (κs .0) (κs .1 .0) (κs .1 .1 .0) (κs .1 .1 .1 .0) (κs .1 .1 .1 .1 .0) (qs .0) (qs .1 .0) (qs .1 .1 .0) (qs .1 .1 .1 .0)
+      (qs .1 .1 .1 .1 .0)
       (a .0) (a .1 .0) (are .1 .0 .1) (a .1 .1 .0) (a .1 .1 .1 .0) (a .1 .1 .1 .1 .0) (a .1 .1 .1 .1 .1 .0) 𝓣 k₁ k₂ k₃
       (are .0 .0 .1) (are .1 .1 .0 .0 .1) (are .1 .1 .1 .0 .0 .1) (are .1 .1 .1 .1 .0 .0 .1) (are .1 .1 .1 .1 .1 .0 .0 .1)))
 

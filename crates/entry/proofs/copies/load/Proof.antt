@@ -1,5 +1,20 @@
--- `top::load` meets its contract: a walk of its MIR, by hand, with a loop. The borrow of t is looked into once and the borrow of the cells is opened once, before the loop; they are shut and closed after it. In each turn a node is copied, and the row of cells is lent to `put_cell` for a lifetime of the call.
-use Rattle.monitor.proofs.Walk.{_≡_, refl, sym, ap, subst, ℕ, suc, _<_, _≤_, _^_, _*_, _+_, zero-le, le-antisymm, [], _∷_, List, length, getD, ltb→lt, nltb→le, lit<, URA, fullShare, named, erased, imm, mut, w32, w64, tyInt, tyBool, tyPtr, tyUnit, tyRef, Ty, Val, WT, hasTy, vunit, vint, vptr, SProp, ent, sep, id⊢, Lft, Share, GName, Fml, ftrue, fat, froom, fdies, flft, flent, fres, fobs, fauth, fbor, fobor, fshr-bor, Memory, Routine, Heap, WpFn, Tables, Atoms, sem, Fun, fact, givenOf, tables, tablesOf, Given, Item, ‵, raw, _⊛_, some, later, ⋆, _$_, _∵_, !, qed, by, move, keep, drop, use1, use2, use3, split, join, pick, rewrite, fsplit, fjoin, feqL, feqI, suffices, frame, await, done, look, look-raw, init, store, forget, stop, hop, fld, from, load, lit, unit-lit, of-opd, bin, addr, agg, and-then, no-more, assigns, assigns-last, land, returns, enter, alloc1, alloc0, params1, pass1, pass0, free1, free0, again, whole, sub, look-in, lft-new, lft-end, arr-parts, shares, fmOf, WpFn-mono, owns, pureI, Is, shows, pointee, uint-makes, u32, usize, unit, RefT, plain, sliceTy, sliceVal, MutSlice, ShrSlice, Room, heres, codedHoleys, at-slice, slice-vals, mut-slice-tells, shr-slice-tells, Held, place-is, row, elem-out, elem-back, opens-slice, closes-slice, looks-slice, shuts-slice, only, owned, heard, nothing, Contract, Triple, calls-at, onEntry, Meets, tripleOf, entered, cited, says, needs, Stays, stay-none-slice, stay-slice, walkOf, goes-none-slice, goes-slice, Walks, ends-at, walked, walk-meets, ensured, lasts, yes}
+-- `copies::load` meets its contract: a walk of its MIR, by hand, with a loop. The borrow of the records is looked into once and that of the words is
+-- opened once, before the loop; they are shut and closed after it. In each turn a record is copied, and the row of words is lent to `put` for a
+-- lifetime of the call. Assumes nothing.
+use Rattle.monitor.proofs.Walk.{_≡_, refl, sym, ap, subst, ℕ, suc, _<_, _≤_, _^_, _*_, _+_, zero-le, le-antisymm, [], _∷_, List, length, getD, ltb→lt}
+use Rattle.monitor.proofs.Walk.{nltb→le, lit<, URA, fullShare, named, erased, imm, mut, w32, w64, tyInt, tyBool, tyPtr, tyUnit, tyRef, Ty, Val, WT}
+use Rattle.monitor.proofs.Walk.{hasTy, vunit, vint, vptr, SProp, ent, sep, id⊢, Lft, Share, GName, Fml, ftrue, fat, froom, fdies, flft, flent, fres}
+use Rattle.monitor.proofs.Walk.{fobs, fauth, fbor, fobor, fshr-bor, Memory, Routine, Heap, WpFn, Tables, Atoms, sem, Fun, fact, givenOf, tables}
+use Rattle.monitor.proofs.Walk.{tablesOf, Given, Item, ‵, raw, _⊛_, some, later, ⋆, _$_, _∵_, !, qed, by, move, keep, drop, use1, use2, use3, split}
+use Rattle.monitor.proofs.Walk.{join, pick, rewrite, fsplit, fjoin, feqL, feqI, suffices, frame, await, done, look, look-raw, init, store, forget}
+use Rattle.monitor.proofs.Walk.{stop, hop, fld, from, load, lit, unit-lit, of-opd, bin, addr, agg, and-then, no-more, assigns, assigns-last, land}
+use Rattle.monitor.proofs.Walk.{returns, enter, alloc1, alloc0, params1, pass1, pass0, free1, free0, again, whole, sub, look-in, lft-new, lft-end}
+use Rattle.monitor.proofs.Walk.{arr-parts, shares, fmOf, WpFn-mono, owns, pureI, Is, shows, pointee, uint-makes, u32, usize, unit, RefT, plain}
+use Rattle.monitor.proofs.Walk.{sliceTy, sliceVal, MutSlice, ShrSlice, Room, heres, codedHoleys, at-slice, slice-vals, mut-slice-tells}
+use Rattle.monitor.proofs.Walk.{shr-slice-tells, Held, place-is, row, elem-out, elem-back, opens-slice, closes-slice, looks-slice, shuts-slice, only}
+use Rattle.monitor.proofs.Walk.{owned, heard, nothing, Contract, Triple, calls-at, onEntry, Meets, tripleOf, entered, cited, says, needs, Stays}
+use Rattle.monitor.proofs.Walk.{stay-none-slice, stay-slice, walkOf, goes-none-slice, goes-slice, Walks, ends-at, walked, walk-meets, ensured, lasts}
+use Rattle.monitor.proofs.Walk.{yes}
 use lib.Dec.{T as Holds}
 use denote.Struct.Laws as LL
 use Rattle.table.specs.declared.lent.Node.{Node}
@@ -40,7 +55,8 @@ module _ {M : Type 1} (𝓤 : URA M) (H : Heap 𝓤) (A : Atoms 𝓤) (mem : Mem
   Put = tripleOf 𝓤 H A put.signature (put.spec 𝓤 H A mem run)
 
 -- t is behind (b, o) under γ, with ys. The cells are behind (b′, o′) under γ′, with cs
-module _ {M : Type 1} (𝓤 : URA M) (H : Heap 𝓤) (A : Atoms 𝓤) (W : Given 𝓤 H A) (mem : Memory → SProp 𝓤) (run : Routine → Fun 𝓤) (κ κ′ : Lft) (q q′ : Share) (b o : ℕ) (γ : GName) (ys : List Node) (b′ o′ : ℕ) (γ′ : GName) (cs : List ℕ) where
+module _ {M : Type 1} (𝓤 : URA M) (H : Heap 𝓤) (A : Atoms 𝓤) (W : Given 𝓤 H A) (mem : Memory → SProp 𝓤) (run : Routine
+    → Fun 𝓤) (κ κ′ : Lft) (q q′ : Share) (b o : ℕ) (γ : GName) (ys : List Node) (b′ o′ : ℕ) (γ′ : GName) (cs : List ℕ) where
   abbrev n : ℕ
   n = length ys
 
@@ -79,82 +95,136 @@ module _ {M : Type 1} (𝓤 : URA M) (H : Heap 𝓤) (A : Atoms 𝓤) (W : Given
   to-put ν δ l i d = (((ν ∷ [], tt), (fullShare, tt), tt, (c δ l, (i, (d, tt))), (sc ∷ [], (vint w64 i ∷ [], (T′.lowered d ∷ [], tt)))), tt)
 
   goes-put : (ν : ℕ) (δ : GName) (l : List ℕ) (i : ℕ) (d : Node) → i < 2 ^ 64 → Is T.the-row d (T′.lowered d ∷ []) → 8 * i + 8 ≤ length l
-      → ent 𝓤 (sep 𝓤 (A .lft (ν ∷ []) fullShare) (sem 𝓤 H A (MutSlice (named 0) (ν ∷ []) u32 .own (c δ l) (sc ∷ [])))) (Put 𝓤 H A mem run .pre (to-put ν δ l i d))
+      → ent 𝓤 (sep 𝓤 (A .lft (ν ∷ []) fullShare) (sem 𝓤 H A (MutSlice (named 0) (ν ∷ []) u32 .own (c δ l) (sc
+      ∷ [])))) (Put 𝓤 H A mem run .pre (to-put ν δ l i d))
   goes-put ν δ l i d i-fits isd inside =
-      qed W (‵ (flft (ν ∷ []) fullShare) ∷ ‵ (MutSlice (named 0) (ν ∷ []) u32 .own (c δ l) (sc ∷ [])) ∷ []) ∵ says ! inside $ nothing ! $ move ! (1 ∷ 0 ∷ []) $ join ! $ frame ! $
-      nothing ! $ owned ! T.the-row (Is T.the-row) (LL.makes T.the-type T′.the-plain 𝓤 H A) d _ isd $ fjoin ! $ owned ! usize (Is usize) (uint-makes 𝓤 H A W w64) i _ (refl, i-fits) $ fjoin ! $ move ! (1 ∷ 0 ∷ []) $ fjoin ! $ done !
+      qed W (‵ (flft (ν ∷ []) fullShare) ∷ ‵ (MutSlice (named 0) (ν ∷ []) u32 .own (c δ l) (sc ∷ [])) ∷ []) ∵ says ! inside $ nothing ! $
+      move ! (1 ∷ 0 ∷ []) $ join ! $ frame ! $
+      nothing ! $ owned ! T.the-row (Is T.the-row) (LL.makes T.the-type T′.the-plain 𝓤 H A) d _ isd $ fjoin ! $
+      owned ! usize (Is usize) (uint-makes 𝓤 H A W w64) i _ (refl, i-fits) $ fjoin ! $ move ! (1 ∷ 0 ∷ []) $ fjoin ! $ done !
 
   abbrev Left : List ℕ → List (Item 𝓤)
-  Left l = ‵ (fobs γ′ (codedHoleys u32 .code (heres u32 l))) ∷ ‵ (fbor κ′ (Held u32 (length l) b′ o′ γ′)) ∷ ‵ (flft κ′ q′) ∷ ‵ (flft κ q) ∷ ‵ (fshr-bor κ Lent) ∷ ‵ (fres γ (codedHoleys T.the-row .code (heres T.the-row ys))) ∷ []
+  Left l = ‵ (fobs γ′ (codedHoleys u32 .code (heres u32 l))) ∷ ‵ (fbor κ′ (Held u32 (length l) b′ o′ γ′)) ∷ ‵ (flft κ′ q′) ∷ ‵ (flft κ q)
+      ∷ ‵ (fshr-bor κ Lent) ∷ ‵ (fres γ (codedHoleys T.the-row .code (heres T.the-row ys))) ∷ []
 
   exits : (i : ℕ) → i ≡ n → Room T.the-row n → Room u32 (length cs) → ent 𝓤 (⋆ 𝓤 H A (Left (loaded ys i cs))) (Post vunit)
   exits i e room rc =
       qed W (Left (loaded ys i cs)) ∵
-      suffices ! _ (ends-at 𝓤 H A load′.ended stayed (load′.clauses 𝓤 H A mem run) W bound vunit tt (tt, (loaded ys i cs, tt)) (tt, (length-loaded ys i cs, tt))) $ says ! (ap (λ (k : ℕ). loaded ys k cs) e) $
+      suffices ! _ (ends-at 𝓤 H A load′.ended stayed (load′.clauses 𝓤 H A mem run) W bound vunit tt (tt, (loaded ys i cs, tt)) (
+        tt,
+        (
+          length-loaded ys
+              i cs,
+          tt,
+        ),
+      )) $ says ! (ap (λ (k : ℕ). loaded ys k cs) e) $
       nothing ! $ move ! (3 ∷ 0 ∷ []) $ join ! $ move ! (3 ∷ 0 ∷ []) $ join ! $ frame ! $
-      fjoin ! $ pureI ! (at-slice u32 (c γ′ (loaded ys i cs)) (sc ∷ [])) (tt, (tt, tt)) (ap (λ (m : ℕ). sliceVal (b′, o′) m ∷ []) (sym (length-loaded ys i cs)), subst (Room u32) (sym (length-loaded ys i cs)) rc) $ fjoin ! $
-      nothing ! $ move ! (1 ∷ 0 ∷ []) $ fjoin ! $ move ! (2 ∷ 1 ∷ []) $ fjoin ! $ pureI ! (at-slice T.the-row x (s ∷ [])) (tt, (tt, tt)) (refl, room) $ fjoin ! $ fjoin ! $ feqI ! (List Val) (vunit ∷ []) (vunit ∷ []) refl $ move ! (1 ∷ 0 ∷ []) $ done !
+      fjoin ! $ pureI ! (at-slice u32 (c γ′ (loaded ys i cs)) (sc ∷ [])) (tt, (tt, tt)) (
+        ap (λ (m : ℕ). sliceVal (b′, o′) m
+            ∷ []) (sym (length-loaded ys i cs)),
+        subst (Room u32) (sym (length-loaded ys i cs)) rc,
+      ) $ fjoin ! $
+      nothing ! $ move ! (1 ∷ 0 ∷ []) $ fjoin ! $ move ! (2 ∷ 1 ∷ []) $ fjoin ! $
+      pureI ! (at-slice T.the-row x (s ∷ [])) (tt, (tt, tt)) (refl, room) $ fjoin ! $ fjoin ! $
+      feqI ! (List Val) (vunit ∷ []) (vunit ∷ []) refl $ move ! (1 ∷ 0 ∷ []) $ done !
 
   module _ (𝓣 : Tables 𝓤 H) (known : Triple 𝓤 (𝓣 .C #put) (Put 𝓤 H A mem run)) where
     -- the loop's invariant, at the place i: the first i cells are loaded
     abbrev At : (l₀ l₁ l₂ l₃ l₄ l₅ l₆ l₇ l₈ l₉ l₁₀ l₁₁ : ℕ) → Share → Upto n → List (Item 𝓤)
     At l₀ l₁ l₂ l₃ l₄ l₅ l₆ l₇ l₈ l₉ l₁₀ l₁₁ p i =
         ‵ (row T.the-row p ys b o) ∷ ‵ (fobor κ q (Lent p)) ∷ ‵ (fshr-bor κ Lent) ∷ ‵ (fres γ (codedHoleys T.the-row .code (heres T.the-row ys)))
-        ∷ ‵ (row u32 fullShare (loaded ys (i .0) cs) b′ o′) ∷ ‵ (fobor κ′ q′ (Held u32 (length cs) b′ o′ γ′)) ∷ ‵ (fobs γ′ (codedHoleys u32 .code (heres u32 cs))) ∷ ‵ (fauth γ′ (codedHoleys u32 .code (heres u32 cs)))
-        ∷ ‵ (froom T′.mir l₁₁ 0) ∷ ‵ (fdies T′.mir l₁₁) ∷ ‵ (froom tyPtr l₁₀ 0) ∷ ‵ (fdies tyPtr l₁₀) ∷ ‵ (froom (tyInt w64) l₉ 0) ∷ ‵ (fdies (tyInt w64) l₉) ∷ ‵ (froom lent-ty l₈ 0) ∷ ‵ (fdies lent-ty l₈) ∷ ‵ (froom lent-ref l₇ 0) ∷ ‵ (fdies lent-ref l₇)
-        ∷ ‵ (froom tyUnit l₆ 0) ∷ ‵ (fdies tyUnit l₆) ∷ ‵ (froom tyBool l₅ 0) ∷ ‵ (fdies tyBool l₅) ∷ ‵ (fat fullShare (tyInt w64) l₄ 0 (vint w64 (i .0))) ∷ ‵ (fdies (tyInt w64) l₄) ∷ ‵ (fat fullShare (tyInt w64) l₃ 0 (vint w64 n)) ∷ ‵ (fdies (tyInt w64) l₃)
-        ∷ ‵ (fat fullShare cells-ty l₂ 0 sc) ∷ ‵ (fdies cells-ty l₂) ∷ ‵ (fat fullShare nodes-ty l₁ 0 s) ∷ ‵ (fdies nodes-ty l₁) ∷ ‵ (froom tyUnit l₀ 0) ∷ ‵ (fdies tyUnit l₀) ∷ []
+        ∷ ‵ (row u32 fullShare (loaded ys (i .0) cs) b′ o′) ∷ ‵ (fobor κ′ q′ (Held u32 (length cs) b′ o′ γ′))
+        ∷ ‵ (fobs γ′ (codedHoleys u32 .code (heres u32 cs))) ∷ ‵ (fauth γ′ (codedHoleys u32 .code (heres u32 cs)))
+        ∷ ‵ (froom T′.mir l₁₁ 0) ∷ ‵ (fdies T′.mir l₁₁) ∷ ‵ (froom tyPtr l₁₀ 0) ∷ ‵ (fdies tyPtr l₁₀) ∷ ‵ (froom (tyInt w64) l₉ 0)
+        ∷ ‵ (fdies (tyInt w64) l₉) ∷ ‵ (froom lent-ty l₈ 0) ∷ ‵ (fdies lent-ty l₈) ∷ ‵ (froom lent-ref l₇ 0) ∷ ‵ (fdies lent-ref l₇)
+        ∷ ‵ (froom tyUnit l₆ 0) ∷ ‵ (fdies tyUnit l₆) ∷ ‵ (froom tyBool l₅ 0) ∷ ‵ (fdies tyBool l₅)
+        ∷ ‵ (fat fullShare (tyInt w64) l₄ 0 (vint w64 (i .0))) ∷ ‵ (fdies (tyInt w64) l₄) ∷ ‵ (fat fullShare (tyInt w64) l₃ 0 (vint w64 n))
+        ∷ ‵ (fdies (tyInt w64) l₃)
+        ∷ ‵ (fat fullShare cells-ty l₂ 0 sc) ∷ ‵ (fdies cells-ty l₂) ∷ ‵ (fat fullShare nodes-ty l₁ 0 s) ∷ ‵ (fdies nodes-ty l₁)
+        ∷ ‵ (froom tyUnit l₀ 0) ∷ ‵ (fdies tyUnit l₀) ∷ []
 
-    walk : Room T.the-row n → Room u32 (length cs) → 8 * n ≤ length cs → ent 𝓤 (onEntry 𝓤 H A load′.signature (κ, (κ′, tt)) (q, (q′, tt)) a vals) (WpFn 𝓤 H (𝓣 .C) (𝓣 .Λ) code.function (s ∷ sc ∷ []) Post)
+    walk : Room T.the-row n → Room u32 (length cs) → 8 * n ≤ length cs
+        → ent 𝓤 (onEntry 𝓤 H A load′.signature (κ, (κ′, tt)) (q, (q′, tt)) a vals) (WpFn 𝓤 H (𝓣 .C) (𝓣 .Λ) code.function (s ∷ sc ∷ []) Post)
     walk room rc long =
-        qed W ((‵ (flft κ q) ⊛ ‵ (flft κ′ q′) ⊛ ‵ ftrue) ∷ ‵ (owns (ShrSlice (named 0) κ T.the-row ∷ MutSlice (named 1) κ′ u32 ∷ []) a vals) ∷ []) ∵ enter ! (𝓣 .C) (𝓣 .Λ) code.function (s ∷ sc ∷ []) _ $
-        alloc1 ! (λ l₀. alloc1 ! (λ l₁. alloc1 ! (λ l₂. alloc1 ! (λ l₃. alloc1 ! (λ l₄. alloc1 ! (λ l₅. alloc1 ! (λ l₆. alloc1 ! (λ l₇. alloc1 ! (λ l₈. alloc1 ! (λ l₉. alloc1 ! (λ l₁₀. alloc1 ! (λ l₁₁. alloc0 ! $ params1 ! $
-        pass1 ! (init ! 20 refl (tt, (tt, (record { fits = room .0 }, tt)))) $ pass1 ! (init ! 18 refl (tt, (tt, (record { fits = rc .0 }, tt)))) $ pass0 ! $
-        assigns ! (of-opd ! (load ! (from ! (fld ! refl (stop !))) (look-in ! 20 (sub ! 1 refl (whole !))))) (from ! (stop !)) (init ! 16 refl (tt, record { fits = room .0 })) $
+        qed W ((‵ (flft κ q) ⊛ ‵ (flft κ′ q′) ⊛ ‵ ftrue) ∷ ‵ (owns (ShrSlice (named 0) κ T.the-row ∷ MutSlice (named 1) κ′ u32 ∷ []) a vals)
+        ∷ []) ∵ enter ! (𝓣 .C) (𝓣 .Λ) code.function (s ∷ sc ∷ []) _ $
+        alloc1 ! (λ l₀. alloc1 ! (λ l₁. alloc1 ! (λ l₂. alloc1 ! (λ l₃. alloc1 ! (λ l₄. alloc1 ! (λ l₅. alloc1 ! (λ l₆. alloc1 ! (λ l₇. alloc1 ! (λ
+        l₈. alloc1 ! (λ l₉. alloc1 ! (λ l₁₀. alloc1 ! (λ l₁₁. alloc0 ! $ params1 ! $
+        pass1 ! (init ! 20 refl (tt, (tt, (record { fits = room .0 }, tt)))) $ pass1 ! (init ! 18 refl (tt, (tt, (record { fits = rc .0 }, tt)))) $
+        pass0 ! $
+        assigns ! (of-opd ! (load ! (from ! (fld ! refl (stop !))) (look-in ! 20 (sub ! 1 refl (whole !))))) (from ! (stop !)) (init ! 16 refl (
+          tt,
+          record { fits = room .0 },
+        )) $
         assigns ! (of-opd ! (lit ! tt)) (from ! (stop !)) (init ! 14 refl (tt, record { fits = lit< tt })) $
         -- t's borrow is looked into, and the cells' is opened
         move ! (25 ∷ []) $ fsplit ! $ fsplit ! $ drop ! $ fsplit ! $ move ! (27 ∷ []) $ split ! $ move ! (3 ∷ 0 ∷ []) $
-        looks-slice ! tt T.the-row (Is T.the-row) (shows 𝓤 H A T.the-row) (LL.vals T.the-type T′.the-laws) (LL.tells T.the-type T′.the-laws) (LL.copy T.the-type T′.the-copy 𝓤 H A W) ys b o (λ p.
-        move ! (5 ∷ []) $ fsplit ! $ fsplit ! $ drop ! $ fsplit ! $ move ! (6 ∷ []) $ split ! $ move ! (2 ∷ 3 ∷ 0 ∷ []) $ opens-slice ! tt u32 cs b′ o′ $
+        looks-slice ! tt T.the-row (Is T.the-row) (shows 𝓤 H A T.the-row) (LL.vals T.the-type T′.the-laws) (LL.tells T.the-type T′.the-laws) (LL.copy
+        T.the-type T′.the-copy 𝓤 H A W) ys b o (λ p.
+        move ! (5 ∷ []) $ fsplit ! $ fsplit ! $ drop ! $ fsplit ! $ move ! (6 ∷ []) $ split ! $ move ! (2 ∷ 3 ∷ 0 ∷ []) $
+        opens-slice ! tt u32 cs b′ o′ $
         -- [the row of cells; the open borrow; obs; auth; true; true; t's row; what shuts it; the fractured borrow; res; _11; …]
-        keep ! (6 ∷ 7 ∷ 8 ∷ 9 ∷ 0 ∷ 1 ∷ 2 ∷ 3 ∷ 10 ∷ 11 ∷ 12 ∷ 13 ∷ 14 ∷ 15 ∷ 16 ∷ 17 ∷ 18 ∷ 19 ∷ 20 ∷ 21 ∷ 22 ∷ 23 ∷ 24 ∷ 25 ∷ 26 ∷ 27 ∷ 28 ∷ 29 ∷ 30 ∷ 31 ∷ 32 ∷ 33 ∷ []) $
+        keep ! (6 ∷ 7 ∷ 8 ∷ 9 ∷ 0 ∷ 1 ∷ 2 ∷ 3 ∷ 10 ∷ 11 ∷ 12 ∷ 13 ∷ 14 ∷ 15 ∷ 16 ∷ 17 ∷ 18 ∷ 19 ∷ 20 ∷ 21 ∷ 22 ∷ 23 ∷ 24 ∷ 25 ∷ 26 ∷ 27 ∷ 28 ∷ 29
+        ∷ 30 ∷ 31 ∷ 32 ∷ 33 ∷ []) $
         whiles ! 𝓣 (Nearer n) (nearer-wf n) (At l₀ l₁ l₂ l₃ l₄ l₅ l₆ l₇ l₈ l₉ l₁₀ l₁₁ p) (λ i P ways.
-        -- [t's row; what shuts it; the fractured borrow; res; the row of cells; the open borrow; obs; auth; _11 (8); _10; _9; _8; _7; _6; _5; _4 (22); _3; _2; _1; _0]
-        assigns ! (bin ! (load ! (from ! (stop !)) (look ! 22 refl)) (load ! (from ! (stop !)) (look ! 24 refl)) tt) (from ! (stop !)) (init ! 20 refl (tt, tt)) $
+        -- [t's row; what shuts it; the fractured borrow; res; the row of cells; the open borrow; obs; auth; _11 (8); _10; _9; _8; _7; _6; _5; _4
+        -- (22); _3; _2; _1; _0]
+        assigns ! (bin ! (load ! (from ! (stop !)) (look ! 22 refl)) (load ! (from ! (stop !)) (look ! 24 refl)) tt) (from ! (stop !)) (init ! 20
+        refl (tt, tt)) $
         tests ! (load ! (from ! (stop !)) (look ! 20 refl))
         (λ less. let h = ltb→lt (i .0) n less in
         let l = loaded ys (i .0) cs in
         let el = length-loaded ys (i .0) cs in
-        assigns ! (addr ! (from ! (fld ! refl (hop ! (look-in ! 26 (sub ! 0 refl (whole !))) (stop !))))) (from ! (stop !)) (init ! 16 refl (tt, tt)) $
-        assigns ! (agg ! (and-then ! (load ! (from ! (stop !)) (look ! 16 refl)) (and-then ! (load ! (from ! (fld ! refl (stop !))) (look-in ! 26 (sub ! 1 refl (whole !)))) (no-more !)))) (from ! (stop !)) (init ! 14 refl (tt, (tt, (record { fits = rc .0 }, tt)))) $
+        assigns ! (addr ! (from ! (fld ! refl (hop ! (look-in ! 26 (sub ! 0 refl (whole !))) (stop !))))) (from ! (stop !)) (init ! 16 refl (tt, tt))
+        $
+        assigns ! (agg ! (and-then ! (load ! (from ! (stop !)) (look ! 16 refl)) (and-then ! (load ! (from ! (fld ! refl (stop !))) (look-in ! 26
+        (sub ! 1 refl (whole !)))) (no-more !)))) (from ! (stop !)) (init ! 14 refl (tt, (tt, (record { fits = rc .0 }, tt)))) $
         -- t[i] is copied
-        assigns ! (bin ! (load ! (from ! (stop !)) (look ! 22 refl)) (lit ! tt) (record { fits = start-fits (i .0) n h (room .1) })) (from ! (stop !)) (init ! 12 refl (tt, record { fits = start-fits (i .0) n h (room .1) })) $
-        assigns ! (bin ! (load ! (from ! (fld ! refl (stop !))) (look-in ! 28 (sub ! 0 refl (whole !)))) (load ! (from ! (stop !)) (look ! 12 refl)) tt) (from ! (stop !)) (init ! 10 refl (tt, tt)) $
+        assigns ! (bin ! (load ! (from ! (stop !)) (look ! 22 refl)) (lit ! tt) (record { fits = start-fits (i .0) n h (room .1) })) (from ! (stop
+        !)) (init ! 12 refl (tt, record { fits = start-fits (i .0) n h (room .1) })) $
+        assigns ! (bin ! (load ! (from ! (fld ! refl (stop !))) (look-in ! 28 (sub ! 0 refl (whole !)))) (load ! (from ! (stop !)) (look ! 12 refl))
+        tt) (from ! (stop !)) (init ! 10 refl (tt, tt)) $
         rewrite ! 10 (λ (z : ℕ). ‵ (fat fullShare tyPtr l₁₀ 0 (vptr b z))) (sym (place-is 24 o (i .0))) refl $
-        elem-out ! T.the-row (Is T.the-row) (shows 𝓤 H A T.the-row) (LL.vals T.the-type T′.the-laws) (LL.tells T.the-type T′.the-laws) p ys (i .0) blank b o h (λ isd.
-        assigns ! (of-opd ! (load ! (from ! (hop ! (look ! 12 refl) (stop !))) (look-raw ! 0 refl))) (from ! (stop !)) (init ! 10 refl (LL.lawful T.the-type T′.the-laws 𝓤 H A W .typed (f (i .0)) _ isd .0)) $
+        elem-out ! T.the-row (Is T.the-row) (shows 𝓤 H A T.the-row) (LL.vals T.the-type T′.the-laws) (LL.tells T.the-type T′.the-laws) p ys (i .0)
+        blank b o h (λ isd.
+        assigns ! (of-opd ! (load ! (from ! (hop ! (look ! 12 refl) (stop !))) (look-raw ! 0 refl))) (from ! (stop !)) (init ! 10 refl (LL.lawful
+        T.the-type T′.the-laws 𝓤 H A W .typed (f (i .0)) _ isd .0)) $
         elem-back ! T.the-row p ys (i .0) blank (T′.lowered (f (i .0)) ∷ []) b o h $
         -- the row of cells is lent for a lifetime ν of the call
         move ! (4 ∷ []) $ lft-new ! tt (λ ν. move ! (1 ∷ []) $
-        use1 W (later (some (λ (δ : GName). ‵ (MutSlice (named 0) (ν ∷ []) u32 .own (c δ l) (sliceVal (b′, o′) (length l) ∷ [])) ⊛ ‵ (flent (ν ∷ []) (Held u32 (length l) b′ o′ δ)))))
+        use1 W (later (some (λ (δ : GName). ‵ (MutSlice (named 0) (ν ∷ []) u32 .own (c δ l) (sliceVal (b′, o′) (length l) ∷ [])) ⊛ ‵ (flent (ν
+        ∷ []) (Held u32 (length l) b′ o′ δ)))))
         (lends-row 𝓤 H A W u32 (named 0) (ν ∷ []) l b′ o′ (subst (Room u32) (sym el) rc)) $ await ! tt $ pick ! (λ δ. split ! $
         rewrite ! 0 (λ (m : ℕ). ‵ (MutSlice (named 0) (ν ∷ []) u32 .own (c δ l) (sliceVal (b′, o′) m ∷ []))) el refl $
         -- [the slice; the lender's part; the token of ν; t's row; what shuts it; the fractured borrow; res; the open borrow; obs; auth; _11; …]
-        move ! (2 ∷ 0 ∷ []) $ use2 W (raw (Put 𝓤 H A mem run .pre (to-put ν δ l (i .0) (f (i .0))))) (goes-put ν δ l (i .0) (f (i .0)) (fits-below (i .0) n h (room .0)) isd (subst (λ (m : ℕ). 8 * i .0 + 8 ≤ m) (sym el) (cell-in (i .0) n h _ long))) $
-        calls-at ! (fmOf 𝓤 H (W .laws) 𝓣) (Put 𝓤 H A mem run) known (to-put ν δ l (i .0) (f (i .0))) (and-then ! (load ! (from ! (stop !)) (look ! 15 refl)) (and-then ! (load ! (from ! (stop !)) (look ! 23 refl)) (and-then ! (load ! (from ! (stop !)) (look ! 9 refl)) (no-more !)))) (λ w.
-        use1 W (later (some (λ (u : Unit {0}). ((‵ (flft (ν ∷ []) fullShare) ⊛ ‵ ftrue) ⊛ ‵ (unit .own u (w ∷ []))) ⊛ raw (ensured 𝓤 H A put.ended (put.clauses 𝓤 H A mem run) (ν ∷ [], tt) (c δ l, (i .0, (f (i .0), tt))) tt u)))) (id⊢ 𝓤 _) $ await ! tt $ pick ! (λ u.
-        split ! $ move ! (1 ∷ []) $ use1 W (some (λ (zs : List ℕ × (Unit {0} × (Unit {0} × Unit {0}))). ‵ (lasts put.ended (ν ∷ [], tt) (c δ l, (i .0, (f (i .0), tt))) zs) ⊛ raw (fact 𝓤 (zs .0 ≡ putNode l (i .0) (f (i .0)))))) (id⊢ 𝓤 _) $ pick ! (λ zs.
-        split ! $ move ! (1 ∷ []) $ heard ! (zs .0 ≡ putNode l (i .0) (f (i .0))) (λ e. fsplit ! $ fsplit ! $ move ! (1 ∷ []) $ feqL ! (λ same. move ! (2 ∷ []) $ split ! $ move ! (1 ∷ []) $ feqL ! (λ eu.
-        -- [the token, true; the last list; …; the lender's part; t's row; what shuts it; the fractured borrow; res; the open borrow; obs; auth; _11 (11); …]
+        move ! (2 ∷ 0 ∷ []) $ use2 W (raw (Put 𝓤 H A mem run .pre (to-put ν δ l (i .0) (f (i .0))))) (goes-put ν δ l (i .0) (f (i .0)) (fits-below (i
+        .0) n h (room .0)) isd (subst (λ (m : ℕ). 8 * i .0 + 8 ≤ m) (sym el) (cell-in (i .0) n h _ long))) $
+        calls-at ! (fmOf 𝓤 H (W .laws) 𝓣) (Put 𝓤 H A mem run) known (to-put ν δ l (i .0) (f (i .0))) (and-then ! (load ! (from ! (stop !)) (look ! 15
+        refl)) (and-then ! (load ! (from ! (stop !)) (look ! 23 refl)) (and-then ! (load ! (from ! (stop !)) (look ! 9 refl)) (no-more !)))) (λ w.
+        use1 W (later (some (λ (u : Unit {0}). ((‵ (flft (ν ∷ []) fullShare) ⊛ ‵ ftrue) ⊛ ‵ (unit .own u (w ∷ [])))
+        ⊛ raw (ensured 𝓤 H A put.ended (put.clauses 𝓤 H A mem run) (ν ∷ [], tt) (c δ l, (i .0, (f (i .0), tt))) tt u)))) (id⊢ 𝓤 _) $ await ! tt $
+        pick ! (λ u.
+        split ! $ move ! (1 ∷ []) $ use1 W (some (λ (zs : List ℕ × (Unit {0} × (Unit {0} × Unit {0}))). ‵ (lasts put.ended (
+          ν
+              ∷ [],
+          tt,
+        ) (c δ l, (i .0, (f (i .0), tt))) zs) ⊛ raw (fact 𝓤 (zs .0 ≡ putNode l (i .0) (f (i .0)))))) (id⊢ 𝓤 _) $ pick ! (λ zs.
+        split ! $ move ! (1 ∷ []) $ heard ! (zs .0 ≡ putNode l (i .0) (f (i .0))) (λ e. fsplit ! $ fsplit ! $ move ! (1 ∷ []) $
+        feqL ! (λ same. move ! (2 ∷ []) $ split ! $ move ! (1 ∷ []) $ feqL ! (λ eu.
+        -- [the token, true; the last list; …; the lender's part; t's row; what shuts it; the fractured borrow; res; the open borrow; obs; auth; _11
+        -- (11); …]
         land ! (from ! (stop !)) (init ! 21 refl (subst (λ (v : Val). Holds (hasTy tyUnit v) × WT v) (sym (ap only eu)) (tt, tt))) $
         -- the lifetime is ended, and the row comes back
-        split ! $ lft-end ! tt $ move ! (0 ∷ 4 ∷ 2 ∷ []) $ use3 W (later (‵ (row u32 fullShare (zs .0) b′ o′))) (row-back 𝓤 H A W u32 (named 0) (ν ∷ []) (zs .0) b′ o′ δ (length l)) $ await ! tt $
+        split ! $ lft-end ! tt $ move ! (0 ∷ 4 ∷ 2 ∷ []) $ use3 W (later (‵ (row u32 fullShare (zs .0) b′ o′))) (row-back 𝓤 H A W u32 (named 0) (ν
+        ∷ []) (zs .0) b′ o′ δ (length l)) $ await ! tt $
         rewrite ! 0 (λ (z : List ℕ). ‵ (row u32 fullShare z b′ o′)) e refl $
         -- [the row of cells; true; …; t's row; what shuts it; the fractured borrow; res; the open borrow; obs; auth; _11 (10); …]
-        assigns-last ! (bin ! (load ! (from ! (stop !)) (look ! 24 refl)) (lit ! tt) (record { fits = next-fits (i .0) n h (room .0) })) (from ! (stop !)) (store ! 24 refl (tt, record { fits = next-fits (i .0) n h (room .0) })) $
+        assigns-last ! (bin ! (load ! (from ! (stop !)) (look ! 24 refl)) (lit ! tt) (record { fits = next-fits (i .0) n h (room .0) })) (from !
+        (stop !)) (store ! 24 refl (tt, record { fits = next-fits (i .0) n h (room .0) })) $
         rewrite ! 24 (λ (j : ℕ). ‵ (fat fullShare (tyInt w64) l₄ 0 (vint w64 j))) (one-more (i .0)) refl $
         forget ! 10 refl $ forget ! 12 refl $ forget ! 14 refl $ forget ! 16 refl $ forget ! 18 refl $ forget ! 20 refl $ forget ! 22 refl $
-        keep ! (3 ∷ 4 ∷ 5 ∷ 6 ∷ 0 ∷ 7 ∷ 8 ∷ 9 ∷ 10 ∷ 11 ∷ 12 ∷ 13 ∷ 14 ∷ 15 ∷ 16 ∷ 17 ∷ 18 ∷ 19 ∷ 20 ∷ 21 ∷ 22 ∷ 23 ∷ 24 ∷ 25 ∷ 26 ∷ 27 ∷ 28 ∷ 29 ∷ 30 ∷ 31 ∷ 32 ∷ 33 ∷ []) $
+        keep ! (3 ∷ 4 ∷ 5 ∷ 6 ∷ 0 ∷ 7 ∷ 8 ∷ 9 ∷ 10 ∷ 11 ∷ 12 ∷ 13 ∷ 14 ∷ 15 ∷ 16 ∷ 17 ∷ 18 ∷ 19 ∷ 20 ∷ 21 ∷ 22 ∷ 23 ∷ 24 ∷ 25 ∷ 26 ∷ 27 ∷ 28 ∷ 29
+        ∷ 30 ∷ 31 ∷ 32 ∷ 33 ∷ []) $
         ways .end ! $ again ! (Nearer n) (At l₀ l₁ l₂ l₃ l₄ l₅ l₆ l₇ l₈ l₉ l₁₀ l₁₁ p) i (suc (i .0), h) (nearer (i .0) n h)))))))))))
         -- the loop is left
         (λ over. ways .out ! $
@@ -162,19 +232,27 @@ module _ {M : Type 1} (𝓤 : URA M) (H : Heap 𝓤) (A : Atoms 𝓤) (W : Given
         move ! (3 ∷ 4 ∷ 5 ∷ 6 ∷ []) $ closes-slice ! tt u32 cs (loaded ys (i .0) cs) (length-loaded ys (i .0) cs) b′ o′ $
         -- [obs; the borrow; the second token; the token; the fractured borrow; res; _11 (6); …; _0 (28)]
         returns ! (look ! 28 refl) $ forget ! 18 refl $ forget ! 20 refl $ forget ! 22 refl $ forget ! 24 refl $ forget ! 26 refl $ forget ! 28 refl $
-        move ! (28 ∷ 29 ∷ []) $ free1 ! $ move ! (26 ∷ 27 ∷ []) $ free1 ! $ move ! (24 ∷ 25 ∷ []) $ free1 ! $ move ! (22 ∷ 23 ∷ []) $ free1 ! $ move ! (20 ∷ 21 ∷ []) $ free1 ! $ move ! (18 ∷ 19 ∷ []) $ free1 ! $ move ! (16 ∷ 17 ∷ []) $ free1 ! $ move ! (14 ∷ 15 ∷ []) $ free1 ! $ move ! (12 ∷ 13 ∷ []) $ free1 ! $ move ! (10 ∷ 11 ∷ []) $ free1 ! $ move ! (8 ∷ 9 ∷ []) $ free1 ! $ move ! (6 ∷ 7 ∷ []) $ free1 ! $ free0 ! $
+        move ! (28 ∷ 29 ∷ []) $ free1 ! $ move ! (26 ∷ 27 ∷ []) $ free1 ! $ move ! (24 ∷ 25 ∷ []) $ free1 ! $ move ! (22 ∷ 23 ∷ []) $ free1 ! $
+        move ! (20 ∷ 21 ∷ []) $ free1 ! $ move ! (18 ∷ 19 ∷ []) $ free1 ! $ move ! (16 ∷ 17 ∷ []) $ free1 ! $ move ! (14 ∷ 15 ∷ []) $ free1 ! $
+        move ! (12 ∷ 13 ∷ []) $ free1 ! $ move ! (10 ∷ 11 ∷ []) $ free1 ! $ move ! (8 ∷ 9 ∷ []) $ free1 ! $ move ! (6 ∷ 7 ∷ []) $ free1 ! $ free0 ! $
         by ! (exits (i .0) (le-antisymm (i .1) (nltb→le (i .0) n over)) room rc)))
         (0, zero-le))))))))))))))
 
-module _ {M : Type 1} (𝓤 : URA M) (H : Heap 𝓤) (A : Atoms 𝓤) (W : Given 𝓤 H A) (mem : Memory → SProp 𝓤) (run : Routine → Fun 𝓤) (𝓣 : Tables 𝓤 H) (known : Triple 𝓤 (𝓣 .C #put) (Put 𝓤 H A mem run)) where
+module _ {M : Type 1} (𝓤 : URA M) (H : Heap 𝓤) (A : Atoms 𝓤) (W : Given 𝓤 H A) (mem : Memory → SProp 𝓤) (run : Routine
+    → Fun 𝓤) (𝓣 : Tables 𝓤 H) (known : Triple 𝓤 (𝓣 .C #put) (Put 𝓤 H A mem run)) where
   load-walks : Walks 𝓤 H A load′.ended stayed (WpFn 𝓤 H (𝓣 .C) (𝓣 .Λ) code.function) (load′.clauses 𝓤 H A mem run)
   load-walks = walked 𝓤 H A load′.ended stayed (load′.clauses 𝓤 H A mem run) (WpFn 𝓤 H (𝓣 .C) (𝓣 .Λ) code.function)
       (λ κs. (slice-vals, (slice-vals, tt))) (λ κs. (shr-slice-tells (named 0) (κs .0) T.the-row, (mut-slice-tells (named 1) (κs .1 .0) u32, tt)))
       (λ κs qs bounds a g are. needs 𝓤 (8 * length (a .0 .now) ≤ length (a .1 .0 .now)) _ (λ long.
-      walk 𝓤 H A W mem run (κs .0) (κs .1 .0) (qs .0) (qs .1 .0) (a .0 .ptr .0) (a .0 .ptr .1) (a .0 .name) (a .0 .now) (a .1 .0 .ptr .0) (a .1 .0 .ptr .1) (a .1 .0 .name) (a .1 .0 .now) 𝓣 known (are .0 .0 .1) (are .1 .0 .0 .1) long))
+      walk 𝓤 H A W mem run (κs .0) (κs .1 .0) (qs .0) (qs .1 .0) (a .0 .ptr .0) (a .0 .ptr .1) (a .0 .name) (a .0 .now) (a .1 .0 .ptr .0) (a .1 .0
+      .ptr .1) (a .1 .0 .name) (a .1 .0 .now) 𝓣 known (are .0 .0 .1) (are .1 .0 .0 .1) long))
 
   load-meets : Meets 𝓤 H A load′.signature (WpFn 𝓤 H (𝓣 .C) (𝓣 .Λ) code.function) (load′.spec 𝓤 H A mem run)
-  load-meets = walk-meets 𝓤 H A load′.ended stayed W (goes-none-slice 𝓤 H A W 2 (0 ∷ []) tt (plain (λ _. T.the-row)) yes, (goes-slice 𝓤 H A W 2 1 tt (plain (λ _. u32)), tt))
+  load-meets = walk-meets 𝓤 H A load′.ended stayed W (
+    goes-none-slice 𝓤 H A W 2 (0
+        ∷ []) tt (plain (λ _. T.the-row)) yes,
+    (goes-slice 𝓤 H A W 2 1 tt (plain (λ _. u32)), tt),
+  )
       (load′.clauses 𝓤 H A mem run) (WpFn 𝓤 H (𝓣 .C) (𝓣 .Λ) code.function) (WpFn-mono 𝓤 H (W .laws) 𝓣 code.function) load-walks
 
 pub load-spec : {M : Type 1} → stated.statement M

@@ -1,5 +1,19 @@
--- `top::store` meets its contract: a walk of its MIR, by hand, with a loop. The borrow of t is opened once, before the loop, and closed once, after it. In each turn the cells are had twice, one copy is passed to `node_of`, and its node is stored.
-use Rattle.monitor.proofs.Walk.{stay-none, goes-none, uint-vals, uint-tells, _≡_, refl, sym, ap, subst, ℕ, suc, _<_, _≤_, _^_, _*_, _+_, _-_, zero-le, le-antisymm, [], _∷_, List, length, set, ltb→lt, nltb→le, lit<, URA, fullShare, named, imm, mut, w32, w64, tyInt, tyBool, tyPtr, tyUnit, tyRef, Ty, Val, vunit, vint, vptr, SProp, ent, sep, exE, snd∗, id⊢, Lft, Share, GName, Fml, ftrue, fat, froom, fdies, flft, fobs, fauth, fbor, fobor, Memory, Routine, Heap, WpFn, Tables, Atoms, sem, Fun, fact, givenOf, tables, tablesOf, Given, Item, ‵, raw, _⊛_, some, later, ⋆, _$_, _∵_, !, qed, by, move, keep, drop, use1, use2, split, join, pick, rewrite, fsplit, fjoin, feqI, suffices, frame, await, done, look, init, store, store-raw, forget, stop, hop, fld, from, load, lit, unit-lit, of-opd, bin, and-then, no-more, assigns, assigns-last, land, returns, enter, alloc1, alloc0, params1, pass1, pass0, free1, free0, again, whole, sub, look-in, fmOf, WpFn-mono, RattleType, owns, pureI, Is, shows, pointee, uint-makes, usize, u32, RefT, plain, sliceTy, sliceVal, MutSlice, ShrSlice, Room, heres, codedHoleys, at-slice, slice-vals, mut-slice-tells, shr-slice-tells, shr-slice-copy, Held, place-is, row, elem-out, elem-put, opens-slice, closes-slice, owned, peeks, heard, nothing, Contract, Triple, calls-at, onEntry, Meets, tripleOf, entered, cited, says, needs, Stays, stay-none-slice, stay-slice, walkOf, goes-none-slice, goes-slice, Walks, ends-at, walked, walk-meets, ensured, lasts, yes}
+-- `copies::store` meets its contract: a walk of its MIR, by hand, with a loop. The borrow of the records is opened once, before the loop, and closed
+-- once, after it, at what is filled. In each turn a copy of the slice of words is passed to `node_of`, and the record that comes back is stored.
+-- Assumes nothing.
+use Rattle.monitor.proofs.Walk.{stay-none, goes-none, uint-vals, uint-tells, _≡_, refl, sym, ap, subst, ℕ, suc, _<_, _≤_, _^_, _*_, _+_, _-_, zero-le}
+use Rattle.monitor.proofs.Walk.{le-antisymm, [], _∷_, List, length, set, ltb→lt, nltb→le, lit<, URA, fullShare, named, imm, mut, w32, w64, tyInt}
+use Rattle.monitor.proofs.Walk.{tyBool, tyPtr, tyUnit, tyRef, Ty, Val, vunit, vint, vptr, SProp, ent, sep, exE, snd∗, id⊢, Lft, Share, GName, Fml}
+use Rattle.monitor.proofs.Walk.{ftrue, fat, froom, fdies, flft, fobs, fauth, fbor, fobor, Memory, Routine, Heap, WpFn, Tables, Atoms, sem, Fun, fact}
+use Rattle.monitor.proofs.Walk.{givenOf, tables, tablesOf, Given, Item, ‵, raw, _⊛_, some, later, ⋆, _$_, _∵_, !, qed, by, move, keep, drop, use1}
+use Rattle.monitor.proofs.Walk.{use2, split, join, pick, rewrite, fsplit, fjoin, feqI, suffices, frame, await, done, look, init, store, store-raw}
+use Rattle.monitor.proofs.Walk.{forget, stop, hop, fld, from, load, lit, unit-lit, of-opd, bin, and-then, no-more, assigns, assigns-last, land}
+use Rattle.monitor.proofs.Walk.{returns, enter, alloc1, alloc0, params1, pass1, pass0, free1, free0, again, whole, sub, look-in, fmOf, WpFn-mono}
+use Rattle.monitor.proofs.Walk.{RattleType, owns, pureI, Is, shows, pointee, uint-makes, usize, u32, RefT, plain, sliceTy, sliceVal, MutSlice}
+use Rattle.monitor.proofs.Walk.{ShrSlice, Room, heres, codedHoleys, at-slice, slice-vals, mut-slice-tells, shr-slice-tells, shr-slice-copy, Held}
+use Rattle.monitor.proofs.Walk.{place-is, row, elem-out, elem-put, opens-slice, closes-slice, owned, peeks, heard, nothing, Contract, Triple}
+use Rattle.monitor.proofs.Walk.{calls-at, onEntry, Meets, tripleOf, entered, cited, says, needs, Stays, stay-none-slice, stay-slice, walkOf}
+use Rattle.monitor.proofs.Walk.{goes-none-slice, goes-slice, Walks, ends-at, walked, walk-meets, ensured, lasts, yes}
 use denote.Struct.Laws as LL
 use Rattle.table.specs.declared.lent.Node.{Node}
 use Rattle.table.specs.Cells.{cells}
@@ -33,7 +47,8 @@ module _ {M : Type 1} (𝓤 : URA M) (H : Heap 𝓤) (A : Atoms 𝓤) (mem : Mem
   Of = tripleOf 𝓤 H A of′.signature (of′.spec 𝓤 H A mem run)
 
 -- t is behind (b, o) under γ, with ys. The cells are cs. n places are stored
-module _ {M : Type 1} (𝓤 : URA M) (H : Heap 𝓤) (A : Atoms 𝓤) (W : Given 𝓤 H A) (mem : Memory → SProp 𝓤) (run : Routine → Fun 𝓤) (κ κ′ : Lft) (q q′ : Share) (b o : ℕ) (γ : GName) (ys : List Node) (cs : RefT (List ℕ)) (n : ℕ) (n-fits : n < 2 ^ 64) where
+module _ {M : Type 1} (𝓤 : URA M) (H : Heap 𝓤) (A : Atoms 𝓤) (W : Given 𝓤 H A) (mem : Memory → SProp 𝓤) (run : Routine
+    → Fun 𝓤) (κ κ′ : Lft) (q q′ : Share) (b o : ℕ) (γ : GName) (ys : List Node) (cs : RefT (List ℕ)) (n : ℕ) (n-fits : n < 2 ^ 64) where
   abbrev f : ℕ → Node
   f i = nodeOf (cells (cs .now) i)
 
@@ -68,43 +83,63 @@ module _ {M : Type 1} (𝓤 : URA M) (H : Heap 𝓤) (A : Atoms 𝓤) (W : Given
 
   goes-of : (i : ℕ) → i < 2 ^ 64 → 8 * i + 8 ≤ length (cs .now) → ent 𝓤 (sep 𝓤 (A .lft κ′ q′) (sem 𝓤 H A C)) (Of 𝓤 H A mem run .pre (to-of i))
   goes-of i i-fits inside =
-      qed W (‵ (flft κ′ q′) ∷ ‵ C ∷ []) ∵ says ! inside $ nothing ! $ move ! (1 ∷ 0 ∷ []) $ join ! $ frame ! $ nothing ! $ owned ! usize (Is usize) (uint-makes 𝓤 H A W w64) i _ (refl, i-fits) $ fjoin ! $ move ! (1 ∷ 0 ∷ []) $ fjoin ! $ done !
+      qed W (‵ (flft κ′ q′) ∷ ‵ C ∷ []) ∵ says ! inside $ nothing ! $ move ! (1 ∷ 0 ∷ []) $ join ! $ frame ! $ nothing ! $
+      owned ! usize (Is usize) (uint-makes 𝓤 H A W w64) i _ (refl, i-fits) $ fjoin ! $ move ! (1 ∷ 0 ∷ []) $ fjoin ! $ done !
 
   made-of : (i : ℕ) (r : Node) → ent 𝓤 (ensured 𝓤 H A of′.ended (of′.clauses 𝓤 H A mem run) (κ′, tt) (cs, (i, tt)) tt r) (fact 𝓤 (r ≡ f i))
   made-of i r = exE 𝓤 _ (λ ws. snd∗ 𝓤 (sem 𝓤 H A (lasts of′.ended (κ′, tt) (cs, (i, tt)) ws)) (fact 𝓤 (r ≡ f i)))
 
   exits : (i : ℕ) → i ≡ n → Room T.the-row (length ys)
-      → ent 𝓤 (⋆ 𝓤 H A (‵ (fobs γ (codedHoleys T.the-row .code (heres T.the-row (stored (cs .now) i ys)))) ∷ ‵ (fbor κ (Held T.the-row (length (stored (cs .now) i ys)) b o γ)) ∷ ‵ (flft κ q) ∷ ‵ C ∷ ‵ (flft κ′ q′) ∷ [])) (Post vunit)
+      → ent 𝓤 (⋆ 𝓤 H A (‵ (fobs γ (codedHoleys T.the-row .code (heres T.the-row (stored (cs .now) i ys))))
+      ∷ ‵ (fbor κ (Held T.the-row (length (stored (cs .now) i ys)) b o γ)) ∷ ‵ (flft κ q) ∷ ‵ C ∷ ‵ (flft κ′ q′) ∷ [])) (Post vunit)
   exits i e room =
-      qed W (‵ (fobs γ (codedHoleys T.the-row .code (heres T.the-row (stored (cs .now) i ys)))) ∷ ‵ (fbor κ (Held T.the-row (length (stored (cs .now) i ys)) b o γ)) ∷ ‵ (flft κ q) ∷ ‵ C ∷ ‵ (flft κ′ q′) ∷ []) ∵
-      suffices ! _ (ends-at 𝓤 H A store′.ended stayed (store′.clauses 𝓤 H A mem run) W bound vunit tt (stored (cs .now) i ys, (tt, (tt, tt))) (length-stored (cs .now) i ys, (tt, (tt, tt)))) $ says ! (ap (λ (k : ℕ). stored (cs .now) k ys) e) $
+      qed W (‵ (fobs γ (codedHoleys T.the-row .code (heres T.the-row (stored (cs .now) i ys))))
+      ∷ ‵ (fbor κ (Held T.the-row (length (stored (cs .now) i ys)) b o γ)) ∷ ‵ (flft κ q) ∷ ‵ C ∷ ‵ (flft κ′ q′) ∷ []) ∵
+      suffices ! _ (ends-at 𝓤 H A store′.ended stayed (store′.clauses 𝓤 H A mem run) W bound vunit tt (stored (cs .now) i ys, (tt, (tt, tt)))
+      (length-stored (cs .now) i ys, (tt, (tt, tt)))) $ says ! (ap (λ (k : ℕ). stored (cs .now) k ys) e) $
       nothing ! $ move ! (5 ∷ 0 ∷ []) $ join ! $ move ! (3 ∷ 0 ∷ []) $ join ! $ frame ! $
-      fjoin ! $ pureI ! (at-slice T.the-row (x (stored (cs .now) i ys)) (s ∷ [])) (tt, (tt, tt)) (ap (λ (m : ℕ). sliceVal (b, o) m ∷ []) (sym (length-stored (cs .now) i ys)), subst (Room T.the-row) (sym (length-stored (cs .now) i ys)) room) $ fjoin ! $
-      nothing ! $ owned ! usize (Is usize) (uint-makes 𝓤 H A W w64) n _ (refl, n-fits) $ fjoin ! $ move ! (2 ∷ 0 ∷ []) $ fjoin ! $ move ! (1 ∷ 0 ∷ []) $ fjoin ! $ feqI ! (List Val) (vunit ∷ []) (vunit ∷ []) refl $ move ! (1 ∷ 0 ∷ []) $ done !
+      fjoin ! $ pureI ! (at-slice T.the-row (x (stored (cs .now) i ys)) (s ∷ [])) (tt, (tt, tt)) (
+        ap (λ (m : ℕ). sliceVal (b, o) m
+            ∷ []) (sym (length-stored (cs .now) i ys)),
+        subst (Room T.the-row) (sym (length-stored (cs .now) i ys)) room,
+      ) $ fjoin ! $
+      nothing ! $ owned ! usize (Is usize) (uint-makes 𝓤 H A W w64) n _ (refl, n-fits) $ fjoin ! $ move ! (2 ∷ 0 ∷ []) $ fjoin ! $
+      move ! (1 ∷ 0 ∷ []) $ fjoin ! $ feqI ! (List Val) (vunit ∷ []) (vunit ∷ []) refl $ move ! (1 ∷ 0 ∷ []) $ done !
 
   module _ (𝓣 : Tables 𝓤 H) (known : Triple 𝓤 (𝓣 .C #node-of) (Of 𝓤 H A mem run)) where
     -- the loop's invariant, at the place i: the first i places are filled
     abbrev At : (l₀ l₁ l₂ l₃ l₄ l₅ l₆ l₇ l₈ : ℕ) → Upto n → List (Item 𝓤)
     At l₀ l₁ l₂ l₃ l₄ l₅ l₆ l₇ l₈ i =
-        ‵ (row T.the-row fullShare (stored (cs .now) (i .0) ys) b o) ∷ ‵ (fobor κ q (Held T.the-row (length ys) b o γ)) ∷ ‵ (fobs γ (codedHoleys T.the-row .code (heres T.the-row ys))) ∷ ‵ (fauth γ (codedHoleys T.the-row .code (heres T.the-row ys))) ∷ ‵ C ∷ ‵ (flft κ′ q′)
-        ∷ ‵ (froom tyPtr l₈ 0) ∷ ‵ (fdies tyPtr l₈) ∷ ‵ (froom (tyInt w64) l₇ 0) ∷ ‵ (fdies (tyInt w64) l₇) ∷ ‵ (froom T′.mir l₆ 0) ∷ ‵ (fdies T′.mir l₆) ∷ ‵ (froom tyBool l₅ 0) ∷ ‵ (fdies tyBool l₅)
-        ∷ ‵ (fat fullShare (tyInt w64) l₄ 0 (vint w64 (i .0))) ∷ ‵ (fdies (tyInt w64) l₄) ∷ ‵ (fat fullShare (tyInt w64) l₃ 0 (vint w64 n)) ∷ ‵ (fdies (tyInt w64) l₃)
-        ∷ ‵ (fat fullShare cells-ty l₂ 0 sc) ∷ ‵ (fdies cells-ty l₂) ∷ ‵ (fat fullShare nodes-ty l₁ 0 s) ∷ ‵ (fdies nodes-ty l₁) ∷ ‵ (froom tyUnit l₀ 0) ∷ ‵ (fdies tyUnit l₀) ∷ []
+        ‵ (row T.the-row fullShare (stored (cs .now) (i .0) ys) b o) ∷ ‵ (fobor κ q (Held T.the-row (length ys) b o γ))
+        ∷ ‵ (fobs γ (codedHoleys T.the-row .code (heres T.the-row ys))) ∷ ‵ (fauth γ (codedHoleys T.the-row .code (heres T.the-row ys))) ∷ ‵ C
+        ∷ ‵ (flft κ′ q′)
+        ∷ ‵ (froom tyPtr l₈ 0) ∷ ‵ (fdies tyPtr l₈) ∷ ‵ (froom (tyInt w64) l₇ 0) ∷ ‵ (fdies (tyInt w64) l₇) ∷ ‵ (froom T′.mir l₆ 0)
+        ∷ ‵ (fdies T′.mir l₆) ∷ ‵ (froom tyBool l₅ 0) ∷ ‵ (fdies tyBool l₅)
+        ∷ ‵ (fat fullShare (tyInt w64) l₄ 0 (vint w64 (i .0))) ∷ ‵ (fdies (tyInt w64) l₄) ∷ ‵ (fat fullShare (tyInt w64) l₃ 0 (vint w64 n))
+        ∷ ‵ (fdies (tyInt w64) l₃)
+        ∷ ‵ (fat fullShare cells-ty l₂ 0 sc) ∷ ‵ (fdies cells-ty l₂) ∷ ‵ (fat fullShare nodes-ty l₁ 0 s) ∷ ‵ (fdies nodes-ty l₁)
+        ∷ ‵ (froom tyUnit l₀ 0) ∷ ‵ (fdies tyUnit l₀) ∷ []
 
     walk : Room T.the-row (length ys) → Room u32 (length (cs .now)) → (n ≤ length ys) × (8 * n ≤ length (cs .now))
-        → ent 𝓤 (onEntry 𝓤 H A store′.signature (κ, (κ′, tt)) (q, (q′, tt)) a vals) (WpFn 𝓤 H (𝓣 .C) (𝓣 .Λ) code.function (s ∷ sc ∷ vint w64 n ∷ []) Post)
+        → ent 𝓤 (onEntry 𝓤 H A store′.signature (κ, (κ′, tt)) (q, (q′, tt)) a vals) (WpFn 𝓤 H (𝓣 .C) (𝓣 .Λ) code.function (s ∷ sc ∷ vint w64 n
+        ∷ []) Post)
     walk room rc long =
-        qed W ((‵ (flft κ q) ⊛ ‵ (flft κ′ q′) ⊛ ‵ ftrue) ∷ ‵ (owns (MutSlice (named 0) κ T.the-row ∷ ShrSlice (named 1) κ′ u32 ∷ usize ∷ []) a vals) ∷ []) ∵ enter ! (𝓣 .C) (𝓣 .Λ) code.function (s ∷ sc ∷ vint w64 n ∷ []) _ $
-        alloc1 ! (λ l₀. alloc1 ! (λ l₁. alloc1 ! (λ l₂. alloc1 ! (λ l₃. alloc1 ! (λ l₄. alloc1 ! (λ l₅. alloc1 ! (λ l₆. alloc1 ! (λ l₇. alloc1 ! (λ l₈. alloc0 ! $ params1 ! $
-        pass1 ! (init ! 14 refl (tt, (tt, (record { fits = room .0 }, tt)))) $ pass1 ! (init ! 12 refl (tt, (tt, (record { fits = rc .0 }, tt)))) $ pass1 ! (init ! 10 refl (tt, record { fits = n-fits })) $ pass0 ! $
+        qed W ((‵ (flft κ q) ⊛ ‵ (flft κ′ q′) ⊛ ‵ ftrue) ∷ ‵ (owns (MutSlice (named 0) κ T.the-row ∷ ShrSlice (named 1) κ′ u32 ∷ usize
+        ∷ []) a vals) ∷ []) ∵ enter ! (𝓣 .C) (𝓣 .Λ) code.function (s ∷ sc ∷ vint w64 n ∷ []) _ $
+        alloc1 ! (λ l₀. alloc1 ! (λ l₁. alloc1 ! (λ l₂. alloc1 ! (λ l₃. alloc1 ! (λ l₄. alloc1 ! (λ l₅. alloc1 ! (λ l₆. alloc1 ! (λ l₇. alloc1 ! (λ
+        l₈. alloc0 ! $ params1 ! $
+        pass1 ! (init ! 14 refl (tt, (tt, (record { fits = room .0 }, tt)))) $ pass1 ! (init ! 12 refl (tt, (tt, (record { fits = rc .0 }, tt)))) $
+        pass1 ! (init ! 10 refl (tt, record { fits = n-fits })) $ pass0 ! $
         assigns ! (of-opd ! (lit ! tt)) (from ! (stop !)) (init ! 8 refl (tt, record { fits = lit< tt })) $
         -- the borrow is opened
-        move ! (19 ∷ []) $ fsplit ! $ fsplit ! $ drop ! $ fsplit ! $ move ! (21 ∷ []) $ split ! $ move ! (2 ∷ 3 ∷ 0 ∷ []) $ opens-slice ! tt T.the-row ys b o $ move ! (5 ∷ []) $ fsplit ! $ move ! (6 ∷ []) $ split ! $
+        move ! (19 ∷ []) $ fsplit ! $ fsplit ! $ drop ! $ fsplit ! $ move ! (21 ∷ []) $ split ! $ move ! (2 ∷ 3 ∷ 0 ∷ []) $
+        opens-slice ! tt T.the-row ys b o $ move ! (5 ∷ []) $ fsplit ! $ move ! (6 ∷ []) $ split ! $
         -- [the second token; true; the cells; n's; the row; the open borrow; obs; auth; _8; …; _0; …]
         keep ! (4 ∷ 5 ∷ 6 ∷ 7 ∷ 2 ∷ 0 ∷ 8 ∷ 9 ∷ 10 ∷ 11 ∷ 12 ∷ 13 ∷ 14 ∷ 15 ∷ 16 ∷ 17 ∷ 18 ∷ 19 ∷ 20 ∷ 21 ∷ 22 ∷ 23 ∷ 24 ∷ 25 ∷ []) $
         whiles ! 𝓣 (Nearer n) (nearer-wf n) (At l₀ l₁ l₂ l₃ l₄ l₅ l₆ l₇ l₈) (λ i P ways.
         -- [the row; the open borrow; obs; auth; the cells; the second token; _8; …; _7; …; _6; …; _5; …; _4; …; _3; …; _2; …; _1; …; _0; …]
-        assigns ! (bin ! (load ! (from ! (stop !)) (look ! 14 refl)) (load ! (from ! (stop !)) (look ! 16 refl)) tt) (from ! (stop !)) (init ! 12 refl (tt, tt)) $
+        assigns ! (bin ! (load ! (from ! (stop !)) (look ! 14 refl)) (load ! (from ! (stop !)) (look ! 16 refl)) tt) (from ! (stop !)) (init ! 12
+        refl (tt, tt)) $
         tests ! (load ! (from ! (stop !)) (look ! 12 refl))
         -- a turn: `node_of` is called with a copy of the slice of cells, and its node is stored
         (λ less. let h = ltb→lt (i .0) n less in
@@ -112,21 +147,29 @@ module _ {M : Type 1} (𝓤 : URA M) (H : Heap 𝓤) (A : Atoms 𝓤) (W : Given
         let in-row = subst (λ (m : ℕ). i .0 < m) (sym (length-stored (cs .now) (i .0) ys)) h′ in
         move ! (4 ∷ []) $ use1 W (‵ C ⊛ ‵ C) (shr-slice-copy 𝓤 H A W (named 1) κ′ u32 .twice cs (sc ∷ [])) $ split ! $ move ! (6 ∷ 0 ∷ []) $
         use2 W (raw (Of 𝓤 H A mem run .pre (to-of (i .0)))) (goes-of (i .0) (fits-below (i .0) n h n-fits) (cell-in (i .0) n h _ (long .1))) $
-        calls-at ! (fmOf 𝓤 H (W .laws) 𝓣) (Of 𝓤 H A mem run) known (to-of (i .0)) (and-then ! (load ! (from ! (stop !)) (look ! 18 refl)) (and-then ! (load ! (from ! (stop !)) (look ! 14 refl)) (no-more !))) (λ w.
-        use1 W (later (some (λ (r : Node). ((‵ (flft κ′ q′) ⊛ ‵ ftrue) ⊛ ‵ (T.the-row .own r (w ∷ []))) ⊛ raw (ensured 𝓤 H A of′.ended (of′.clauses 𝓤 H A mem run) (κ′, tt) (cs, (i .0, tt)) tt r)))) (id⊢ 𝓤 _) $ await ! tt $ pick ! (λ r.
-        split ! $ move ! (1 ∷ []) $ use1 W (raw (fact 𝓤 (r ≡ f (i .0)))) (made-of (i .0) r) $ heard ! (r ≡ f (i .0)) (λ e. split ! $ move ! (1 ∷ []) $ peeks ! T.the-row (Is T.the-row) (shows 𝓤 H A T.the-row) r (w ∷ []) (λ is.
+        calls-at ! (fmOf 𝓤 H (W .laws) 𝓣) (Of 𝓤 H A mem run) known (to-of (i .0)) (and-then ! (load ! (from ! (stop !)) (look ! 18 refl)) (and-then !
+        (load ! (from ! (stop !)) (look ! 14 refl)) (no-more !))) (λ w.
+        use1 W (later (some (λ (r : Node). ((‵ (flft κ′ q′) ⊛ ‵ ftrue) ⊛ ‵ (T.the-row .own r (w ∷ [])))
+        ⊛ raw (ensured 𝓤 H A of′.ended (of′.clauses 𝓤 H A mem run) (κ′, tt) (cs, (i .0, tt)) tt r)))) (id⊢ 𝓤 _) $ await ! tt $ pick ! (λ r.
+        split ! $ move ! (1 ∷ []) $ use1 W (raw (fact 𝓤 (r ≡ f (i .0)))) (made-of (i .0) r) $ heard ! (r ≡ f (i .0)) (λ e. split ! $
+        move ! (1 ∷ []) $ peeks ! T.the-row (Is T.the-row) (shows 𝓤 H A T.the-row) r (w ∷ []) (λ is.
         -- [what r owns; the second token, true; the cells; the row; the open borrow; obs; auth; _8; …]
         land ! (from ! (stop !)) (init ! 11 refl (LL.lawful T.the-type T′.the-laws 𝓤 H A W .typed r _ is .0)) $
-        assigns ! (bin ! (load ! (from ! (stop !)) (look ! 15 refl)) (lit ! tt) (record { fits = start-fits (i .0) (length ys) h′ (room .1) })) (from ! (stop !)) (init ! 9 refl (tt, record { fits = start-fits (i .0) (length ys) h′ (room .1) })) $
-        assigns ! (bin ! (load ! (from ! (fld ! refl (stop !))) (look-in ! 21 (sub ! 0 refl (whole !)))) (load ! (from ! (stop !)) (look ! 9 refl)) tt) (from ! (stop !)) (init ! 7 refl (tt, tt)) $
+        assigns ! (bin ! (load ! (from ! (stop !)) (look ! 15 refl)) (lit ! tt) (record { fits = start-fits (i .0) (length ys) h′ (room .1) })) (from
+        ! (stop !)) (init ! 9 refl (tt, record { fits = start-fits (i .0) (length ys) h′ (room .1) })) $
+        assigns ! (bin ! (load ! (from ! (fld ! refl (stop !))) (look-in ! 21 (sub ! 0 refl (whole !)))) (load ! (from ! (stop !)) (look ! 9 refl))
+        tt) (from ! (stop !)) (init ! 7 refl (tt, tt)) $
         rewrite ! 7 (λ (p : ℕ). ‵ (fat fullShare tyPtr l₈ 0 (vptr b p))) (sym (place-is 24 o (i .0))) refl $
-        move ! (3 ∷ []) $ elem-out ! T.the-row (Is T.the-row) (shows 𝓤 H A T.the-row) (LL.vals T.the-type T′.the-laws) (LL.tells T.the-type T′.the-laws) fullShare (stored (cs .now) (i .0) ys) (i .0) blank b o in-row (λ _.
+        move ! (3 ∷ []) $ elem-out ! T.the-row (Is T.the-row) (shows 𝓤 H A T.the-row) (LL.vals T.the-type T′.the-laws) (LL.tells T.the-type
+        T′.the-laws) fullShare (stored (cs .now) (i .0) ys) (i .0) blank b o in-row (λ _.
         -- [t[i]; what it owns; the others; what r owns; the second token, true; the cells; the open borrow; obs; auth; _8; …]
-        assigns ! (of-opd ! (load ! (from ! (stop !)) (look ! 13 refl))) (from ! (hop ! (look ! 9 refl) (stop !))) (store-raw ! 0 refl (LL.lawful T.the-type T′.the-laws 𝓤 H A W .typed r _ is .0)) $
+        assigns ! (of-opd ! (load ! (from ! (stop !)) (look ! 13 refl))) (from ! (hop ! (look ! 9 refl) (stop !))) (store-raw ! 0 refl (LL.lawful
+        T.the-type T′.the-laws 𝓤 H A W .typed r _ is .0)) $
         move ! (0 ∷ 3 ∷ 2 ∷ []) $ elem-put ! T.the-row fullShare (stored (cs .now) (i .0) ys) (i .0) r (w ∷ []) b o in-row $
         rewrite ! 0 (λ (m : Node). ‵ (row T.the-row fullShare (set (stored (cs .now) (i .0) ys) (i .0) m) b o)) e refl $
         -- [the row; what t[i] owned; the second token, true; the cells; the open borrow; obs; auth; _8; …]
-        assigns-last ! (bin ! (load ! (from ! (stop !)) (look ! 15 refl)) (lit ! tt) (record { fits = next-fits (i .0) n h n-fits })) (from ! (stop !)) (store ! 15 refl (tt, record { fits = next-fits (i .0) n h n-fits })) $
+        assigns-last ! (bin ! (load ! (from ! (stop !)) (look ! 15 refl)) (lit ! tt) (record { fits = next-fits (i .0) n h n-fits })) (from ! (stop
+        !)) (store ! 15 refl (tt, record { fits = next-fits (i .0) n h n-fits })) $
         rewrite ! 15 (λ (j : ℕ). ‵ (fat fullShare (tyInt w64) l₄ 0 (vint w64 j))) (one-more (i .0)) refl $
         forget ! 7 refl $ forget ! 9 refl $ forget ! 11 refl $ forget ! 13 refl $ move ! (2 ∷ []) $ split ! $
         -- [the second token; true; the row; what t[i] owned; the cells; the open borrow; obs; auth; _8; …]
@@ -134,24 +177,36 @@ module _ {M : Type 1} (𝓤 : URA M) (H : Heap 𝓤) (A : Atoms 𝓤) (W : Given
         ways .end ! $ again ! (Nearer n) (At l₀ l₁ l₂ l₃ l₄ l₅ l₆ l₇ l₈) i (suc (i .0), h) (nearer (i .0) n h)))))))
         -- the loop is left: the borrow is closed at what is filled
         (λ over. ways .out ! $
-        assigns ! (of-opd ! (unit-lit !)) (from ! (stop !)) (init ! 22 refl (tt, tt)) $ closes-slice ! tt T.the-row ys (stored (cs .now) (i .0) ys) (length-stored (cs .now) (i .0) ys) b o $
+        assigns ! (of-opd ! (unit-lit !)) (from ! (stop !)) (init ! 22 refl (tt, tt)) $
+        closes-slice ! tt T.the-row ys (stored (cs .now) (i .0) ys) (length-stored (cs .now) (i .0) ys) b o $
         -- [obs; the borrow; the token; the cells; the second token; _8; …; _0; …]
         returns ! (look ! 21 refl) $ forget ! 11 refl $ forget ! 13 refl $ forget ! 15 refl $ forget ! 17 refl $ forget ! 19 refl $ forget ! 21 refl $
-        move ! (21 ∷ 22 ∷ []) $ free1 ! $ move ! (19 ∷ 20 ∷ []) $ free1 ! $ move ! (17 ∷ 18 ∷ []) $ free1 ! $ move ! (15 ∷ 16 ∷ []) $ free1 ! $ move ! (13 ∷ 14 ∷ []) $ free1 ! $ move ! (11 ∷ 12 ∷ []) $ free1 ! $ move ! (9 ∷ 10 ∷ []) $ free1 ! $ move ! (7 ∷ 8 ∷ []) $ free1 ! $ move ! (5 ∷ 6 ∷ []) $ free1 ! $ free0 ! $
+        move ! (21 ∷ 22 ∷ []) $ free1 ! $ move ! (19 ∷ 20 ∷ []) $ free1 ! $ move ! (17 ∷ 18 ∷ []) $ free1 ! $ move ! (15 ∷ 16 ∷ []) $ free1 ! $
+        move ! (13 ∷ 14 ∷ []) $ free1 ! $ move ! (11 ∷ 12 ∷ []) $ free1 ! $ move ! (9 ∷ 10 ∷ []) $ free1 ! $ move ! (7 ∷ 8 ∷ []) $ free1 ! $
+        move ! (5 ∷ 6 ∷ []) $ free1 ! $ free0 ! $
         by ! (exits (i .0) (le-antisymm (i .1) (nltb→le (i .0) n over)) room)))
         (0, zero-le))))))))))
 
-module _ {M : Type 1} (𝓤 : URA M) (H : Heap 𝓤) (A : Atoms 𝓤) (W : Given 𝓤 H A) (mem : Memory → SProp 𝓤) (run : Routine → Fun 𝓤) (𝓣 : Tables 𝓤 H) (known : Triple 𝓤 (𝓣 .C #node-of) (Of 𝓤 H A mem run)) where
+module _ {M : Type 1} (𝓤 : URA M) (H : Heap 𝓤) (A : Atoms 𝓤) (W : Given 𝓤 H A) (mem : Memory → SProp 𝓤) (run : Routine
+    → Fun 𝓤) (𝓣 : Tables 𝓤 H) (known : Triple 𝓤 (𝓣 .C #node-of) (Of 𝓤 H A mem run)) where
   store-walks : Walks 𝓤 H A store′.ended stayed (WpFn 𝓤 H (𝓣 .C) (𝓣 .Λ) code.function) (store′.clauses 𝓤 H A mem run)
   store-walks = walked 𝓤 H A store′.ended stayed (store′.clauses 𝓤 H A mem run) (WpFn 𝓤 H (𝓣 .C) (𝓣 .Λ) code.function)
       (λ κs. (slice-vals, (slice-vals, (uint-vals w64, tt))))
       (λ κs. (mut-slice-tells (named 0) (κs .0) T.the-row, (shr-slice-tells (named 1) (κs .1 .0) u32, (uint-tells w64, tt))))
       (λ κs qs bounds a g are. needs 𝓤 ((a .1 .1 .0 ≤ length (a .0 .now)) × (8 * a .1 .1 .0 ≤ length (a .1 .0 .now))) _ (λ long.
-      walk 𝓤 H A W mem run (κs .0) (κs .1 .0) (qs .0) (qs .1 .0) (a .0 .ptr .0) (a .0 .ptr .1) (a .0 .name) (a .0 .now) (a .1 .0) (a .1 .1 .0) (are .1 .1 .0 .1) 𝓣 known (are .0 .0 .1) (are .1 .0 .0 .1) long))
+      walk 𝓤 H A W mem run (κs .0) (κs .1 .0) (qs .0) (qs .1 .0) (a .0 .ptr .0) (a .0 .ptr .1) (a .0 .name) (a .0 .now) (a .1 .0) (a .1 .1 .0) (are
+      .1 .1 .0 .1) 𝓣 known (are .0 .0 .1) (are .1 .0 .0 .1) long))
 
   store-meets : Meets 𝓤 H A store′.signature (WpFn 𝓤 H (𝓣 .C) (𝓣 .Λ) code.function) (store′.spec 𝓤 H A mem run)
   store-meets =
-      walk-meets 𝓤 H A store′.ended stayed W (goes-slice 𝓤 H A W 2 0 tt (plain (λ _. T.the-row)), (goes-none-slice 𝓤 H A W 2 (1 ∷ []) tt (plain (λ _. u32)) yes, (goes-none 𝓤 H A W 2 (λ _. usize) yes (λ κs x f. refl), tt)))
+      walk-meets 𝓤 H A store′.ended stayed W (
+        goes-slice 𝓤 H A W 2 0 tt (plain (λ _. T.the-row)),
+        (
+          goes-none-slice 𝓤 H A W 2 (1
+              ∷ []) tt (plain (λ _. u32)) yes,
+          (goes-none 𝓤 H A W 2 (λ _. usize) yes (λ κs x f. refl), tt),
+        ),
+      )
       (store′.clauses 𝓤 H A mem run) (WpFn 𝓤 H (𝓣 .C) (𝓣 .Λ) code.function) (WpFn-mono 𝓤 H (W .laws) 𝓣 code.function) store-walks
 
 pub store-spec : {M : Type 1} → stated.statement M
