@@ -313,7 +313,7 @@ fn small_parts() -> Job {
 }
 
 /// Twenty nodes, fifty steps, five lines.
-fn small_job() -> Workload {
+pub fn small_job() -> Workload {
     Workload {
         name: String::from("whole small job (20 nodes, 50 steps)"),
         job: small_parts().encode(),

@@ -12,11 +12,13 @@ use std::hint::black_box;
 use fast::{Buffers, Limits};
 use harness::arguments::Arguments;
 use harness::clock;
+use harness::frame::{self, Frame};
 use harness::portal::Portal;
+use harness::replay::Replay;
 use harness::workloads::{self, Growth, Unit, Workload};
 use reference::mistake::Mistake;
 
-const USAGE: &str = "bench [--portal linked|fast] [--repetitions N]";
+const USAGE: &str = "bench [--portal linked|fast] [--replay PATH] [--repetitions N]";
 
 /// A sample is made of as many calls as take this long on the fast side.
 const SAMPLE_NANOSECONDS: f64 = 300_000.0;
@@ -39,7 +41,7 @@ struct Measured {
 type Times = fn(&Measured) -> &[f64];
 
 fn main() {
-    let arguments = Arguments::read(USAGE, &["--portal", "--repetitions"]);
+    let arguments = Arguments::read(USAGE, &["--portal", "--replay", "--repetitions"]);
     let mut bench = Bench {
         portal: arguments.portal(Mistake::None),
         repetitions: arguments.number("--repetitions", 41) as usize,
@@ -60,6 +62,36 @@ fn main() {
     }
     bench.growth("nodes", workloads::by_nodes());
     bench.growth("records", workloads::by_records());
+    if let Some(path) = arguments.replay() {
+        through_replay(&Replay { path }, bench.repetitions);
+    }
+}
+
+/// The whole small job over lent node records: through `replay`, which also
+/// reads its frame and prints its whole outcome.
+fn through_replay(replay: &Replay, repetitions: usize) {
+    const JOBS: usize = 2_000;
+    let small = workloads::small_job();
+    let frame = Frame {
+        job: small.job,
+        budget: small.budget as u32,
+        places: 512,
+        lines: 16,
+    };
+    let input = frame::stream(&vec![frame; JOBS]);
+    let times: Vec<f64> = (0..repetitions)
+        .map(|_| {
+            let before = clock::children_nanoseconds();
+            let printed = replay.run(input.clone());
+            assert_eq!(printed.trouble, None, "replay ends well");
+            (clock::children_nanoseconds() - before) as f64 / JOBS as f64
+        })
+        .collect();
+    println!(
+        "\n{}, through replay (lent node records; frame read, outcome printed, start of the process shared by {JOBS} jobs): {:.3} µs",
+        small.name,
+        median(&times) / 1_000.0
+    );
 }
 
 /// One line of the table.
