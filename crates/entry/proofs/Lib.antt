@@ -4,4 +4,5 @@ mod Runs
 mod Own
 mod Numbers
 mod Slots
+mod Locals
 mod Big

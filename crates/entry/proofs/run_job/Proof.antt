@@ -1,17 +1,17 @@
 -- `entry::run_job` meets its contract: a walk of its MIR, by hand. A local array of words is lent to the run for a lifetime of that call, and then,
 -- for a lifetime of the second call, to `store`, which fills the lent records; the other slices are passed on as they came. Assumes nothing.
 use Rattle.monitor.proofs.Walk.{_≡_, refl, sym, ap, _∙_, subst, ℕ, _<_, _≤_, _^_, _*_, [], _∷_, List, length, replicate, lit<, URA, fullShare, named}
-use Rattle.monitor.proofs.Walk.{w32, w64, tyInt, tyUnit, tyArray, Ty, Val, WT, hasTy, vunit, vint, SProp, ent, sep, emp, via, fst∗, snd∗, exE, id⊢}
-use Rattle.monitor.proofs.Walk.{Lft, Share, GName, Fml, ftrue, fat, flft, flent, Memory, Routine, Heap, WpFn, Tables, Atoms, sem, Fun, fact, givenOf}
-use Rattle.monitor.proofs.Walk.{tables, tablesOf, Given, Item, ‵, raw, given, _⊛_, some, later, ⋆, _$_, _∵_, !, qed, by, move, keep, drop, use0, use1}
-use Rattle.monitor.proofs.Walk.{use2, use3, split, join, pick, learn, rewrite, fsplit, fjoin, feqL, feqI, suffices, frame, await, done, look, init}
-use Rattle.monitor.proofs.Walk.{forget, stop, hop, fld, from, load, lit, of-opd, addr, agg, and-then, no-more, assigns, land, returns, enter, alloc1}
-use Rattle.monitor.proofs.Walk.{alloc0, params1, pass1, pass0, free1, free0, lft-new, lft-end, lent-back, whole, sub, look-in, arr-parts, shares}
-use Rattle.monitor.proofs.Walk.{fmOf, WpFn-mono, RattleType, owns, Is, shows, uint-makes, uint-vals, uint-tells, uint-lawful, u32, usize, unit, Array}
-use Rattle.monitor.proofs.Walk.{array-lawful, RefT, plain, sliceVal, MutSlice, ShrSlice, Room, finally, slice-vals, mut-slice-tells, shr-slice-tells}
-use Rattle.monitor.proofs.Walk.{shr-slice-copy, row, Held, lends-shr-slice, only, owned, peeks, heard, nothing, Contract, Triple, calls-at, onEntry}
-use Rattle.monitor.proofs.Walk.{Meets, tripleOf, entered, cited, says, Stays, stay-none, gave-slice, stay-none-slice, walkOf, goes-none}
-use Rattle.monitor.proofs.Walk.{goes-gave-slice, goes-none-slice, Walks, ends-at, walked, walk-meets, ensured, lasts, yes}
+use Rattle.monitor.proofs.Walk.{w32, w64, tyInt, tyUnit, tyArray, Ty, Val, WT, hasTy, vint, SProp, ent, emp, via, fst∗, snd∗, exE, id⊢, Lft, Share}
+use Rattle.monitor.proofs.Walk.{GName, Fml, ftrue, fat, flft, flent, Memory, Routine, Heap, WpFn, Tables, Atoms, sem, Fun, fact, givenOf, tables}
+use Rattle.monitor.proofs.Walk.{tablesOf, Given, Item, ‵, raw, given, _⊛_, some, later, ⋆, _$_, _∵_, !, qed, by, move, keep, drop, use0, use1, use2}
+use Rattle.monitor.proofs.Walk.{use3, split, join, pick, learn, rewrite, fsplit, fjoin, feqL, feqI, suffices, frame, await, done, look, init, forget}
+use Rattle.monitor.proofs.Walk.{stop, hop, fld, from, load, lit, of-opd, addr, agg, and-then, no-more, returns, enter, alloc1, alloc0, params1, pass1}
+use Rattle.monitor.proofs.Walk.{pass0, free1, free0, lft-new, lft-end, lent-back, whole, sub, look-in, arr-parts, shares, fmOf, WpFn-mono, RattleType}
+use Rattle.monitor.proofs.Walk.{owns, Is, shows, uint-makes, uint-vals, uint-tells, uint-lawful, u32, usize, unit, Array, array-lawful, RefT, plain}
+use Rattle.monitor.proofs.Walk.{sliceVal, MutSlice, ShrSlice, Room, finally, slice-vals, mut-slice-tells, shr-slice-tells, shr-slice-copy, row, Held}
+use Rattle.monitor.proofs.Walk.{lends-shr-slice, only, owned, peeks, heard, nothing, Contract, Triple, calls-at, onEntry, Meets, tripleOf, entered}
+use Rattle.monitor.proofs.Walk.{cited, says, Stays, stay-none, gave-slice, stay-none-slice, walkOf, goes-none, goes-gave-slice, goes-none-slice}
+use Rattle.monitor.proofs.Walk.{Walks, ends-at, walked, walk-meets, ensured, lasts, yes}
 use Prim.Native.Nat.{min}
 use native.Mathlib.Omega.{arith}
 use lib.Dec.{T as Holds}
@@ -31,6 +31,7 @@ use Rattle.monitor.proofs.entry.Outcome.Laws as O′
 use Rattle.monitor.specs.Promises as Words
 use Rattle.monitor.specs.Promises.{lent, Promises}
 use Rattle.entry.specs.Promises.{Tree, keptOf}
+use Rattle.entry.proofs.Locals.{sized, var, sets, result}
 use Rattle.entry.proofs.Slots.{spread, gather, lends-row, row-back}
 use Rattle.entry.proofs.Big.{big}
 use Rattle.entry.proofs.Runs.{store-asks, promised}
@@ -258,38 +259,31 @@ module _ {M : Type 1} (𝓤 : URA M) (H : Heap 𝓤) (A : Atoms 𝓤) (W : Given
         alloc1 ! (λ l₀. alloc1 ! (λ l₁. alloc1 ! (λ l₂. alloc1 ! (λ l₃. alloc1 ! (λ l₄. alloc1 ! (λ l₅. alloc1 ! (λ l₆. alloc1 ! (λ l₇. alloc1 ! (λ
         l₈. alloc1 ! (λ l₉. alloc1 ! (λ l₁₀. alloc1 ! (λ l₁₁. alloc1 ! (λ l₁₂. alloc1 ! (λ l₁₃. alloc1 ! (λ l₁₄. alloc1 ! (λ l₁₅. alloc1 ! (λ l₁₆.
         alloc1 ! (λ l₁₇. alloc1 ! (λ l₁₈. alloc1 ! (λ l₁₉. alloc1 ! (λ l₂₀. alloc1 ! (λ l₂₁. alloc1 ! (λ l₂₂. alloc1 ! (λ l₂₃. alloc0 ! $ params1 ! $
-        pass1 ! (init ! 44 refl (tt, (tt, (record { fits = rj .0 }, tt)))) $
+        pass1 ! (init ! 44 refl (sized (rj .0))) $
         pass1 ! (init ! 42 refl (tt, record { fits = budget-fits })) $
-        pass1 ! (init ! 40 refl (tt, (tt, (record { fits = rt .0 }, tt)))) $
-        pass1 ! (init ! 38 refl (tt, (tt, (record { fits = rl .0 }, tt)))) $
-        pass1 ! (init ! 36 refl (tt, (tt, (record { fits = rv .0 }, tt)))) $
-        pass1 ! (init ! 34 refl (tt, (tt, (record { fits = rb .0 }, tt)))) $
+        pass1 ! (init ! 40 refl (sized (rt .0))) $
+        pass1 ! (init ! 38 refl (sized (rl .0))) $
+        pass1 ! (init ! 36 refl (sized (rv .0))) $
+        pass1 ! (init ! 34 refl (sized (rb .0))) $
         pass0 ! $ move ! (48 ∷ 49 ∷ 50 ∷ 51 ∷ 52 ∷ 53 ∷ 54 ∷ 55 ∷ 56 ∷ 57 ∷ []) $
         -- [the tokens; the job; the table; the levels; the values; the lines; _23 (10); …; _0]
-        assigns ! (of-opd ! (load ! (from ! (fld ! refl (stop !))) (look-in ! 50 (sub ! 1 refl (whole !))))) (from ! (stop !)) (init ! 42 refl (
-          tt,
-          record { fits = rt .0 },
-        )) $
+        sets ! (of-opd ! (load ! (from ! (fld ! refl (stop !))) (look-in ! 50 (sub ! 1 refl (whole !))))) 42 refl (tt, record { fits = rt .0 }) $
         -- the array of zeros
         owned ! u32 (Is u32) (uint-makes 𝓤 H A W w32) 0 (vint w32 0 ∷ []) (refl, lit< tt) $
         use1 W (‵ (Arr .own zeros (zero-vals ∷ []))) (array-repeat 𝓤 H A W u32 (uint-copy 𝓤 H A W w32) 4096 0 (vint w32 0)) $
         peeks ! Arr (Is Arr) (shows 𝓤 H A Arr) zeros (zero-vals ∷ []) (λ is.
-        assigns ! (rep ! 4096 (lit ! tt)) (from ! (stop !)) (init ! 41 refl (typedA zeros zero-vals is)) $
-        assigns ! (addr ! (from ! (stop !))) (from ! (stop !)) (init ! 35 refl (tt, tt)) $
-        assigns ! (agg ! (and-then ! (load ! (from ! (stop !)) (look ! 35 refl)) (and-then ! (big ! (record { fits = lit< tt })) (no-more !)))) (from
-        ! (stop !)) (init ! 33 refl (tt, (tt, (record { fits = lit< tt }, tt)))) $
-        assigns ! (addr ! (from ! (fld ! refl (hop ! (look-in ! 49 (sub ! 0 refl (whole !))) (stop !))))) (from ! (stop !)) (init ! 31 refl (tt, tt))
-        $
-        assigns ! (agg ! (and-then ! (load ! (from ! (stop !)) (look ! 31 refl)) (and-then ! (load ! (from ! (fld ! refl (stop !))) (look-in ! 49
-        (sub ! 1 refl (whole !)))) (no-more !)))) (from ! (stop !)) (init ! 29 refl (tt, (tt, (record { fits = rl .0 }, tt)))) $
-        assigns ! (addr ! (from ! (fld ! refl (hop ! (look-in ! 47 (sub ! 0 refl (whole !))) (stop !))))) (from ! (stop !)) (init ! 27 refl (tt, tt))
-        $
-        assigns ! (agg ! (and-then ! (load ! (from ! (stop !)) (look ! 27 refl)) (and-then ! (load ! (from ! (fld ! refl (stop !))) (look-in ! 47
-        (sub ! 1 refl (whole !)))) (no-more !)))) (from ! (stop !)) (init ! 25 refl (tt, (tt, (record { fits = rv .0 }, tt)))) $
-        assigns ! (addr ! (from ! (fld ! refl (hop ! (look-in ! 45 (sub ! 0 refl (whole !))) (stop !))))) (from ! (stop !)) (init ! 23 refl (tt, tt))
-        $
-        assigns ! (agg ! (and-then ! (load ! (from ! (stop !)) (look ! 23 refl)) (and-then ! (load ! (from ! (fld ! refl (stop !))) (look-in ! 45
-        (sub ! 1 refl (whole !)))) (no-more !)))) (from ! (stop !)) (init ! 21 refl (tt, (tt, (record { fits = rb .0 }, tt)))) $
+        sets ! (rep ! 4096 (lit ! tt)) 41 refl (typedA zeros zero-vals is) $
+        sets ! (addr ! (from ! (stop !))) 35 refl (tt, tt) $
+        sets ! (agg ! (and-then ! (var ! 35 refl) (and-then ! (big ! (record { fits = lit< tt })) (no-more !)))) 33 refl (sized (lit< tt)) $
+        sets ! (addr ! (from ! (fld ! refl (hop ! (look-in ! 49 (sub ! 0 refl (whole !))) (stop !))))) 31 refl (tt, tt) $
+        sets ! (agg ! (and-then ! (var ! 31 refl) (and-then ! (load ! (from ! (fld ! refl (stop !))) (look-in ! 49 (sub ! 1 refl (whole !))))
+        (no-more !)))) 29 refl (sized (rl .0)) $
+        sets ! (addr ! (from ! (fld ! refl (hop ! (look-in ! 47 (sub ! 0 refl (whole !))) (stop !))))) 27 refl (tt, tt) $
+        sets ! (agg ! (and-then ! (var ! 27 refl) (and-then ! (load ! (from ! (fld ! refl (stop !))) (look-in ! 47 (sub ! 1 refl (whole !))))
+        (no-more !)))) 25 refl (sized (rv .0)) $
+        sets ! (addr ! (from ! (fld ! refl (hop ! (look-in ! 45 (sub ! 0 refl (whole !))) (stop !))))) 23 refl (tt, tt) $
+        sets ! (agg ! (and-then ! (var ! 23 refl) (and-then ! (load ! (from ! (fld ! refl (stop !))) (look-in ! 45 (sub ! 1 refl (whole !))))
+        (no-more !)))) 21 refl (sized (rb .0)) $
         -- it is spread, and lent for a lifetime ν of the call
         move ! (41 ∷ 0 ∷ []) $ use2 W (given (length zeros ≡ 4096) (‵ (row u32 fullShare zeros l₈ 0))) (spread 𝓤 H A W u32 tt 4096 zeros l₈
         zero-vals) $
@@ -304,9 +298,8 @@ module _ {M : Type 1} (𝓤 : URA M) (H : Heap 𝓤) (A : Atoms 𝓤) (W : Given
         use1 W (raw (Core 𝓤 H A mem run .pre (to-core ν l₈ δ zeros))) (goes-core ν l₈ δ zeros (rt .0) (core-asks len)) $
         -- [the pre; the job; the lender's part; the second token; the table; _23 (5); …]
         calls-at ! (fmOf 𝓤 H (W .laws) 𝓣) (Core 𝓤 H A mem run) known-core (to-core ν l₈ δ zeros)
-        (and-then ! (load ! (from ! (stop !)) (look ! 48 refl)) (and-then ! (load ! (from ! (stop !)) (look ! 46 refl)) (and-then ! (load ! (from !
-        (stop !)) (look ! 36 refl)) (and-then ! (load ! (from ! (stop !)) (look ! 27 refl)) (and-then ! (load ! (from ! (stop !)) (look ! 23 refl))
-        (and-then ! (load ! (from ! (stop !)) (look ! 19 refl)) (and-then ! (load ! (from ! (stop !)) (look ! 15 refl)) (no-more !)))))))) (λ w.
+        (and-then ! (var ! 48 refl) (and-then ! (var ! 46 refl) (and-then ! (var ! 36 refl) (and-then ! (var ! 27 refl) (and-then ! (var ! 23 refl)
+        (and-then ! (var ! 19 refl) (and-then ! (var ! 15 refl) (no-more !)))))))) (λ w.
         use1 W (later (some (λ (r : Outcome). ((‵ (flft κ₀ q₀) ⊛ ‵ (flft (ν ∷ []) fullShare) ⊛ ‵ (flft κ₂ q₂) ⊛ ‵ (flft κ₃ q₃) ⊛ ‵ (flft κ₄ q₄)
         ⊛ ‵ ftrue) ⊛ ‵ (O.the-row .own r (w ∷ [])))
         ⊛ raw (ensured 𝓤 H A co.ended (co.clauses 𝓤 H A mem run) (to-core ν l₈ δ zeros .0 .0) (to-core ν l₈ δ zeros .0 .3) tt r)))) (id⊢ 𝓤 _) $
@@ -322,7 +315,7 @@ module _ {M : Type 1} (𝓤 : URA M) (H : Heap 𝓤) (A : Atoms 𝓤) (W : Given
         move ! (8 ∷ []) $ split ! $ move ! (1 ∷ []) $ peeks ! O.the-row (Is O.the-row) (shows 𝓤 H A O.the-row) r (w ∷ []) (λ isr.
         -- [what r owns; the tokens; the last words, levels, values, lines; four; the job (10); the lender's part; the second token; the table; _23
         -- (14); …]
-        land ! (from ! (stop !)) (init ! 42 refl (typedO r w isr)) $
+        result ! 42 refl (typedO r w isr) $
         -- the lifetime is ended, and the row comes back
         keep ! (1 ∷ 2 ∷ 3 ∷ 4 ∷ 5 ∷ span 10 51) $ split ! $ move ! (1 ∷ []) $ split ! $ move ! (1 ∷ []) $ split ! $ move ! (1 ∷ []) $ split ! $
         move ! (1 ∷ []) $ split ! $
@@ -331,21 +324,19 @@ module _ {M : Type 1} (𝓤 : URA M) (H : Heap 𝓤) (A : Atoms 𝓤) (W : Given
         keep ! (0 ∷ 5 ∷ 4 ∷ 3 ∷ 1 ∷ span 6 53) $
         -- [the row; the tokens but the second; the last levels, values, lines (5); the job; the second token; the table; _23 (11); …]
         use0 W (raw (Kept 𝓤 H A mem run .pre (to-kept r w))) (goes-kept r w isr (rt .0)) $
-        calls-at ! (fmOf 𝓤 H (W .laws) 𝓣) (Kept 𝓤 H A mem run) known-kept (to-kept r w) (and-then ! (load ! (from ! (stop !)) (look ! 40 refl))
-        (and-then ! (load ! (from ! (stop !)) (look ! 43 refl)) (no-more !))) (λ v.
+        calls-at ! (fmOf 𝓤 H (W .laws) 𝓣) (Kept 𝓤 H A mem run) known-kept (to-kept r w) (and-then ! (var ! 40 refl) (and-then ! (var ! 43 refl)
+        (no-more !))) (λ v.
         use1 W (later (some (λ (k : ℕ). (‵ ftrue ⊛ ‵ (usize .own k (v ∷ [])))
         ⊛ raw (ensured 𝓤 H A ke.ended (ke.clauses 𝓤 H A mem run) tt (r, (n, tt)) tt k)))) (id⊢ 𝓤 _) $ await ! tt $ pick ! (λ k.
         split ! $ move ! (1 ∷ []) $ use1 W (raw (fact 𝓤 (k ≡ keptOf r n))) (kept-of 𝓤 H A mem run r n k) $ heard ! (k ≡ keptOf r n) (λ ek. split ! $
         drop ! $
         peeks ! usize (Is usize) (shows 𝓤 H A usize) k (v ∷ []) (λ isk.
-        land ! (from ! (stop !)) (init ! 38 refl (uint-lawful 𝓤 H A W w64 .typed k _ isk .0)) $ drop ! $
-        assigns ! (addr ! (from ! (fld ! refl (hop ! (look-in ! 50 (sub ! 0 refl (whole !))) (stop !))))) (from ! (stop !)) (init ! 17 refl (tt, tt))
-        $
-        assigns ! (agg ! (and-then ! (load ! (from ! (stop !)) (look ! 17 refl)) (and-then ! (load ! (from ! (fld ! refl (stop !))) (look-in ! 50
-        (sub ! 1 refl (whole !)))) (no-more !)))) (from ! (stop !)) (init ! 15 refl (tt, (tt, (record { fits = rt .0 }, tt)))) $
-        assigns ! (addr ! (from ! (stop !))) (from ! (stop !)) (init ! 13 refl (tt, tt)) $
-        assigns ! (agg ! (and-then ! (load ! (from ! (stop !)) (look ! 13 refl)) (and-then ! (big ! (record { fits = lit< tt })) (no-more !)))) (from
-        ! (stop !)) (init ! 11 refl (tt, (tt, (record { fits = lit< tt }, tt)))) $
+        result ! 38 refl (uint-lawful 𝓤 H A W w64 .typed k _ isk .0) $ drop ! $
+        sets ! (addr ! (from ! (fld ! refl (hop ! (look-in ! 50 (sub ! 0 refl (whole !))) (stop !))))) 17 refl (tt, tt) $
+        sets ! (agg ! (and-then ! (var ! 17 refl) (and-then ! (load ! (from ! (fld ! refl (stop !))) (look-in ! 50 (sub ! 1 refl (whole !))))
+        (no-more !)))) 15 refl (sized (rt .0)) $
+        sets ! (addr ! (from ! (stop !))) 13 refl (tt, tt) $
+        sets ! (agg ! (and-then ! (var ! 13 refl) (and-then ! (big ! (record { fits = lit< tt })) (no-more !)))) 11 refl (sized (lit< tt)) $
         -- the row is lent as `&`
         feqI ! ℕ (length ws) (length ws) refl $ fjoin ! $ lft-new ! tt (λ μ. move ! (1 ∷ []) $
         use1 W (later (some (λ (ε : GName). ‵ (ShrSlice (named 1) (μ ∷ []) u32 .own (c l₈ ε ws) (sliceVal (l₈, 0) (length ws) ∷ [])) ⊛ ‵ (flent (μ
@@ -359,8 +350,8 @@ module _ {M : Type 1} (𝓤 : URA M) (H : Heap 𝓤) (A : Atoms 𝓤) (W : Given
         use1 W (raw (Store 𝓤 H A mem run .pre (to-store μ l₈ ε ws k v))) (goes-store μ l₈ ε ws k v isk (store-asks _ _ ys (lent _ _ _ _) (lent _ _ _
         _) r k ek said (same ∙ len))) $
         -- [the pre; the lender's part; the tokens but the second; the last levels, values, lines; the job; _23 (10); …]
-        calls-at ! (fmOf 𝓤 H (W .laws) 𝓣) (Store 𝓤 H A mem run) known-store (to-store μ l₈ ε ws k v) (and-then ! (load ! (from ! (stop !)) (look ! 14
-        refl)) (and-then ! (load ! (from ! (stop !)) (look ! 10 refl)) (and-then ! (load ! (from ! (stop !)) (look ! 36 refl)) (no-more !)))) (λ w₂.
+        calls-at ! (fmOf 𝓤 H (W .laws) 𝓣) (Store 𝓤 H A mem run) known-store (to-store μ l₈ ε ws k v) (and-then ! (var ! 14 refl) (and-then ! (var !
+        10 refl) (and-then ! (var ! 36 refl) (no-more !)))) (λ w₂.
         use1 W (later (some (λ (u : Unit {0}). ((‵ (flft κ₁ q₁) ⊛ ‵ (flft (μ ∷ []) fullShare) ⊛ ‵ ftrue) ⊛ ‵ (unit .own u (w₂ ∷ [])))
         ⊛ raw (ensured 𝓤 H A st.ended (st.clauses 𝓤 H A mem run) (κ₁, (μ ∷ [], tt)) (t, (c l₈ ε ws, (k, tt))) tt u)))) (id⊢ 𝓤 _) $ await ! tt $
         pick ! (λ u.
@@ -369,15 +360,14 @@ module _ {M : Type 1} (𝓤 : URA M) (H : Heap 𝓤) (A : Atoms 𝓤) (W : Given
         split ! $ move ! (1 ∷ []) $ heard ! (us .0 ≡ stored ws k ys) (λ et. fsplit ! $ fsplit ! $ move ! (1 ∷ []) $ feqL ! (λ lt. move ! (2 ∷ []) $
         split ! $ move ! (1 ∷ []) $ feqL ! (λ eu.
         -- [the tokens; the last table; …; the lender's part; the tokens but the second (4); the last levels, values, lines (8); the job; _23 (12); …]
-        land ! (from ! (stop !)) (init ! 20 refl (subst (λ (z : Val). Holds (hasTy tyUnit z) × WT z) (sym (ap only eu)) (tt, tt))) $
+        result ! 20 refl (subst (λ (z : Val). Holds (hasTy tyUnit z) × WT z) (sym (ap only eu)) (tt, tt)) $
         -- the lifetime is ended, the row comes back, and the array is gathered
         keep ! (0 ∷ 1 ∷ span 3 56) $ split ! $ move ! (1 ∷ []) $ split ! $ lft-end ! tt $ move ! (0 ∷ 4 ∷ []) $ lent-back ! tt $ fsplit ! $ drop ! $
         use1 W (some (λ (z : Val). ‵ (fat fullShare arr-ty l₈ 0 z) ⊛ ‵ (Arr .own ws (z ∷ [])))) (gather 𝓤 H A W u32 tt 4096 ws l₈ (same ∙ len)) $
         pick ! (λ z. split ! $
         -- [_8; what it owns; true; the second token; the last table; the tokens but the second (5); the last levels, values, lines (9); the job; _23
         -- (13); …; _0 (58)]
-        assigns ! (of-opd ! (load ! (from ! (stop !)) (look ! 41 refl))) (from ! (stop !)) (init ! 58 refl (typedO r w isr)) $
-        returns ! (look ! 58 refl) $
+        sets ! (of-opd ! (var ! 41 refl)) 58 refl (typedO r w isr) $ returns ! (look ! 58 refl) $
         forget ! 0 refl $ forget ! 13 refl $ forget ! 15 refl $ forget ! 17 refl $ forget ! 19 refl $ forget ! 21 refl $ forget ! 23 refl $
         forget ! 25 refl $ forget ! 27 refl $ forget ! 29 refl $ forget ! 31 refl $ forget ! 33 refl $ forget ! 35 refl $ forget ! 37 refl $
         forget ! 39 refl $ forget ! 41 refl $ forget ! 44 refl $ forget ! 46 refl $ forget ! 48 refl $ forget ! 50 refl $ forget ! 52 refl $

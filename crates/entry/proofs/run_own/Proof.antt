@@ -1,18 +1,17 @@
 -- `entry::run_own` meets its contract: a walk of its MIR, by hand. The first part of a local array of records is lent to `run_job` for a lifetime of
 -- that call; then the whole array is lent to `load`, for a lifetime of that call. Assumes nothing.
-use Rattle.monitor.proofs.Walk.{_≡_, refl, sym, ap, _∙_, subst, ℕ, _<_, _≤_, _^_, _*_, _-_, [], _∷_, List, length, replicate, lit<, URA, fullShare}
-use Rattle.monitor.proofs.Walk.{named, w32, w64, tyInt, tyUnit, tyArray, Ty, Val, WT, hasTy, vunit, vint, SProp, ent, sep, emp, via, fst∗, snd∗, exE}
-use Rattle.monitor.proofs.Walk.{id⊢, Lft, Share, GName, Fml, ftrue, fat, flft, flent, Memory, Routine, Heap, WpFn, Tables, Atoms, sem, Fun, fact}
-use Rattle.monitor.proofs.Walk.{givenOf, tables, tablesOf, Given, Item, ‵, raw, given, _⊛_, some, later, ⋆, _$_, _∵_, !, qed, by, move, keep, drop}
-use Rattle.monitor.proofs.Walk.{use0, use1, use2, use3, split, join, pick, learn, rewrite, fsplit, fjoin, feqL, feqI, suffices, frame, await, done}
-use Rattle.monitor.proofs.Walk.{look, init, forget, stop, hop, fld, from, load, lit, of-opd, addr, agg, and-then, no-more, assigns, land, returns}
-use Rattle.monitor.proofs.Walk.{enter, alloc1, alloc0, params1, pass1, pass0, free1, free0, lft-new, lft-end, lent-back, whole, sub, look-in}
-use Rattle.monitor.proofs.Walk.{arr-parts, shares, fmOf, WpFn-mono, RattleType, owns, Is, shows, uint-makes, uint-vals, uint-tells, uint-lawful, u32}
-use Rattle.monitor.proofs.Walk.{usize, unit, Array, array-lawful, RefT, plain, sliceVal, MutSlice, ShrSlice, Room, finally, slice-vals}
-use Rattle.monitor.proofs.Walk.{mut-slice-tells, shr-slice-tells, shr-slice-copy, row, Held, lends-shr-slice, only, owned as owns-plain, peeks, heard}
-use Rattle.monitor.proofs.Walk.{nothing, Contract, Triple, calls-at, onEntry, Meets, tripleOf, entered, cited, says, needs, Stays, stay-none}
-use Rattle.monitor.proofs.Walk.{gave-slice, stay-none-slice, walkOf, goes-none, goes-gave-slice, goes-none-slice, Walks, ends-at, walked, walk-meets}
-use Rattle.monitor.proofs.Walk.{ensured, lasts, yes}
+use Rattle.monitor.proofs.Walk.{_≡_, refl, sym, ap, subst, ℕ, _<_, _≤_, _^_, _*_, _-_, [], _∷_, List, length, replicate, lit<, URA, fullShare, named}
+use Rattle.monitor.proofs.Walk.{w64, tyInt, tyUnit, tyArray, Ty, Val, WT, hasTy, vint, SProp, ent, emp, snd∗, exE, id⊢, Lft, Share, GName, Fml, ftrue}
+use Rattle.monitor.proofs.Walk.{fat, flft, flent, Memory, Routine, Heap, WpFn, Tables, Atoms, sem, Fun, fact, givenOf, tables, tablesOf, Given, Item}
+use Rattle.monitor.proofs.Walk.{‵, raw, given, _⊛_, some, later, ⋆, _$_, _∵_, !, qed, by, move, keep, drop, use0, use1, use2, use3, split, join, pick}
+use Rattle.monitor.proofs.Walk.{learn, rewrite, fsplit, fjoin, feqL, feqI, suffices, frame, await, done, look, init, forget, stop, hop, fld, from}
+use Rattle.monitor.proofs.Walk.{load, lit, of-opd, addr, agg, and-then, no-more, returns, enter, alloc1, alloc0, params1, pass1, pass0, free1, free0}
+use Rattle.monitor.proofs.Walk.{lft-new, lft-end, lent-back, whole, sub, look-in, arr-parts, shares, fmOf, WpFn-mono, RattleType, owns, Is, shows}
+use Rattle.monitor.proofs.Walk.{uint-makes, uint-vals, uint-tells, uint-lawful, u32, usize, unit, Array, array-lawful, RefT, plain, sliceVal}
+use Rattle.monitor.proofs.Walk.{MutSlice, ShrSlice, Room, finally, slice-vals, mut-slice-tells, shr-slice-tells, shr-slice-copy, row, Held}
+use Rattle.monitor.proofs.Walk.{lends-shr-slice, only, owned as owns-plain, peeks, heard, nothing, Contract, Triple, calls-at, onEntry, Meets}
+use Rattle.monitor.proofs.Walk.{tripleOf, entered, cited, says, needs, Stays, stay-none, gave-slice, stay-none-slice, walkOf, goes-none}
+use Rattle.monitor.proofs.Walk.{goes-gave-slice, goes-none-slice, Walks, ends-at, walked, walk-meets, ensured, lasts, yes}
 use Prim.Native.Nat.{min}
 use mathlib.Core.List.{_++_}
 use lib.Dec.{T as Holds}
@@ -39,6 +38,7 @@ use Rattle.monitor.specs.Promises.{lent, Promises}
 use Rattle.monitor.proofs.entry.Outcome as O
 use Rattle.monitor.proofs.entry.Outcome.Laws as O′
 use Rattle.entry.specs.Promises.{Tree, ownPlaces, Owned}
+use Rattle.entry.proofs.Locals.{sized, var, sets, result}
 use Rattle.entry.proofs.Slots.{spread, gather, lends-row, row-back, apart, together}
 use Rattle.entry.proofs.Numbers.{span}
 use Rattle.entry.proofs.Own.{two-parts, lent-fits, all-length, owned}
@@ -267,24 +267,23 @@ module _ {M : Type 1} (𝓤 : URA M) (H : Heap 𝓤) (A : Atoms 𝓤) (W : Given
         l₈. alloc1 ! (λ l₉. alloc1 ! (λ l₁₀. alloc1 ! (λ l₁₁. alloc1 ! (λ l₁₂. alloc1 ! (λ l₁₃. alloc1 ! (λ l₁₄. alloc1 ! (λ l₁₅. alloc1 ! (λ l₁₆.
         alloc1 ! (λ l₁₇. alloc1 ! (λ l₁₈. alloc1 ! (λ l₁₉. alloc1 ! (λ l₂₀. alloc1 ! (λ l₂₁. alloc1 ! (λ l₂₂. alloc1 ! (λ l₂₃. alloc1 ! (λ l₂₄.
         alloc0 ! $ params1 ! $
-        pass1 ! (init ! 46 refl (tt, (tt, (record { fits = rj .0 }, tt)))) $
+        pass1 ! (init ! 46 refl (sized (rj .0))) $
         pass1 ! (init ! 44 refl (tt, record { fits = budget-fits })) $
         pass1 ! (init ! 42 refl (tt, record { fits = places-fit })) $
-        pass1 ! (init ! 40 refl (tt, (tt, (record { fits = rl .0 }, tt)))) $
-        pass1 ! (init ! 38 refl (tt, (tt, (record { fits = rv .0 }, tt)))) $
-        pass1 ! (init ! 36 refl (tt, (tt, (record { fits = rb .0 }, tt)))) $
-        pass1 ! (init ! 34 refl (tt, (tt, (record { fits = ro .0 }, tt)))) $
+        pass1 ! (init ! 40 refl (sized (rl .0))) $
+        pass1 ! (init ! 38 refl (sized (rv .0))) $
+        pass1 ! (init ! 36 refl (sized (rb .0))) $
+        pass1 ! (init ! 34 refl (sized (ro .0))) $
         pass0 ! $ move ! (50 ∷ 51 ∷ 52 ∷ 53 ∷ 54 ∷ 55 ∷ 56 ∷ 57 ∷ 58 ∷ 59 ∷ []) $
         -- [the tokens; the job; the levels; the values; the lines; the words; _24 (10); …; _0]
         use0 W (raw (Lending 𝓤 H A mem run .pre to-lending)) goes-lending $
-        calls-at ! (fmOf 𝓤 H (W .laws) 𝓣) (Lending 𝓤 H A mem run) known-lending to-lending (and-then ! (load ! (from ! (stop !)) (look ! 53 refl))
-        (no-more !)) (λ v.
+        calls-at ! (fmOf 𝓤 H (W .laws) 𝓣) (Lending 𝓤 H A mem run) known-lending to-lending (and-then ! (var ! 53 refl) (no-more !)) (λ v.
         use1 W (later (some (λ (m : ℕ). (‵ ftrue ⊛ ‵ (usize .own m (v ∷ [])))
         ⊛ raw (ensured 𝓤 H A ln.ended (ln.clauses 𝓤 H A mem run) tt (places, tt) tt m)))) (id⊢ 𝓤 _) $ await ! tt $ pick ! (λ m.
         split ! $ move ! (1 ∷ []) $ use1 W (raw (fact 𝓤 (m ≡ min places ownPlaces))) (lends 𝓤 H A mem run places m) $
         heard ! (m ≡ min places ownPlaces) (λ em. split ! $ drop ! $
         peeks ! usize (Is usize) (shows 𝓤 H A usize) m (v ∷ []) (λ ism.
-        land ! (from ! (stop !)) (init ! 43 refl (uint-lawful 𝓤 H A W w64 .typed m _ ism .0)) $ drop ! $
+        result ! 43 refl (uint-lawful 𝓤 H A W w64 .typed m _ ism .0) $ drop ! $
         rewrite ! 42 (λ (z : Val). ‵ (fat fullShare (tyInt w64) l₈ 0 z)) (ap only (ism .0)) refl $
         -- the blank records
         use0 W (raw (Blank 𝓤 H A mem run .pre (to-blank 𝓤 H A mem run))) (goes-blank 𝓤 H A mem run W) $
@@ -293,27 +292,22 @@ module _ {M : Type 1} (𝓤 : URA M) (H : Heap 𝓤) (A : Atoms 𝓤) (W : Given
         ⊛ raw (ensured 𝓤 H A bl.ended (bl.clauses 𝓤 H A mem run) tt tt tt d)))) (id⊢ 𝓤 _) $ await ! tt $ pick ! (λ d.
         split ! $ move ! (1 ∷ []) $ use1 W (raw (fact 𝓤 (d ≡ blank))) (blanks 𝓤 H A mem run d) $ heard ! (d ≡ blank) (λ ed. split ! $ drop ! $
         peeks ! N.the-row (Is N.the-row) (shows 𝓤 H A N.the-row) d (u₀ ∷ []) (λ isd.
-        land ! (from ! (stop !)) (init ! 41 refl (LL.lawful N.the-type N′.the-laws 𝓤 H A W .typed d _ isd .0)) $
+        result ! 41 refl (LL.lawful N.the-type N′.the-laws 𝓤 H A W .typed d _ isd .0) $
         use1 W (‵ (Arr .own (replicate 513 d) (arrayVal (replicate 513 u₀)
         ∷ []))) (array-repeat 𝓤 H A W N.the-row (LL.copy N.the-type N′.the-copy 𝓤 H A W) 513 d u₀) $
         peeks ! Arr (Is Arr) (shows 𝓤 H A Arr) (replicate 513 d) (arrayVal (replicate 513 u₀) ∷ []) (λ isA.
-        assigns ! (rep ! 513 (load ! (from ! (stop !)) (look ! 41 refl))) (from ! (stop !)) (init ! 39 refl (typedA (replicate 513 d) (arrayVal
-        (replicate 513 u₀)) isA)) $
-        assigns ! (addr ! (from ! (stop !))) (from ! (stop !)) (init ! 35 refl (tt, tt)) $
-        assigns ! (agg ! (and-then ! (load ! (from ! (stop !)) (look ! 35 refl)) (and-then ! (load ! (from ! (stop !)) (look ! 43 refl)) (no-more
-        !)))) (from ! (stop !)) (init ! 33 refl (tt, (tt, (record { fits = lent-fits places m em .0 }, tt)))) $
-        assigns ! (addr ! (from ! (fld ! refl (hop ! (look-in ! 51 (sub ! 0 refl (whole !))) (stop !))))) (from ! (stop !)) (init ! 31 refl (tt, tt))
-        $
-        assigns ! (agg ! (and-then ! (load ! (from ! (stop !)) (look ! 31 refl)) (and-then ! (load ! (from ! (fld ! refl (stop !))) (look-in ! 51
-        (sub ! 1 refl (whole !)))) (no-more !)))) (from ! (stop !)) (init ! 29 refl (tt, (tt, (record { fits = rl .0 }, tt)))) $
-        assigns ! (addr ! (from ! (fld ! refl (hop ! (look-in ! 49 (sub ! 0 refl (whole !))) (stop !))))) (from ! (stop !)) (init ! 27 refl (tt, tt))
-        $
-        assigns ! (agg ! (and-then ! (load ! (from ! (stop !)) (look ! 27 refl)) (and-then ! (load ! (from ! (fld ! refl (stop !))) (look-in ! 49
-        (sub ! 1 refl (whole !)))) (no-more !)))) (from ! (stop !)) (init ! 25 refl (tt, (tt, (record { fits = rv .0 }, tt)))) $
-        assigns ! (addr ! (from ! (fld ! refl (hop ! (look-in ! 47 (sub ! 0 refl (whole !))) (stop !))))) (from ! (stop !)) (init ! 23 refl (tt, tt))
-        $
-        assigns ! (agg ! (and-then ! (load ! (from ! (stop !)) (look ! 23 refl)) (and-then ! (load ! (from ! (fld ! refl (stop !))) (look-in ! 47
-        (sub ! 1 refl (whole !)))) (no-more !)))) (from ! (stop !)) (init ! 21 refl (tt, (tt, (record { fits = rb .0 }, tt)))) $
+        sets ! (rep ! 513 (var ! 41 refl)) 39 refl (typedA (replicate 513 d) (arrayVal (replicate 513 u₀)) isA) $
+        sets ! (addr ! (from ! (stop !))) 35 refl (tt, tt) $
+        sets ! (agg ! (and-then ! (var ! 35 refl) (and-then ! (var ! 43 refl) (no-more !)))) 33 refl (sized (lent-fits places m em .0)) $
+        sets ! (addr ! (from ! (fld ! refl (hop ! (look-in ! 51 (sub ! 0 refl (whole !))) (stop !))))) 31 refl (tt, tt) $
+        sets ! (agg ! (and-then ! (var ! 31 refl) (and-then ! (load ! (from ! (fld ! refl (stop !))) (look-in ! 51 (sub ! 1 refl (whole !))))
+        (no-more !)))) 29 refl (sized (rl .0)) $
+        sets ! (addr ! (from ! (fld ! refl (hop ! (look-in ! 49 (sub ! 0 refl (whole !))) (stop !))))) 27 refl (tt, tt) $
+        sets ! (agg ! (and-then ! (var ! 27 refl) (and-then ! (load ! (from ! (fld ! refl (stop !))) (look-in ! 49 (sub ! 1 refl (whole !))))
+        (no-more !)))) 25 refl (sized (rv .0)) $
+        sets ! (addr ! (from ! (fld ! refl (hop ! (look-in ! 47 (sub ! 0 refl (whole !))) (stop !))))) 23 refl (tt, tt) $
+        sets ! (agg ! (and-then ! (var ! 23 refl) (and-then ! (load ! (from ! (fld ! refl (stop !))) (look-in ! 47 (sub ! 1 refl (whole !))))
+        (no-more !)))) 21 refl (sized (rb .0)) $
         -- the array is spread, and its first part is lent for a lifetime ν of the call
         let front = replicate m blank in
         let rest = replicate (513 - m) blank in
@@ -336,9 +330,8 @@ module _ {M : Type 1} (𝓤 : URA M) (H : Heap 𝓤) (A : Atoms 𝓤) (W : Given
         use1 W (raw (Run 𝓤 H A mem run .pre (to-run ν l₁₀ δ m front))) (goes-run ν l₁₀ δ m front) $
         -- [the pre; the job; the lender's part; the rest; the last token; the words; _24 (6); …]
         calls-at ! (fmOf 𝓤 H (W .laws) 𝓣) (Run 𝓤 H A mem run) known-run (to-run ν l₁₀ δ m front)
-        (and-then ! (load ! (from ! (stop !)) (look ! 51 refl)) (and-then ! (load ! (from ! (stop !)) (look ! 49 refl)) (and-then ! (load ! (from !
-        (stop !)) (look ! 28 refl)) (and-then ! (load ! (from ! (stop !)) (look ! 24 refl)) (and-then ! (load ! (from ! (stop !)) (look ! 20 refl))
-        (and-then ! (load ! (from ! (stop !)) (look ! 16 refl)) (no-more !))))))) (λ w.
+        (and-then ! (var ! 51 refl) (and-then ! (var ! 49 refl) (and-then ! (var ! 28 refl) (and-then ! (var ! 24 refl) (and-then ! (var ! 20 refl)
+        (and-then ! (var ! 16 refl) (no-more !))))))) (λ w.
         use1 W (later (some (λ (r : Outcome). ((‵ (flft κ₀ q₀) ⊛ ‵ (flft (ν ∷ []) fullShare) ⊛ ‵ (flft κ₁ q₁) ⊛ ‵ (flft κ₂ q₂) ⊛ ‵ (flft κ₃ q₃)
         ⊛ ‵ ftrue) ⊛ ‵ (O.the-row .own r (w ∷ [])))
         ⊛ raw (ensured 𝓤 H A rj′.ended (rj′.clauses 𝓤 H A mem run) (to-run ν l₁₀ δ m front .0 .0) (to-run ν l₁₀ δ m front .0 .3) tt r)))) (id⊢ 𝓤 _) $
@@ -355,7 +348,7 @@ module _ {M : Type 1} (𝓤 : URA M) (H : Heap 𝓤) (A : Atoms 𝓤) (W : Given
         move ! (7 ∷ []) $ split ! $ move ! (1 ∷ []) $ peeks ! O.the-row (Is O.the-row) (shows 𝓤 H A O.the-row) r (w ∷ []) (λ isr.
         -- [what r owns; the tokens; the last records, levels, values, lines; three; the job (9); the lender's part; the rest; the last token; the
         -- words; _24 (14); …]
-        land ! (from ! (stop !)) (init ! 40 refl (typedO r w isr)) $
+        result ! 40 refl (typedO r w isr) $
         -- the lifetime is ended, the first part comes back, and the two are one row again
         keep ! (1 ∷ 2 ∷ 3 ∷ 4 ∷ 5 ∷ span 9 54) $ split ! $ move ! (1 ∷ []) $ split ! $ move ! (1 ∷ []) $ split ! $ move ! (1 ∷ []) $ split ! $
         move ! (1 ∷ []) $ split ! $
@@ -366,13 +359,11 @@ module _ {M : Type 1} (𝓤 : URA M) (H : Heap 𝓤) (A : Atoms 𝓤) (W : Given
         use2 W (‵ (row N.the-row fullShare all l₁₀ 0)) (together 𝓤 H A W N.the-row rest l₁₀ ts 0) $
         keep ! (0 ∷ 5 ∷ 4 ∷ 3 ∷ 1 ∷ span 6 55) $
         -- [the row; the tokens but the last; the last levels, values, lines (5); the job; the last token; the words; _24 (11); …]
-        assigns ! (addr ! (from ! (stop !))) (from ! (stop !)) (init ! 17 refl (tt, tt)) $
-        assigns ! (agg ! (and-then ! (load ! (from ! (stop !)) (look ! 17 refl)) (and-then ! (lit ! tt) (no-more !)))) (from ! (stop !)) (init ! 15
-        refl (tt, (tt, (record { fits = lit< tt }, tt)))) $
-        assigns ! (addr ! (from ! (fld ! refl (hop ! (look-in ! 44 (sub ! 0 refl (whole !))) (stop !))))) (from ! (stop !)) (init ! 13 refl (tt, tt))
-        $
-        assigns ! (agg ! (and-then ! (load ! (from ! (stop !)) (look ! 13 refl)) (and-then ! (load ! (from ! (fld ! refl (stop !))) (look-in ! 44
-        (sub ! 1 refl (whole !)))) (no-more !)))) (from ! (stop !)) (init ! 11 refl (tt, (tt, (record { fits = ro .0 }, tt)))) $
+        sets ! (addr ! (from ! (stop !))) 17 refl (tt, tt) $
+        sets ! (agg ! (and-then ! (var ! 17 refl) (and-then ! (lit ! tt) (no-more !)))) 15 refl (sized (lit< tt)) $
+        sets ! (addr ! (from ! (fld ! refl (hop ! (look-in ! 44 (sub ! 0 refl (whole !))) (stop !))))) 13 refl (tt, tt) $
+        sets ! (agg ! (and-then ! (var ! 13 refl) (and-then ! (load ! (from ! (fld ! refl (stop !))) (look-in ! 44 (sub ! 1 refl (whole !))))
+        (no-more !)))) 11 refl (sized (ro .0)) $
         -- the row is lent as `&`
         let el = all-length places m em ts same in
         feqI ! ℕ (length all) (length all) refl $ fjoin ! $ lft-new ! tt (λ μ. move ! (1 ∷ []) $
@@ -387,8 +378,8 @@ module _ {M : Type 1} (𝓤 : URA M) (H : Heap 𝓤) (A : Atoms 𝓤) (W : Given
         use1 W (raw (Load 𝓤 H A mem run .pre (to-load μ l₁₀ ε all))) (goes-load μ l₁₀ ε all (subst (λ (k : ℕ). 8 * k ≤ length (wo .now)) (sym el)
         long)) $
         -- [the pre; the lender's part; the tokens but the last; the last levels, values, lines; the job; _24 (10); …]
-        calls-at ! (fmOf 𝓤 H (W .laws) 𝓣) (Load 𝓤 H A mem run) known-load (to-load μ l₁₀ ε all) (and-then ! (load ! (from ! (stop !)) (look ! 14
-        refl)) (and-then ! (load ! (from ! (stop !)) (look ! 10 refl)) (no-more !))) (λ w₂.
+        calls-at ! (fmOf 𝓤 H (W .laws) 𝓣) (Load 𝓤 H A mem run) known-load (to-load μ l₁₀ ε all) (and-then ! (var ! 14 refl) (and-then ! (var ! 10
+        refl) (no-more !))) (λ w₂.
         use1 W (later (some (λ (u : Unit {0}). ((‵ (flft (μ ∷ []) fullShare) ⊛ ‵ (flft κ₄ q₄) ⊛ ‵ ftrue) ⊛ ‵ (unit .own u (w₂ ∷ [])))
         ⊛ raw (ensured 𝓤 H A lo.ended (lo.clauses 𝓤 H A mem run) (μ ∷ [], (κ₄, tt)) (t l₁₀ ε all, (wo, tt)) tt u)))) (id⊢ 𝓤 _) $ await ! tt $
         pick ! (λ u.
@@ -397,7 +388,7 @@ module _ {M : Type 1} (𝓤 : URA M) (H : Heap 𝓤) (A : Atoms 𝓤) (W : Given
         split ! $ move ! (1 ∷ []) $ heard ! (us .1 .0 ≡ loaded all (length all) (wo .now)) (λ ew. fsplit ! $ move ! (1 ∷ []) $ fsplit ! $ fsplit ! $
         move ! (1 ∷ []) $ feqL ! (λ lw. move ! (3 ∷ []) $ split ! $ move ! (1 ∷ []) $ feqL ! (λ eu.
         -- [the tokens; the last words; two; the lender's part (4); the tokens but the last; the last levels, values, lines (9); the job; _24 (13); …]
-        land ! (from ! (stop !)) (init ! 21 refl (subst (λ (z : Val). Holds (hasTy tyUnit z) × WT z) (sym (ap only eu)) (tt, tt))) $
+        result ! 21 refl (subst (λ (z : Val). Holds (hasTy tyUnit z) × WT z) (sym (ap only eu)) (tt, tt)) $
         -- the lifetime is ended, the row comes back, and the array is gathered
         keep ! (0 ∷ 1 ∷ span 4 58) $ split ! $ lft-end ! tt $ move ! (0 ∷ 3 ∷ []) $ lent-back ! tt $ fsplit ! $ drop ! $
         use1 W (some (λ (z : Val). ‵ (fat fullShare arr-ty l₁₀ 0 z) ⊛ ‵ (Arr .own all (z ∷ [])))) (gather 𝓤 H A W N.the-row tt 513 all l₁₀ el) $
@@ -405,8 +396,7 @@ module _ {M : Type 1} (𝓤 : URA M) (H : Heap 𝓤) (A : Atoms 𝓤) (W : Given
         move ! (2 ∷ []) $ split ! $ move ! (2 ∷ 3 ∷ []) $
         -- [_10; what it owns; the last token; true; the last words; the tokens but the last (5); the last levels, values, lines (9); the job; _24
         -- (13); …; _0 (60)]
-        assigns ! (of-opd ! (load ! (from ! (stop !)) (look ! 39 refl))) (from ! (stop !)) (init ! 60 refl (typedO r w isr)) $
-        returns ! (look ! 60 refl) $
+        sets ! (of-opd ! (var ! 39 refl)) 60 refl (typedO r w isr) $ returns ! (look ! 60 refl) $
         forget ! 0 refl $ forget ! 13 refl $ forget ! 15 refl $ forget ! 17 refl $ forget ! 19 refl $ forget ! 21 refl $ forget ! 23 refl $
         forget ! 25 refl $ forget ! 27 refl $ forget ! 29 refl $ forget ! 31 refl $ forget ! 33 refl $ forget ! 35 refl $ forget ! 37 refl $
         forget ! 39 refl $ forget ! 42 refl $ forget ! 44 refl $ forget ! 46 refl $ forget ! 48 refl $ forget ! 50 refl $ forget ! 52 refl $

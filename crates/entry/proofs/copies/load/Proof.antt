@@ -7,19 +7,19 @@ use Rattle.monitor.proofs.Walk.{hasTy, vunit, vint, vptr, SProp, ent, sep, id�
 use Rattle.monitor.proofs.Walk.{fobs, fauth, fbor, fobor, fshr-bor, Memory, Routine, Heap, WpFn, Tables, Atoms, sem, Fun, fact, givenOf, tables}
 use Rattle.monitor.proofs.Walk.{tablesOf, Given, Item, ‵, raw, _⊛_, some, later, ⋆, _$_, _∵_, !, qed, by, move, keep, drop, use1, use2, use3, split}
 use Rattle.monitor.proofs.Walk.{join, pick, rewrite, fsplit, fjoin, feqL, feqI, suffices, frame, await, done, look, look-raw, init, store, forget}
-use Rattle.monitor.proofs.Walk.{stop, hop, fld, from, load, lit, unit-lit, of-opd, bin, addr, agg, and-then, no-more, assigns, assigns-last, land}
-use Rattle.monitor.proofs.Walk.{returns, enter, alloc1, alloc0, params1, pass1, pass0, free1, free0, again, whole, sub, look-in, lft-new, lft-end}
-use Rattle.monitor.proofs.Walk.{arr-parts, shares, fmOf, WpFn-mono, owns, pureI, Is, shows, pointee, uint-makes, u32, usize, unit, RefT, plain}
-use Rattle.monitor.proofs.Walk.{sliceTy, sliceVal, MutSlice, ShrSlice, Room, heres, codedHoleys, at-slice, slice-vals, mut-slice-tells}
-use Rattle.monitor.proofs.Walk.{shr-slice-tells, Held, place-is, row, elem-out, elem-back, opens-slice, closes-slice, looks-slice, shuts-slice, only}
-use Rattle.monitor.proofs.Walk.{owned, heard, nothing, Contract, Triple, calls-at, onEntry, Meets, tripleOf, entered, cited, says, needs, Stays}
-use Rattle.monitor.proofs.Walk.{stay-none-slice, stay-slice, walkOf, goes-none-slice, goes-slice, Walks, ends-at, walked, walk-meets, ensured, lasts}
-use Rattle.monitor.proofs.Walk.{yes}
+use Rattle.monitor.proofs.Walk.{stop, hop, fld, from, load, lit, unit-lit, of-opd, bin, addr, agg, and-then, no-more, assigns-last, returns, enter}
+use Rattle.monitor.proofs.Walk.{alloc1, alloc0, params1, pass1, pass0, free1, free0, again, whole, sub, look-in, lft-new, lft-end, arr-parts, shares}
+use Rattle.monitor.proofs.Walk.{fmOf, WpFn-mono, owns, pureI, Is, shows, pointee, uint-makes, u32, usize, unit, RefT, plain, sliceTy, sliceVal}
+use Rattle.monitor.proofs.Walk.{MutSlice, ShrSlice, Room, heres, codedHoleys, at-slice, slice-vals, mut-slice-tells, shr-slice-tells, Held, place-is}
+use Rattle.monitor.proofs.Walk.{row, elem-out, elem-back, opens-slice, closes-slice, looks-slice, shuts-slice, only, owned, heard, nothing, Contract}
+use Rattle.monitor.proofs.Walk.{Triple, calls-at, onEntry, Meets, tripleOf, entered, cited, says, needs, Stays, stay-none-slice, stay-slice, walkOf}
+use Rattle.monitor.proofs.Walk.{goes-none-slice, goes-slice, Walks, ends-at, walked, walk-meets, ensured, lasts, yes}
 use lib.Dec.{T as Holds}
 use denote.Struct.Laws as LL
 use Rattle.table.specs.declared.lent.Node.{Node}
 use Rattle.table.specs.Lent.{blank, putNode, loaded}
 use Rattle.monitor.proofs.While.{Upto, Nearer, nearer-wf, tests, whiles}
+use Rattle.entry.proofs.Locals.{sized, var, sets, result}
 use Rattle.entry.proofs.Slots.{lends-row, row-back}
 use Rattle.table.proofs.Copies.{length-loaded}
 use Rattle.entry.proofs.Numbers.{start-fits, next-fits, fits-below, nearer, cell-in, one-more}
@@ -150,13 +150,9 @@ module _ {M : Type 1} (𝓤 : URA M) (H : Heap 𝓤) (A : Atoms 𝓤) (W : Given
         ∷ []) ∵ enter ! (𝓣 .C) (𝓣 .Λ) code.function (s ∷ sc ∷ []) _ $
         alloc1 ! (λ l₀. alloc1 ! (λ l₁. alloc1 ! (λ l₂. alloc1 ! (λ l₃. alloc1 ! (λ l₄. alloc1 ! (λ l₅. alloc1 ! (λ l₆. alloc1 ! (λ l₇. alloc1 ! (λ
         l₈. alloc1 ! (λ l₉. alloc1 ! (λ l₁₀. alloc1 ! (λ l₁₁. alloc0 ! $ params1 ! $
-        pass1 ! (init ! 20 refl (tt, (tt, (record { fits = room .0 }, tt)))) $ pass1 ! (init ! 18 refl (tt, (tt, (record { fits = rc .0 }, tt)))) $
-        pass0 ! $
-        assigns ! (of-opd ! (load ! (from ! (fld ! refl (stop !))) (look-in ! 20 (sub ! 1 refl (whole !))))) (from ! (stop !)) (init ! 16 refl (
-          tt,
-          record { fits = room .0 },
-        )) $
-        assigns ! (of-opd ! (lit ! tt)) (from ! (stop !)) (init ! 14 refl (tt, record { fits = lit< tt })) $
+        pass1 ! (init ! 20 refl (sized (room .0))) $ pass1 ! (init ! 18 refl (sized (rc .0))) $ pass0 ! $
+        sets ! (of-opd ! (load ! (from ! (fld ! refl (stop !))) (look-in ! 20 (sub ! 1 refl (whole !))))) 16 refl (tt, record { fits = room .0 }) $
+        sets ! (of-opd ! (lit ! tt)) 14 refl (tt, record { fits = lit< tt }) $
         -- t's borrow is looked into, and the cells' is opened
         move ! (25 ∷ []) $ fsplit ! $ fsplit ! $ drop ! $ fsplit ! $ move ! (27 ∷ []) $ split ! $ move ! (3 ∷ 0 ∷ []) $
         looks-slice ! tt T.the-row (Is T.the-row) (shows 𝓤 H A T.the-row) (LL.vals T.the-type T′.the-laws) (LL.tells T.the-type T′.the-laws) (LL.copy
@@ -169,26 +165,28 @@ module _ {M : Type 1} (𝓤 : URA M) (H : Heap 𝓤) (A : Atoms 𝓤) (W : Given
         whiles ! 𝓣 (Nearer n) (nearer-wf n) (At l₀ l₁ l₂ l₃ l₄ l₅ l₆ l₇ l₈ l₉ l₁₀ l₁₁ p) (λ i P ways.
         -- [t's row; what shuts it; the fractured borrow; res; the row of cells; the open borrow; obs; auth; _11 (8); _10; _9; _8; _7; _6; _5; _4
         -- (22); _3; _2; _1; _0]
-        assigns ! (bin ! (load ! (from ! (stop !)) (look ! 22 refl)) (load ! (from ! (stop !)) (look ! 24 refl)) tt) (from ! (stop !)) (init ! 20
-        refl (tt, tt)) $
-        tests ! (load ! (from ! (stop !)) (look ! 20 refl))
+        sets ! (bin ! (var ! 22 refl) (var ! 24 refl) tt) 20 refl (tt, tt) $
+        tests ! (var ! 20 refl)
         (λ less. let h = ltb→lt (i .0) n less in
         let l = loaded ys (i .0) cs in
         let el = length-loaded ys (i .0) cs in
-        assigns ! (addr ! (from ! (fld ! refl (hop ! (look-in ! 26 (sub ! 0 refl (whole !))) (stop !))))) (from ! (stop !)) (init ! 16 refl (tt, tt))
-        $
-        assigns ! (agg ! (and-then ! (load ! (from ! (stop !)) (look ! 16 refl)) (and-then ! (load ! (from ! (fld ! refl (stop !))) (look-in ! 26
-        (sub ! 1 refl (whole !)))) (no-more !)))) (from ! (stop !)) (init ! 14 refl (tt, (tt, (record { fits = rc .0 }, tt)))) $
+        sets ! (addr ! (from ! (fld ! refl (hop ! (look-in ! 26 (sub ! 0 refl (whole !))) (stop !))))) 16 refl (tt, tt) $
+        sets ! (agg ! (and-then ! (var ! 16 refl) (and-then ! (load ! (from ! (fld ! refl (stop !))) (look-in ! 26 (sub ! 1 refl (whole !))))
+        (no-more !)))) 14 refl (sized (rc .0)) $
         -- t[i] is copied
-        assigns ! (bin ! (load ! (from ! (stop !)) (look ! 22 refl)) (lit ! tt) (record { fits = start-fits (i .0) n h (room .1) })) (from ! (stop
-        !)) (init ! 12 refl (tt, record { fits = start-fits (i .0) n h (room .1) })) $
-        assigns ! (bin ! (load ! (from ! (fld ! refl (stop !))) (look-in ! 28 (sub ! 0 refl (whole !)))) (load ! (from ! (stop !)) (look ! 12 refl))
-        tt) (from ! (stop !)) (init ! 10 refl (tt, tt)) $
+        sets ! (bin ! (var ! 22 refl) (lit ! tt) (record { fits = start-fits (i .0) n h (room .1) })) 12 refl (
+          tt,
+          record {
+            fits = start-fits (i .0)
+                n h (room .1);
+          },
+        ) $
+        sets ! (bin ! (load ! (from ! (fld ! refl (stop !))) (look-in ! 28 (sub ! 0 refl (whole !)))) (var ! 12 refl) tt) 10 refl (tt, tt) $
         rewrite ! 10 (λ (z : ℕ). ‵ (fat fullShare tyPtr l₁₀ 0 (vptr b z))) (sym (place-is 24 o (i .0))) refl $
         elem-out ! T.the-row (Is T.the-row) (shows 𝓤 H A T.the-row) (LL.vals T.the-type T′.the-laws) (LL.tells T.the-type T′.the-laws) p ys (i .0)
         blank b o h (λ isd.
-        assigns ! (of-opd ! (load ! (from ! (hop ! (look ! 12 refl) (stop !))) (look-raw ! 0 refl))) (from ! (stop !)) (init ! 10 refl (LL.lawful
-        T.the-type T′.the-laws 𝓤 H A W .typed (f (i .0)) _ isd .0)) $
+        sets ! (of-opd ! (load ! (from ! (hop ! (look ! 12 refl) (stop !))) (look-raw ! 0 refl))) 10 refl (LL.lawful T.the-type T′.the-laws 𝓤 H A W
+        .typed (f (i .0)) _ isd .0) $
         elem-back ! T.the-row p ys (i .0) blank (T′.lowered (f (i .0)) ∷ []) b o h $
         -- the row of cells is lent for a lifetime ν of the call
         move ! (4 ∷ []) $ lft-new ! tt (λ ν. move ! (1 ∷ []) $
@@ -199,8 +197,8 @@ module _ {M : Type 1} (𝓤 : URA M) (H : Heap 𝓤) (A : Atoms 𝓤) (W : Given
         -- [the slice; the lender's part; the token of ν; t's row; what shuts it; the fractured borrow; res; the open borrow; obs; auth; _11; …]
         move ! (2 ∷ 0 ∷ []) $ use2 W (raw (Put 𝓤 H A mem run .pre (to-put ν δ l (i .0) (f (i .0))))) (goes-put ν δ l (i .0) (f (i .0)) (fits-below (i
         .0) n h (room .0)) isd (subst (λ (m : ℕ). 8 * i .0 + 8 ≤ m) (sym el) (cell-in (i .0) n h _ long))) $
-        calls-at ! (fmOf 𝓤 H (W .laws) 𝓣) (Put 𝓤 H A mem run) known (to-put ν δ l (i .0) (f (i .0))) (and-then ! (load ! (from ! (stop !)) (look ! 15
-        refl)) (and-then ! (load ! (from ! (stop !)) (look ! 23 refl)) (and-then ! (load ! (from ! (stop !)) (look ! 9 refl)) (no-more !)))) (λ w.
+        calls-at ! (fmOf 𝓤 H (W .laws) 𝓣) (Put 𝓤 H A mem run) known (to-put ν δ l (i .0) (f (i .0))) (and-then ! (var ! 15 refl) (and-then ! (var !
+        23 refl) (and-then ! (var ! 9 refl) (no-more !)))) (λ w.
         use1 W (later (some (λ (u : Unit {0}). ((‵ (flft (ν ∷ []) fullShare) ⊛ ‵ ftrue) ⊛ ‵ (unit .own u (w ∷ [])))
         ⊛ raw (ensured 𝓤 H A put.ended (put.clauses 𝓤 H A mem run) (ν ∷ [], tt) (c δ l, (i .0, (f (i .0), tt))) tt u)))) (id⊢ 𝓤 _) $ await ! tt $
         pick ! (λ u.
@@ -213,14 +211,16 @@ module _ {M : Type 1} (𝓤 : URA M) (H : Heap 𝓤) (A : Atoms 𝓤) (W : Given
         feqL ! (λ same. move ! (2 ∷ []) $ split ! $ move ! (1 ∷ []) $ feqL ! (λ eu.
         -- [the token, true; the last list; …; the lender's part; t's row; what shuts it; the fractured borrow; res; the open borrow; obs; auth; _11
         -- (11); …]
-        land ! (from ! (stop !)) (init ! 21 refl (subst (λ (v : Val). Holds (hasTy tyUnit v) × WT v) (sym (ap only eu)) (tt, tt))) $
+        result ! 21 refl (subst (λ (v : Val). Holds (hasTy tyUnit v) × WT v) (sym (ap only eu)) (tt, tt)) $
         -- the lifetime is ended, and the row comes back
         split ! $ lft-end ! tt $ move ! (0 ∷ 4 ∷ 2 ∷ []) $ use3 W (later (‵ (row u32 fullShare (zs .0) b′ o′))) (row-back 𝓤 H A W u32 (named 0) (ν
         ∷ []) (zs .0) b′ o′ δ (length l)) $ await ! tt $
         rewrite ! 0 (λ (z : List ℕ). ‵ (row u32 fullShare z b′ o′)) e refl $
         -- [the row of cells; true; …; t's row; what shuts it; the fractured borrow; res; the open borrow; obs; auth; _11 (10); …]
-        assigns-last ! (bin ! (load ! (from ! (stop !)) (look ! 24 refl)) (lit ! tt) (record { fits = next-fits (i .0) n h (room .0) })) (from !
-        (stop !)) (store ! 24 refl (tt, record { fits = next-fits (i .0) n h (room .0) })) $
+        assigns-last ! (bin ! (var ! 24 refl) (lit ! tt) (record { fits = next-fits (i .0) n h (room .0) })) (from ! (stop !)) (store ! 24 refl (
+          tt,
+          record { fits = next-fits (i .0) n h (room .0) },
+        )) $
         rewrite ! 24 (λ (j : ℕ). ‵ (fat fullShare (tyInt w64) l₄ 0 (vint w64 j))) (one-more (i .0)) refl $
         forget ! 10 refl $ forget ! 12 refl $ forget ! 14 refl $ forget ! 16 refl $ forget ! 18 refl $ forget ! 20 refl $ forget ! 22 refl $
         keep ! (3 ∷ 4 ∷ 5 ∷ 6 ∷ 0 ∷ 7 ∷ 8 ∷ 9 ∷ 10 ∷ 11 ∷ 12 ∷ 13 ∷ 14 ∷ 15 ∷ 16 ∷ 17 ∷ 18 ∷ 19 ∷ 20 ∷ 21 ∷ 22 ∷ 23 ∷ 24 ∷ 25 ∷ 26 ∷ 27 ∷ 28 ∷ 29
@@ -228,7 +228,7 @@ module _ {M : Type 1} (𝓤 : URA M) (H : Heap 𝓤) (A : Atoms 𝓤) (W : Given
         ways .end ! $ again ! (Nearer n) (At l₀ l₁ l₂ l₃ l₄ l₅ l₆ l₇ l₈ l₉ l₁₀ l₁₁ p) i (suc (i .0), h) (nearer (i .0) n h)))))))))))
         -- the loop is left
         (λ over. ways .out ! $
-        assigns ! (of-opd ! (unit-lit !)) (from ! (stop !)) (init ! 30 refl (tt, tt)) $ shuts-slice ! tt T.the-row p ys b o $
+        sets ! (of-opd ! (unit-lit !)) 30 refl (tt, tt) $ shuts-slice ! tt T.the-row p ys b o $
         move ! (3 ∷ 4 ∷ 5 ∷ 6 ∷ []) $ closes-slice ! tt u32 cs (loaded ys (i .0) cs) (length-loaded ys (i .0) cs) b′ o′ $
         -- [obs; the borrow; the second token; the token; the fractured borrow; res; _11 (6); …; _0 (28)]
         returns ! (look ! 28 refl) $ forget ! 18 refl $ forget ! 20 refl $ forget ! 22 refl $ forget ! 24 refl $ forget ! 26 refl $ forget ! 28 refl $

@@ -1,25 +1,26 @@
 -- `copies::store` meets its contract: a walk of its MIR, by hand, with a loop. The borrow of the records is opened once, before the loop, and closed
 -- once, after it, at what is filled. In each turn a copy of the slice of words is passed to `node_of`, and the record that comes back is stored.
 -- Assumes nothing.
-use Rattle.monitor.proofs.Walk.{stay-none, goes-none, uint-vals, uint-tells, _≡_, refl, sym, ap, subst, ℕ, suc, _<_, _≤_, _^_, _*_, _+_, _-_, zero-le}
+use Rattle.monitor.proofs.Walk.{stay-none, goes-none, uint-vals, uint-tells, _≡_, refl, sym, ap, subst, ℕ, suc, _<_, _≤_, _^_, _*_, _+_, zero-le}
 use Rattle.monitor.proofs.Walk.{le-antisymm, [], _∷_, List, length, set, ltb→lt, nltb→le, lit<, URA, fullShare, named, imm, mut, w32, w64, tyInt}
 use Rattle.monitor.proofs.Walk.{tyBool, tyPtr, tyUnit, tyRef, Ty, Val, vunit, vint, vptr, SProp, ent, sep, exE, snd∗, id⊢, Lft, Share, GName, Fml}
 use Rattle.monitor.proofs.Walk.{ftrue, fat, froom, fdies, flft, fobs, fauth, fbor, fobor, Memory, Routine, Heap, WpFn, Tables, Atoms, sem, Fun, fact}
 use Rattle.monitor.proofs.Walk.{givenOf, tables, tablesOf, Given, Item, ‵, raw, _⊛_, some, later, ⋆, _$_, _∵_, !, qed, by, move, keep, drop, use1}
 use Rattle.monitor.proofs.Walk.{use2, split, join, pick, rewrite, fsplit, fjoin, feqI, suffices, frame, await, done, look, init, store, store-raw}
-use Rattle.monitor.proofs.Walk.{forget, stop, hop, fld, from, load, lit, unit-lit, of-opd, bin, and-then, no-more, assigns, assigns-last, land}
-use Rattle.monitor.proofs.Walk.{returns, enter, alloc1, alloc0, params1, pass1, pass0, free1, free0, again, whole, sub, look-in, fmOf, WpFn-mono}
-use Rattle.monitor.proofs.Walk.{RattleType, owns, pureI, Is, shows, pointee, uint-makes, usize, u32, RefT, plain, sliceTy, sliceVal, MutSlice}
-use Rattle.monitor.proofs.Walk.{ShrSlice, Room, heres, codedHoleys, at-slice, slice-vals, mut-slice-tells, shr-slice-tells, shr-slice-copy, Held}
-use Rattle.monitor.proofs.Walk.{place-is, row, elem-out, elem-put, opens-slice, closes-slice, owned, peeks, heard, nothing, Contract, Triple}
-use Rattle.monitor.proofs.Walk.{calls-at, onEntry, Meets, tripleOf, entered, cited, says, needs, Stays, stay-none-slice, stay-slice, walkOf}
-use Rattle.monitor.proofs.Walk.{goes-none-slice, goes-slice, Walks, ends-at, walked, walk-meets, ensured, lasts, yes}
+use Rattle.monitor.proofs.Walk.{forget, stop, hop, fld, from, load, lit, unit-lit, of-opd, bin, and-then, no-more, assigns, assigns-last, returns}
+use Rattle.monitor.proofs.Walk.{enter, alloc1, alloc0, params1, pass1, pass0, free1, free0, again, whole, sub, look-in, fmOf, WpFn-mono, owns, pureI}
+use Rattle.monitor.proofs.Walk.{Is, shows, pointee, uint-makes, usize, u32, RefT, plain, sliceTy, sliceVal, MutSlice, ShrSlice, Room, heres}
+use Rattle.monitor.proofs.Walk.{codedHoleys, at-slice, slice-vals, mut-slice-tells, shr-slice-tells, shr-slice-copy, Held, place-is, row, elem-out}
+use Rattle.monitor.proofs.Walk.{elem-put, opens-slice, closes-slice, owned, peeks, heard, nothing, Contract, Triple, calls-at, onEntry, Meets}
+use Rattle.monitor.proofs.Walk.{tripleOf, entered, cited, says, needs, Stays, stay-none-slice, stay-slice, walkOf, goes-none-slice, goes-slice, Walks}
+use Rattle.monitor.proofs.Walk.{ends-at, walked, walk-meets, ensured, lasts, yes}
 use denote.Struct.Laws as LL
 use Rattle.table.specs.declared.lent.Node.{Node}
 use Rattle.table.specs.Cells.{cells}
 use Rattle.table.specs.Lent.{blank, nodeOf, stored}
 use Rattle.monitor.proofs.While.{Upto, Nearer, nearer-wf, tests, whiles}
 use Rattle.table.proofs.Copies.{length-stored}
+use Rattle.entry.proofs.Locals.{sized, var, sets, result}
 use Rattle.entry.proofs.Numbers.{start-fits, next-fits, fits-below, nearer, within, cell-in, one-more}
 use Rattle.table.proofs.lent.Node as T
 use Rattle.table.proofs.lent.Node.Laws as T′
@@ -128,9 +129,9 @@ module _ {M : Type 1} (𝓤 : URA M) (H : Heap 𝓤) (A : Atoms 𝓤) (W : Given
         ∷ []) a vals) ∷ []) ∵ enter ! (𝓣 .C) (𝓣 .Λ) code.function (s ∷ sc ∷ vint w64 n ∷ []) _ $
         alloc1 ! (λ l₀. alloc1 ! (λ l₁. alloc1 ! (λ l₂. alloc1 ! (λ l₃. alloc1 ! (λ l₄. alloc1 ! (λ l₅. alloc1 ! (λ l₆. alloc1 ! (λ l₇. alloc1 ! (λ
         l₈. alloc0 ! $ params1 ! $
-        pass1 ! (init ! 14 refl (tt, (tt, (record { fits = room .0 }, tt)))) $ pass1 ! (init ! 12 refl (tt, (tt, (record { fits = rc .0 }, tt)))) $
+        pass1 ! (init ! 14 refl (sized (room .0))) $ pass1 ! (init ! 12 refl (sized (rc .0))) $
         pass1 ! (init ! 10 refl (tt, record { fits = n-fits })) $ pass0 ! $
-        assigns ! (of-opd ! (lit ! tt)) (from ! (stop !)) (init ! 8 refl (tt, record { fits = lit< tt })) $
+        sets ! (of-opd ! (lit ! tt)) 8 refl (tt, record { fits = lit< tt }) $
         -- the borrow is opened
         move ! (19 ∷ []) $ fsplit ! $ fsplit ! $ drop ! $ fsplit ! $ move ! (21 ∷ []) $ split ! $ move ! (2 ∷ 3 ∷ 0 ∷ []) $
         opens-slice ! tt T.the-row ys b o $ move ! (5 ∷ []) $ fsplit ! $ move ! (6 ∷ []) $ split ! $
@@ -138,38 +139,43 @@ module _ {M : Type 1} (𝓤 : URA M) (H : Heap 𝓤) (A : Atoms 𝓤) (W : Given
         keep ! (4 ∷ 5 ∷ 6 ∷ 7 ∷ 2 ∷ 0 ∷ 8 ∷ 9 ∷ 10 ∷ 11 ∷ 12 ∷ 13 ∷ 14 ∷ 15 ∷ 16 ∷ 17 ∷ 18 ∷ 19 ∷ 20 ∷ 21 ∷ 22 ∷ 23 ∷ 24 ∷ 25 ∷ []) $
         whiles ! 𝓣 (Nearer n) (nearer-wf n) (At l₀ l₁ l₂ l₃ l₄ l₅ l₆ l₇ l₈) (λ i P ways.
         -- [the row; the open borrow; obs; auth; the cells; the second token; _8; …; _7; …; _6; …; _5; …; _4; …; _3; …; _2; …; _1; …; _0; …]
-        assigns ! (bin ! (load ! (from ! (stop !)) (look ! 14 refl)) (load ! (from ! (stop !)) (look ! 16 refl)) tt) (from ! (stop !)) (init ! 12
-        refl (tt, tt)) $
-        tests ! (load ! (from ! (stop !)) (look ! 12 refl))
+        sets ! (bin ! (var ! 14 refl) (var ! 16 refl) tt) 12 refl (tt, tt) $
+        tests ! (var ! 12 refl)
         -- a turn: `node_of` is called with a copy of the slice of cells, and its node is stored
         (λ less. let h = ltb→lt (i .0) n less in
         let h′ = within (i .0) n h (length ys) (long .0) in
         let in-row = subst (λ (m : ℕ). i .0 < m) (sym (length-stored (cs .now) (i .0) ys)) h′ in
         move ! (4 ∷ []) $ use1 W (‵ C ⊛ ‵ C) (shr-slice-copy 𝓤 H A W (named 1) κ′ u32 .twice cs (sc ∷ [])) $ split ! $ move ! (6 ∷ 0 ∷ []) $
         use2 W (raw (Of 𝓤 H A mem run .pre (to-of (i .0)))) (goes-of (i .0) (fits-below (i .0) n h n-fits) (cell-in (i .0) n h _ (long .1))) $
-        calls-at ! (fmOf 𝓤 H (W .laws) 𝓣) (Of 𝓤 H A mem run) known (to-of (i .0)) (and-then ! (load ! (from ! (stop !)) (look ! 18 refl)) (and-then !
-        (load ! (from ! (stop !)) (look ! 14 refl)) (no-more !))) (λ w.
+        calls-at ! (fmOf 𝓤 H (W .laws) 𝓣) (Of 𝓤 H A mem run) known (to-of (i .0)) (and-then ! (var ! 18 refl) (and-then ! (var ! 14 refl) (no-more
+        !))) (λ w.
         use1 W (later (some (λ (r : Node). ((‵ (flft κ′ q′) ⊛ ‵ ftrue) ⊛ ‵ (T.the-row .own r (w ∷ [])))
         ⊛ raw (ensured 𝓤 H A of′.ended (of′.clauses 𝓤 H A mem run) (κ′, tt) (cs, (i .0, tt)) tt r)))) (id⊢ 𝓤 _) $ await ! tt $ pick ! (λ r.
         split ! $ move ! (1 ∷ []) $ use1 W (raw (fact 𝓤 (r ≡ f (i .0)))) (made-of (i .0) r) $ heard ! (r ≡ f (i .0)) (λ e. split ! $
         move ! (1 ∷ []) $ peeks ! T.the-row (Is T.the-row) (shows 𝓤 H A T.the-row) r (w ∷ []) (λ is.
         -- [what r owns; the second token, true; the cells; the row; the open borrow; obs; auth; _8; …]
-        land ! (from ! (stop !)) (init ! 11 refl (LL.lawful T.the-type T′.the-laws 𝓤 H A W .typed r _ is .0)) $
-        assigns ! (bin ! (load ! (from ! (stop !)) (look ! 15 refl)) (lit ! tt) (record { fits = start-fits (i .0) (length ys) h′ (room .1) })) (from
-        ! (stop !)) (init ! 9 refl (tt, record { fits = start-fits (i .0) (length ys) h′ (room .1) })) $
-        assigns ! (bin ! (load ! (from ! (fld ! refl (stop !))) (look-in ! 21 (sub ! 0 refl (whole !)))) (load ! (from ! (stop !)) (look ! 9 refl))
-        tt) (from ! (stop !)) (init ! 7 refl (tt, tt)) $
+        result ! 11 refl (LL.lawful T.the-type T′.the-laws 𝓤 H A W .typed r _ is .0) $
+        sets ! (bin ! (var ! 15 refl) (lit ! tt) (record { fits = start-fits (i .0) (length ys) h′ (room .1) })) 9 refl (
+          tt,
+          record {
+            fits =
+                start-fits (i .0) (length ys) h′ (room .1);
+          },
+        ) $
+        sets ! (bin ! (load ! (from ! (fld ! refl (stop !))) (look-in ! 21 (sub ! 0 refl (whole !)))) (var ! 9 refl) tt) 7 refl (tt, tt) $
         rewrite ! 7 (λ (p : ℕ). ‵ (fat fullShare tyPtr l₈ 0 (vptr b p))) (sym (place-is 24 o (i .0))) refl $
         move ! (3 ∷ []) $ elem-out ! T.the-row (Is T.the-row) (shows 𝓤 H A T.the-row) (LL.vals T.the-type T′.the-laws) (LL.tells T.the-type
         T′.the-laws) fullShare (stored (cs .now) (i .0) ys) (i .0) blank b o in-row (λ _.
         -- [t[i]; what it owns; the others; what r owns; the second token, true; the cells; the open borrow; obs; auth; _8; …]
-        assigns ! (of-opd ! (load ! (from ! (stop !)) (look ! 13 refl))) (from ! (hop ! (look ! 9 refl) (stop !))) (store-raw ! 0 refl (LL.lawful
-        T.the-type T′.the-laws 𝓤 H A W .typed r _ is .0)) $
+        assigns ! (of-opd ! (var ! 13 refl)) (from ! (hop ! (look ! 9 refl) (stop !))) (store-raw ! 0 refl (LL.lawful T.the-type T′.the-laws 𝓤 H A W
+        .typed r _ is .0)) $
         move ! (0 ∷ 3 ∷ 2 ∷ []) $ elem-put ! T.the-row fullShare (stored (cs .now) (i .0) ys) (i .0) r (w ∷ []) b o in-row $
         rewrite ! 0 (λ (m : Node). ‵ (row T.the-row fullShare (set (stored (cs .now) (i .0) ys) (i .0) m) b o)) e refl $
         -- [the row; what t[i] owned; the second token, true; the cells; the open borrow; obs; auth; _8; …]
-        assigns-last ! (bin ! (load ! (from ! (stop !)) (look ! 15 refl)) (lit ! tt) (record { fits = next-fits (i .0) n h n-fits })) (from ! (stop
-        !)) (store ! 15 refl (tt, record { fits = next-fits (i .0) n h n-fits })) $
+        assigns-last ! (bin ! (var ! 15 refl) (lit ! tt) (record { fits = next-fits (i .0) n h n-fits })) (from ! (stop !)) (store ! 15 refl (
+          tt,
+          record { fits = next-fits (i .0) n h n-fits },
+        )) $
         rewrite ! 15 (λ (j : ℕ). ‵ (fat fullShare (tyInt w64) l₄ 0 (vint w64 j))) (one-more (i .0)) refl $
         forget ! 7 refl $ forget ! 9 refl $ forget ! 11 refl $ forget ! 13 refl $ move ! (2 ∷ []) $ split ! $
         -- [the second token; true; the row; what t[i] owned; the cells; the open borrow; obs; auth; _8; …]
@@ -177,8 +183,8 @@ module _ {M : Type 1} (𝓤 : URA M) (H : Heap 𝓤) (A : Atoms 𝓤) (W : Given
         ways .end ! $ again ! (Nearer n) (At l₀ l₁ l₂ l₃ l₄ l₅ l₆ l₇ l₈) i (suc (i .0), h) (nearer (i .0) n h)))))))
         -- the loop is left: the borrow is closed at what is filled
         (λ over. ways .out ! $
-        assigns ! (of-opd ! (unit-lit !)) (from ! (stop !)) (init ! 22 refl (tt, tt)) $
-        closes-slice ! tt T.the-row ys (stored (cs .now) (i .0) ys) (length-stored (cs .now) (i .0) ys) b o $
+        sets ! (of-opd ! (unit-lit !)) 22 refl (tt, tt) $ closes-slice ! tt T.the-row ys (stored (cs .now) (i .0) ys) (length-stored (cs .now) (i .0)
+        ys) b o $
         -- [obs; the borrow; the token; the cells; the second token; _8; …; _0; …]
         returns ! (look ! 21 refl) $ forget ! 11 refl $ forget ! 13 refl $ forget ! 15 refl $ forget ! 17 refl $ forget ! 19 refl $ forget ! 21 refl $
         move ! (21 ∷ 22 ∷ []) $ free1 ! $ move ! (19 ∷ 20 ∷ []) $ free1 ! $ move ! (17 ∷ 18 ∷ []) $ free1 ! $ move ! (15 ∷ 16 ∷ []) $ free1 ! $
