@@ -37,7 +37,7 @@ countOf l k = cond (eqb k badVariable) (l .variables) (cond (eqb k badParent) (l
 pub record Passable (b : List ℕ) (l : Layout) (k i : ℕ) : Type 0 where
   pub inside : Inside b l
   pub index : i < countOf l k
-  pub parent : k ≡ badNode → parentRule b (l .tree) i ≡ true
+  pub parents : k ≡ badNode → (j : ℕ) → j ≤ i → parentRule b (l .tree) j ≡ true
 
 -- n records can
 pub record Scannable (b : List ℕ) (l : Layout) (k n : ℕ) : Type 0 where

@@ -23,7 +23,8 @@ unfolding countOf
 node-ok-requires c κs =
     let a = c .before .before .args in
     let h : a .i < a .l .nodes = rw (c .match .keys3) at (c .before .before .pre .index) in
-    (omega (arith, c .before .before .pre .inside .nodes), c .before .before .pre .parent (c .match .keys3))
+    let n = c .before .before .pre .inside in
+    record { inside = omega (arith, n .nodes); few = omega (arith, n .few); parents = c .before .before .pre .parents (c .match .keys3) }
 
 -- a record of the script
 among : (c : tie.At-match-rest) → c .before .before .args .i < c .before .before .args .l .records
