@@ -1,9 +1,8 @@
 // The table of commands: which fields each of them reads. The others are ignored.
 use rules::limits::COMMANDS;
 ghost use mathlib.Core.Path.{_≡_};
-ghost use Prim.Native.Nat.{_<_};
-ghost use Rattle.rules.specs.Limits.{commandCount};
-ghost use Rattle.rules.specs.Script.{rowOf};
+ghost use mathlib.Core.List.{map};
+ghost use Rattle.rules.specs.Script.{rows};
 ghost use Rattle.job.specs.Fields.{rowHeld};
 
 // Whether a command reads its target as a variable's index, its target as a mark, its expression.
@@ -57,10 +56,9 @@ const ROWS: [Row; COMMANDS] = [
     NOTHING, // 16 cover
 ];
 
-// The one reader of the table: a constant is built anew at each use.
-pub fn row_of(command: usize) -> Row
-    requires { ⌜ command < commandCount ⌝ }
-    ensures { λ r. ⌜ r ≡ rowHeld (rowOf command) ⌝ }
+// The one owner of the table: a constant is built anew at each use, so a scan asks for it once.
+pub fn table() -> [Row; COMMANDS]
+    ensures { λ r. ⌜ r ≡ map rowHeld rows ⌝ }
 {
-    ROWS[command]
+    ROWS
 }
