@@ -2,7 +2,6 @@
 use mathlib.Core.Path.{_≡_, refl, sym, ap, _∙_}
 use mathlib.Core.List.{List}
 use Prim.Native.Nat.{ℕ, suc}
-use native.Mathlib.Omega.{arith}
 use Rattle.rules.specs.Limits.{badVariable, badParent, badNode, badRecord, badBlock}
 use Rattle.rules.specs.Bytes.{recordPlace}
 use Rattle.rules.specs.Blocks.{blockRule}

@@ -2,7 +2,7 @@
 use mathlib.Core.Path.{_≡_, sym, ap, _∙_}
 use mathlib.Core.Bool.{Bool, false}
 use mathlib.Core.List.{List}
-use Prim.Native.Nat.{ℕ, _-_, _≤_}
+use Prim.Native.Nat.{ℕ, _-_}
 use lib.ListN.{getD, List·getD-map}
 use borrow.Author.Tests.{not-true, not-false, lt-ltb, le-ltb}
 use Rattle.rules.specs.Bytes.{recordPlace}
@@ -38,12 +38,12 @@ ruled : (c : tie.After-fields-ok Inv-loop μ-loop) → let a = c .before .before
 unfolding recordRule rowHeld
 ruled c =
     let a = c .before .before .before .before .before .before .before .before .args in
+    let t = c .before .before .before .before .before .before .table in
     let k = c .before .before .before .byte-at .result in
-    let h : getD (c .before .before .before .before .before .before .table .result) k (rowHeld nothing) ≡ rowHeld (rowOf k) = rw (c .before .before .before .before .before .before .table .ensures) (List·getD-map rowHeld rows k nothing) in
-    let e : c .fields-ok .result ≡ fieldsRule (a .job .now) (a .variables) (read (getD (c .before .before .before .before .before .before .table .result) k (rowHeld nothing))) (recordPlace (a .base) (c .before .before .before .before .before .loop .i)) =
-    c .fields-ok .ensures in
-    rw (← c .before .before .before .byte-at .ensures .0, lt-ltb _ 17 (c .before .before .if1 .left))
-    (sym (e ∙ ap (λ (r : Row). fieldsRule (a .job .now) (a .variables) (read r) (recordPlace (a .base) (c .before .before .before .before .before .loop .i))) h))
+    let tested : Row → Bool = λ r. fieldsRule (a .job .now) (a .variables) (read r) (recordPlace (a .base) (c .before .before .before .before .before .loop .i)) in
+    let h : getD (t .result) k (rowHeld nothing) ≡ rowHeld (rowOf k) = rw (t .ensures) (List·getD-map rowHeld rows k nothing) in
+    let e : c .fields-ok .result ≡ tested (getD (t .result) k (rowHeld nothing)) = c .fields-ok .ensures in
+    rw (← c .before .before .before .byte-at .ensures .0, lt-ltb _ 17 (c .before .before .if1 .left)) (sym (e ∙ ap tested h))
 
 loop-holds : tie.Need-loop-holds Inv-loop μ-loop
 loop-holds c = scan-start _ _
