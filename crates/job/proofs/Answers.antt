@@ -37,11 +37,12 @@ unfolding layoutOf
 inside b d e f =
     let h = long-enough (length b) d in
     let s = sections b e in
-    record { variables = omega arith; nodes = omega arith; records = omega arith; few = counts (variableCount b) (nodeCount b) (recordCount b) f .records }
+    let n = counts (variableCount b) (nodeCount b) (recordCount b) f in
+    record { variables = omega arith; nodes = omega arith; records = omega arith; few = n .nodes; short = n .records }
 
 -- the jumps of an accepted job's script can be filled into a list of 1,024 numbers
 pub fillable : (b js : List ℕ) → Right b → maxRecords ≤ length js → Fillable b (scriptAt b) (recordCount b) js
 unfolding layoutOf
 fillable b js r h =
     let i = inside b (r .lengths) (r .offsets) (r .counts) in
-    record { inside = i .records; few = i .few; long = omega (arith, i .few); right = r .blocks }
+    record { inside = i .records; few = i .short; long = omega (arith, i .short); right = r .blocks }

@@ -6,14 +6,13 @@ use mathlib.Core.Bool.{true}
 use mathlib.Core.List.{List, [], _∷_, tail}
 use Prim.Native.Nat.{ℕ, zero, suc, _+_, _-_, _≤_, _<_}
 use native.Mathlib.Omega.{arith}
-use lib.ListN.{length, getD, set}
+use lib.ListN.{length, getD, set, length-set}
 use lib.Seq.{getD-set-same, getD-set-other}
 use borrow.Author.Tests.{ltb-true, eqb-true}
 use Rattle.rules.specs.Limits.{maxDepth}
 use Rattle.rules.specs.Blocks.{opens, parts, headIsIf, placed}
 use Rattle.rules.proofs.Tests.{clash}
 use Rattle.rules.proofs.Parts.{Plain, if-opens, while-opens, placed-open, placed-else, placed-end}
-use Rattle.job.specs.declared.blocks.Parts.{Parts}
 use Rattle.job.specs.Parts.{stack, Spells}
 
 -- the four kinds of a command that was read as r
@@ -40,53 +39,53 @@ stack-push : (xs : List ℕ) (d v : ℕ) → d < length xs → stack (set xs d v
 unfolding stack
 stack-push xs d v h = rw (getD-set-same xs d v 0 h, stack-set xs d d v (omega arith))
 
-module _ (p : Parts) (ps : List ℕ) (s : Spells p ps) where
-  pub depth : length ps ≡ p .depth
-  depth = ap (λ (qs : List ℕ). length qs) (sym (s .same)) ∙ stack-length (p .at) (p .depth)
+module _ (xs : List ℕ) (d : ℕ) (ps : List ℕ) (s : Spells xs d ps) where
+  pub depth : length ps ≡ d
+  depth = ap (λ (qs : List ℕ). length qs) (sym (s .same)) ∙ stack-length xs d
 
-  pub top : (p .depth ≡ 0 → ⊥) → ps ≡ getD (p .at) (p .depth - 1) 0 ∷ stack (p .at) (p .depth - 1)
+  pub top : (d ≡ 0 → ⊥) → ps ≡ getD xs (d - 1) 0 ∷ stack xs (d - 1)
   unfolding stack
-  top n = sym (s .same) ∙ ap (stack (p .at)) {x = p .depth} {y = suc (p .depth - 1)} (omega arith)
+  top n = sym (s .same) ∙ ap (stack xs) {x = d} {y = suc (d - 1)} (omega arith)
 
-  pub bottom : p .depth ≡ 0 → ps ≡ []
+  pub bottom : d ≡ 0 → ps ≡ []
   unfolding stack
-  bottom e = sym (s .same) ∙ ap (stack (p .at)) e
+  bottom e = sym (s .same) ∙ ap (stack xs) e
 
   -- a record that passes check 8: an opening finds room, an else finds a part that an if began, an end finds a part
   module _ (code : ℕ → ℕ) (k : ℕ) (f : placed code k ps ≡ true) where
-    pub room : opens k ≡ true → p .depth < maxDepth
+    pub room : opens k ≡ true → d < maxDepth
     room e = let h : length ps < maxDepth = ltb-true _ _ (sym (placed-open code k ps e) ∙ f) in omega (arith, depth)
 
-    pub some-else : k ≡ 3 → p .depth ≡ 0 → ⊥
+    pub some-else : k ≡ 3 → d ≡ 0 → ⊥
     unfolding headIsIf
     some-else e z = clash (sym (placed-else code k ps e) ∙ f) (ap (headIsIf code) (bottom z))
 
-    pub by-if : k ≡ 3 → code (getD (p .at) (p .depth - 1) 0) ≡ 2
+    pub by-if : k ≡ 3 → code (getD xs (d - 1) 0) ≡ 2
     unfolding headIsIf
     by-if e = eqb-true _ 2 (sym (ap (headIsIf code) (top (some-else e))) ∙ sym (placed-else code k ps e) ∙ f)
 
-    pub some-end : k ≡ 5 → p .depth ≡ 0 → ⊥
+    pub some-end : k ≡ 5 → d ≡ 0 → ⊥
     some-end e z = let h : 0 < length ps = ltb-true _ _ (sym (placed-end code k ps e) ∙ f) in omega (arith, depth)
 
   -- what the stores make of the parts
-  module _ (v : ℕ) (l : length (p .at) ≡ maxDepth) where
-    pub push : p .depth < maxDepth → Spells (record { at = set (p .at) (p .depth) v; depth = p .depth + 1 }) (v ∷ ps)
+  module _ (v : ℕ) where
+    pub push : d < maxDepth → Spells (set xs d v) (d + 1) (v ∷ ps)
     push h =
         record {
+          size = simp length-set (s .size);
           deep = omega arith;
-          same =
-              ap (stack (set (p .at) (p .depth) v)) {x = p .depth + 1} {y = suc (p .depth)} (omega arith)
-              ∙ stack-push _ _ v (omega arith) ∙ ap (_∷_ v) (s .same);
+          same = ap (stack (set xs d v)) {x = d + 1} {y = suc d} (omega arith) ∙ stack-push _ _ v (omega (arith, s .size)) ∙ ap (_∷_ v) (s .same);
         }
 
-    pub replace : (p .depth ≡ 0 → ⊥) → Spells (record { at = set (p .at) (p .depth - 1) v; depth = p .depth }) (v ∷ tail ps)
+    pub replace : (d ≡ 0 → ⊥) → Spells (set xs (d - 1) v) d (v ∷ tail ps)
     replace n =
         record {
+          size = simp length-set (s .size);
           deep = s .deep;
           same =
-              ap (stack (set (p .at) (p .depth - 1) v)) {x = p .depth} {y = suc (p .depth - 1)} (omega (arith, s .deep))
-              ∙ stack-push _ _ v (omega (arith, s .deep)) ∙ ap (λ (qs : List ℕ). v ∷ tail qs) (sym (top n));
+              ap (stack (set xs (d - 1) v)) {x = d} {y = suc (d - 1)} (omega (arith, s .deep))
+              ∙ stack-push _ _ v (omega (arith, s .deep, s .size)) ∙ ap (λ (qs : List ℕ). v ∷ tail qs) (sym (top n));
         }
 
-  pub pop : (p .depth ≡ 0 → ⊥) → Spells (record { at = p .at; depth = p .depth - 1 }) (tail ps)
-  pop n = record { deep = omega (arith, s .deep); same = ap tail (sym (top n)) }
+  pub pop : (d ≡ 0 → ⊥) → Spells xs (d - 1) (tail ps)
+  pop n = record { size = s .size; deep = omega (arith, s .deep); same = ap tail (sym (top n)) }

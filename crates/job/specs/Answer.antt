@@ -5,12 +5,12 @@ use mathlib.Core.List.{List}
 use Prim.Native.Nat.{ℕ, _<_, _≤_}
 use lib.Dec.{eqb}
 use lib.ListN.{getD}
-use Rattle.rules.specs.Limits.{badVariable, badParent, badNode}
-use Rattle.rules.specs.Bytes.{recordCount, recordPlace}
+use Rattle.rules.specs.Limits.{badVariable, badParent}
+use Rattle.rules.specs.Bytes.{recordCount}
 use Rattle.rules.specs.Script.{numberAt}
 use Rattle.rules.specs.Blocks.{goesTo}
 use Rattle.rules.specs.Check as Check
-use Rattle.rules.specs.Check.{checkBytes, variableRule, parentRule, nodeRule, recordRule}
+use Rattle.rules.specs.Check.{checkBytes, variableRule, parentRule, nodeRule}
 use Rattle.rules.specs.Job.{script}
 use Rattle.job.specs.declared.sections.Layout.{Layout}
 use Rattle.job.specs.declared.checks.Checked.{Checked}
@@ -22,28 +22,25 @@ unfoldable pub answer : Layout → Check.Checked → Checked
 answer l Check.accepted = Accepted l
 answer l (Check.refused k i) = Refused k i
 
--- the rule of the check of a number, 4 to 7, for record i of its section
+-- the rule of the check of a number, 4 to 6, for record i of its section
 unfoldable pub ruleOf : List ℕ → Layout → ℕ → ℕ → Bool
-ruleOf b l k i =
-    cond (eqb k badVariable) (variableRule b i)
-    (cond (eqb k badParent) (parentRule b (l .tree) i)
-    (cond (eqb k badNode) (nodeRule b (l .tree) i) (recordRule b (l .variables) (recordPlace (l .script) i))))
+ruleOf b l k i = cond (eqb k badVariable) (variableRule b i) (cond (eqb k badParent) (parentRule b (l .tree) i) (nodeRule b (l .tree) i))
 
 -- how many records that section holds
 unfoldable pub countOf : Layout → ℕ → ℕ
-countOf l k = cond (eqb k badVariable) (l .variables) (cond (eqb k badParent) (l .nodes) (cond (eqb k badNode) (l .nodes) (l .records)))
+countOf l k = cond (eqb k badVariable) (l .variables) (l .nodes)
 
 -- record i can be put to the check of a number; 6 asks that 5 was passed
 pub record Passable (b : List ℕ) (l : Layout) (k i : ℕ) : Type 0 where
   pub inside : Inside b l
   pub index : i < countOf l k
-  pub parent : k ≡ badNode → parentRule b (l .tree) i ≡ true
+  pub parents : (k ≡ badVariable → ⊥) → (k ≡ badParent → ⊥) → (j : ℕ) → j ≤ i → parentRule b (l .tree) j ≡ true
 
 -- n records can
 pub record Scannable (b : List ℕ) (l : Layout) (k n : ℕ) : Type 0 where
   pub inside : Inside b l
   pub count : n ≡ countOf l k
-  pub parents : k ≡ badNode → (i : ℕ) → i < n → parentRule b (l .tree) i ≡ true
+  pub parents : (k ≡ badVariable → ⊥) → (k ≡ badParent → ⊥) → (i : ℕ) → i < n → parentRule b (l .tree) i ≡ true
 
 -- what `prepare` makes of a job's bytes and a list js: the answer of the checks; of an accepted job the jumps of its script, and what
 -- stands behind them stays; of a refused job nothing

@@ -9,7 +9,6 @@ use Rattle.rules.specs.Bytes.{recordPlace}
 use Rattle.rules.specs.Blocks.{parts, placed, blockRule, goesTo}
 use Rattle.rules.specs.Check.{code}
 use Rattle.rules.proofs.Jumps.{isIn}
-use Rattle.job.specs.declared.blocks.Parts.{Parts}
 
 -- the entries of a list below a depth, the last first
 unfoldable pub stack : List ℕ → ℕ → List ℕ
@@ -17,22 +16,23 @@ stack xs zero = []
 stack xs (suc d) = getD xs d 0 ∷ stack xs d
 
 -- an array with a depth spells a list of parts
-pub record Spells (p : Parts) (ps : List ℕ) : Type 0 where
-  pub deep : p .depth ≤ maxDepth
-  pub same : stack (p .at) (p .depth) ≡ ps
+pub record Spells (xs : List ℕ) (d : ℕ) (ps : List ℕ) : Type 0 where
+  pub size : length xs ≡ maxDepth
+  pub deep : d ≤ maxDepth
+  pub same : stack xs d ≡ ps
 
 -- check 8, of record i
 unfoldable pub placedAt : List ℕ → ℕ → ℕ → Bool
 placedAt b base i = placed (code b base) (code b base i) (parts (code b base) i)
 
--- record i stands within the bytes, and p spells the parts that are open at it
-pub record Stands (b : List ℕ) (base : ℕ) (p : Parts) (i : ℕ) : Type 0 where
+-- record i stands within the bytes, and the array spells the parts that are open at it
+pub record Stands (b : List ℕ) (base : ℕ) (xs : List ℕ) (d i : ℕ) : Type 0 where
   pub inside : recordPlace base i + recordSize ≤ length b
-  pub spells : Spells p (parts (code b base) i)
+  pub spells : Spells xs d (parts (code b base) i)
 
 -- and the record passes check 8
-pub record Fits (b : List ℕ) (base : ℕ) (p : Parts) (i : ℕ) : Type 0 where
-  pub stands : Stands b base p i
+pub record Fits (b : List ℕ) (base : ℕ) (xs : List ℕ) (d i : ℕ) : Type 0 where
+  pub stands : Stands b base xs d i
   pub passes : placedAt b base i ≡ true
   pub few : i < maxRecords
 

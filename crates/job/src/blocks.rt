@@ -9,70 +9,60 @@ use rules::limits::MAX_DEPTH;
 ghost use mathlib.Core.Path.{_≡_};
 ghost use Prim.Native.Nat.{suc, _-_, _≤_};
 ghost use lib.ListN.{length, getD};
-ghost use Rattle.rules.specs.Limits.{maxDepth, maxRecords};
+ghost use Rattle.rules.specs.Limits.{maxRecords};
 ghost use Rattle.rules.specs.Bytes.{recordPlace};
 ghost use Rattle.rules.specs.Blocks.{parts, blockRule};
 ghost use Rattle.rules.specs.Check.{code, firstFault};
 ghost use Rattle.job.specs.Parts.{Spells, placedAt, Stands, Fits};
 
-// The open parts, each as the record that began it, the innermost at depth - 1.
-pub struct Parts {
-    pub at: [u16; MAX_DEPTH],
-    pub depth: usize,
+fn wide(x: u16) -> usize
+    ensures { λ r. ⌜ r ≡ x ⌝ }
+{
+    x as usize
 }
 
-// The record that began the innermost part.
-pub fn innermost(p: Parts) -> usize
-    requires { ⌜ (p .depth ≡ 0 → ⊥) × (p .depth ≤ maxDepth) ⌝ }
-    ensures { λ r. ⌜ r ≡ getD (p .at) (p .depth - 1) 0 ⌝ }
+// Of the open parts, each as the record that began it, the innermost.
+pub fn innermost(begun: &[u16], depth: usize) -> usize
+    requires { ⌜ (depth ≡ 0 → ⊥) × (depth ≤ length (now begun)) ⌝ }
+    ensures { λ r. ⌜ r ≡ getD (now (begun .entry)) (depth - 1) 0 ⌝ }
 {
-    let depth = p.depth;
-    p.at[depth - 1] as usize
+    wide(begun[depth - 1])
 }
 
 // Check 8, of record i among the parts that are open at it.
-pub fn block_ok(job: &[u8], base: usize, p: Parts, i: usize) -> bool
-    requires { ⌜ Stands (now job) base p i ⌝ }
+pub fn block_ok(job: &[u8], base: usize, begun: &[u16], depth: usize, i: usize) -> bool
+    requires { ⌜ Stands (now job) base (now begun) depth i ⌝ }
     ensures { λ r. ⌜ r ≡ placedAt (now (job .entry)) base i ⌝ }
 {
-    let depth = p.depth;
     match code_at(job, base, i) {
         IF | WHILE => depth < MAX_DEPTH,
         ELSE => {
             if depth == 0 {
                 return false;
             }
-            code_at(job, base, innermost(p)) == IF
+            code_at(job, base, innermost(begun, depth)) == IF
         }
         END => 0 < depth,
         _ => true,
     }
 }
 
-// The parts that are open after record i, which passes check 8.
-pub fn parts_after(job: &[u8], base: usize, p: Parts, i: usize) -> Parts
-    requires { ⌜ Fits (now job) base p i ⌝ }
-    ensures { λ r. ⌜ Spells r (parts (code (now (job .entry)) base) (suc i)) ⌝ }
+// The parts that are open after record i, which passes check 8: their number, and in `begun` the records that began them.
+pub fn advance(job: &[u8], base: usize, begun: &mut [u16], depth: usize, i: usize) -> usize
+    requires { ⌜ Fits (now job) base (now begun) depth i ⌝ }
+    ensures { λ r. ⌜ Spells (now (begun .exit)) r (parts (code (now (job .entry)) base) (suc i)) ⌝ }
 {
-    let depth = p.depth;
-    let mut at = p.at;
     match code_at(job, base, i) {
         IF | WHILE => {
-            at[depth] = i as u16;
-            Parts {
-                at,
-                depth: depth + 1,
-            }
+            begun[depth] = i as u16;
+            depth + 1
         }
         ELSE => {
-            at[depth - 1] = i as u16;
-            Parts { at, depth }
+            begun[depth - 1] = i as u16;
+            depth
         }
-        END => Parts {
-            at,
-            depth: depth - 1,
-        },
-        _ => Parts { at, depth },
+        END => depth - 1,
+        _ => depth,
     }
 }
 
@@ -81,17 +71,15 @@ pub fn first_fault(job: &[u8], base: usize, count: usize) -> usize
     requires { ⌜ (recordPlace base count ≤ length (now job)) × (count ≤ maxRecords) ⌝ }
     ensures { λ r. ⌜ r ≡ firstFault (blockRule (code (now (job .entry)) base) count) (suc count) 0 ⌝ }
 {
-    let mut p = Parts {
-        at: [0u16; MAX_DEPTH],
-        depth: 0,
-    };
+    let mut begun = [0u16; MAX_DEPTH];
+    let mut depth = 0;
     let mut i = 0;
     while i < count {
-        if !block_ok(job, base, p, i) {
+        if !block_ok(job, base, &begun, depth, i) {
             return i;
         }
-        p = parts_after(job, base, p, i);
+        depth = advance(job, base, &mut begun, depth, i);
         i += 1;
     }
-    if p.depth == 0 { count + 1 } else { count }
+    if depth == 0 { count + 1 } else { count }
 }

@@ -3,7 +3,7 @@ use crate::blocks;
 use crate::jumps;
 use crate::nodes::node_ok;
 use crate::nodes::parent_ok;
-use crate::records::record_ok;
+use crate::records;
 use crate::sections::Layout;
 use crate::sections::counts_ok;
 use crate::sections::layout_of;
@@ -18,7 +18,6 @@ use rules::limits::BAD_OFFSETS;
 use rules::limits::BAD_PARENT;
 use rules::limits::BAD_RECORD;
 use rules::limits::BAD_VARIABLE;
-use rules::limits::RECORD_SIZE;
 ghost use mathlib.Core.Path.{_≡_};
 ghost use Prim.Native.Nat.{_≤_};
 ghost use lib.ListN.{length};
@@ -33,7 +32,7 @@ pub enum Checked {
     Refused { number: u8, index: usize },
 }
 
-// The checks 4 to 7, by number, of record i of its section.
+// The checks 4 to 6, by number, of record i of its section.
 fn passes(job: &[u8], l: Layout, number: u8, i: usize) -> bool
     requires { ⌜ Passable (now job) l number i ⌝ }
     ensures { λ r. ⌜ r ≡ ruleOf (now (job .entry)) l number i ⌝ }
@@ -41,12 +40,11 @@ fn passes(job: &[u8], l: Layout, number: u8, i: usize) -> bool
     match number {
         BAD_VARIABLE => variable_ok(job, i),
         BAD_PARENT => parent_ok(job, l.tree, i),
-        BAD_NODE => node_ok(job, l.tree, i),
-        _ => record_ok(job, l.script + RECORD_SIZE * i, l.variables),
+        _ => node_ok(job, l.tree, i),
     }
 }
 
-// The first record of its section that fails the check of a number, 4 to 7, or the count.
+// The first record of its section that fails the check of a number, 4 to 6, or the count.
 fn first_fault(job: &[u8], l: Layout, number: u8, count: usize) -> usize
     requires { ⌜ Scannable (now job) l number count ⌝ }
     ensures { λ r. ⌜ r ≡ firstFault (ruleOf (now (job .entry)) l number) count 0 ⌝ }
@@ -87,7 +85,7 @@ fn check_records(job: &[u8], l: Layout) -> Checked
             index,
         };
     }
-    let index = first_fault(job, l, BAD_RECORD, l.records);
+    let index = records::first_fault(job, l.script, l.records, l.variables);
     if index < l.records {
         return Checked::Refused {
             number: BAD_RECORD,

@@ -1,7 +1,6 @@
 // Where the records of an accepted script go if not to the next: an if or a while whose guard is zero, an else, an end.
-use crate::blocks::Parts;
+use crate::blocks::advance;
 use crate::blocks::innermost;
-use crate::blocks::parts_after;
 use crate::records::ELSE;
 use crate::records::END;
 use crate::records::WHILE;
@@ -24,15 +23,23 @@ fn close(jumps: &mut [u16], i: usize, own: usize, o: usize, its: usize)
 }
 
 // Where record i goes, and where the part that it closes does.
-fn settle(job: &[u8], base: usize, count: usize, p: Parts, i: usize, jumps: &mut [u16])
-    requires { ⌜ Fits (now job) base p i × (i < count) × Known (code (now job) base) count i (now jumps) ⌝ }
+fn settle(
+    job: &[u8],
+    base: usize,
+    count: usize,
+    begun: &[u16],
+    depth: usize,
+    i: usize,
+    jumps: &mut [u16],
+)
+    requires { ⌜ Fits (now job) base (now begun) depth i × (i < count) × Known (code (now job) base) count i (now jumps) ⌝ }
     ensures { λ r. ⌜ Known (code (now (job .entry)) base) count (suc i) (now (jumps .exit)) × Kept count (now (jumps .entry)) (now (jumps .exit)) ⌝ }
 {
     let command = code_at(job, base, i);
     if command == ELSE {
-        close(jumps, i, i + 1, innermost(p), i + 1);
+        close(jumps, i, i + 1, innermost(begun, depth), i + 1);
     } else if command == END {
-        let o = innermost(p);
+        let o = innermost(begun, depth);
         if code_at(job, base, o) == WHILE {
             close(jumps, i, o, o, i + 1);
         } else {
@@ -48,14 +55,12 @@ pub fn fill(job: &[u8], base: usize, count: usize, jumps: &mut [u16])
     requires { ⌜ Fillable (now job) base count (now jumps) ⌝ }
     ensures { λ r. ⌜ Filled (code (now (job .entry)) base) count (now (jumps .entry)) (now (jumps .exit)) ⌝ }
 {
-    let mut p = Parts {
-        at: [0u16; MAX_DEPTH],
-        depth: 0,
-    };
+    let mut begun = [0u16; MAX_DEPTH];
+    let mut depth = 0;
     let mut i = 0;
     while i < count {
-        settle(job, base, count, p, i, jumps);
-        p = parts_after(job, base, p, i);
+        settle(job, base, count, &begun, depth, i, jumps);
+        depth = advance(job, base, &mut begun, depth, i);
         i += 1;
     }
 }

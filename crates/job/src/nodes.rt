@@ -7,7 +7,6 @@ use rules::levels::not_above;
 use rules::limits::NO_PARENT;
 use rules::limits::NODE_SIZE;
 ghost use mathlib.Core.Path.{_≡_};
-ghost use mathlib.Core.Bool.{true};
 ghost use Prim.Native.Nat.{_+_, _<_, _≤_};
 ghost use lib.ListN.{length};
 ghost use Rattle.rules.specs.Limits.{nodeSize};
@@ -15,6 +14,7 @@ ghost use Rattle.rules.specs.Bytes.{nodePlace};
 ghost use Rattle.rules.specs.Check.{parent, parentRule, labelRule, nearest, leftRule, childRule, nodeRule};
 ghost use Rattle.rules.specs.Job.{labelOf};
 ghost use Rattle.job.specs.Fields.{levelsOf};
+ghost use Rattle.job.specs.Layout.{Rooted};
 
 pub fn parent_at(job: &[u8], base: usize, i: usize) -> usize
     requires { ⌜ nodePlace base i + nodeSize ≤ length (now job) ⌝ }
@@ -76,18 +76,18 @@ enum Found {
     Nothing,
 }
 
-// Whether node i exists at least where its left sibling does: the nearest earlier record with the same parent.
+// Whether node i exists at least where its left sibling does: the nearest earlier record with the same parent, which comes after the parent.
 fn left_ok(job: &[u8], base: usize, i: usize) -> bool
-    requires { ⌜ nodePlace base i + nodeSize ≤ length (now job) ⌝ }
+    requires { ⌜ (i ≡ 0 → ⊥) × Rooted (now job) base i ⌝ }
     ensures { λ r. ⌜ r ≡ leftRule (now (job .entry)) base i (nearest (now (job .entry)) base (parent (now (job .entry)) base i) i) ⌝ }
 {
     let p = parent_at(job, base, i);
     let mut k = i;
     let left = loop {
-        if k == 0 {
+        k -= 1;
+        if k == p {
             break Found::Nothing;
         }
-        k -= 1;
         if parent_at(job, base, k) == p {
             break Found::At(k);
         }
@@ -102,26 +102,32 @@ fn left_ok(job: &[u8], base: usize, i: usize) -> bool
 }
 
 fn child_ok(job: &[u8], base: usize, i: usize) -> bool
-    requires { ⌜ (nodePlace base i + nodeSize ≤ length (now job)) × (parent (now job) base i < i) ⌝ }
+    requires { ⌜ (i ≡ 0 → ⊥) × Rooted (now job) base i ⌝ }
     ensures { λ r. ⌜ r ≡ childRule (now (job .entry)) base i ⌝ }
 {
     let p = parent_at(job, base, i);
     let own = levels_at(job, base, i);
     let above = levels_at(job, base, p);
-    not_above(above.existence, own.existence)
-        & not_above(own.existence, above.structure)
-        & left_ok(job, base, i)
+    if !not_above(above.existence, own.existence) {
+        return false;
+    }
+    if !not_above(own.existence, above.structure) {
+        return false;
+    }
+    left_ok(job, base, i)
 }
 
-// Check 6, of node i, whose parent is right.
+// Check 6, of node i, which has passed check 5 as have all before it.
 pub fn node_ok(job: &[u8], base: usize, i: usize) -> bool
-    requires { ⌜ (nodePlace base i + nodeSize ≤ length (now job)) × (parentRule (now job) base i ≡ true) ⌝ }
+    requires { ⌜ Rooted (now job) base i ⌝ }
     ensures { λ r. ⌜ r ≡ nodeRule (now (job .entry)) base i ⌝ }
 {
-    let own = label_ok(job, base, i);
+    if !label_ok(job, base, i) {
+        return false;
+    }
     if i == 0 {
-        own & not_above(levels_at(job, base, i).existence, PUBLIC)
+        not_above(levels_at(job, base, i).existence, PUBLIC)
     } else {
-        own & child_ok(job, base, i)
+        child_ok(job, base, i)
     }
 }

@@ -1,15 +1,17 @@
 // The script's records, 16 bytes each from `base` on: check 7, and the fields.
 use crate::reads::byte_at;
 use crate::reads::full_at;
-use crate::rows::row_of;
+use crate::rows::Row;
+use crate::rows::table;
 use rules::limits::COMMANDS;
 use rules::limits::RECORD_SIZE;
 ghost use mathlib.Core.Path.{_≡_};
 ghost use Prim.Native.Nat.{_+_, _≤_};
 ghost use lib.ListN.{length};
 ghost use Rattle.rules.specs.Limits.{recordSize};
-ghost use Rattle.rules.specs.Bytes.{recordPlace};
-ghost use Rattle.rules.specs.Check.{operandRule, expressionRule, recordRule, code};
+ghost use Rattle.rules.specs.Bytes.{full, recordPlace};
+ghost use Rattle.rules.specs.Script.{row};
+ghost use Rattle.rules.specs.Check.{operandRule, expressionRule, fieldsRule, recordRule, code, firstFault};
 ghost use Rattle.job.specs.Fields.{fieldsOf};
 
 // The commands that say which record comes next.
@@ -67,10 +69,16 @@ pub fn code_at(job: &[u8], base: usize, i: usize) -> u8
     job[base + RECORD_SIZE * i]
 }
 
-fn operand_ok(kind: u8, number: u32, variables: usize) -> bool
-    ensures { λ r. ⌜ r ≡ operandRule variables kind number ⌝ }
+// An operand of a kind whose number stands at a place.
+fn operand_ok(job: &[u8], kind: u8, at: usize, variables: usize) -> bool
+    requires { ⌜ at + 4 ≤ length (now job) ⌝ }
+    ensures { λ r. ⌜ r ≡ operandRule variables kind (full (now (job .entry)) at) ⌝ }
 {
-    (kind <= MAX_KIND) & (!(kind == VARIABLE) | ((number as usize) < variables))
+    if kind == VARIABLE {
+        (full_at(job, at) as usize) < variables
+    } else {
+        kind <= MAX_KIND
+    }
 }
 
 fn expression_ok(job: &[u8], at: usize, variables: usize) -> bool
@@ -78,24 +86,53 @@ fn expression_ok(job: &[u8], at: usize, variables: usize) -> bool
     ensures { λ r. ⌜ r ≡ expressionRule (now (job .entry)) variables at ⌝ }
 {
     let operator = job[at + 2];
-    (operator <= MAX_OPERATOR)
-        & operand_ok(job[at + 3], full_at(job, at + 8), variables)
-        & ((operator == ALONE) | operand_ok(job[at + 4], full_at(job, at + 12), variables))
+    if MAX_OPERATOR < operator {
+        return false;
+    }
+    if !operand_ok(job, job[at + 3], at + 8, variables) {
+        return false;
+    }
+    if operator == ALONE {
+        return true;
+    }
+    operand_ok(job, job[at + 4], at + 12, variables)
 }
 
-// Check 7, of the record at a place.
-pub fn record_ok(job: &[u8], at: usize, variables: usize) -> bool
+// The fields that a row names, of the record at a place.
+fn fields_ok(job: &[u8], at: usize, reads: Row, variables: usize) -> bool
     requires { ⌜ at + recordSize ≤ length (now job) ⌝ }
-    ensures { λ r. ⌜ r ≡ recordRule (now (job .entry)) variables at ⌝ }
+    ensures { λ r. ⌜ r ≡ fieldsRule (now (job .entry)) variables (row (reads .target) (reads .mark) (reads .expression)) at ⌝ }
 {
-    let command = byte_at(job, at);
-    if command < COMMANDS {
-        let row = row_of(command);
-        let target = byte_at(job, at + 1);
-        (!row.target | (target < variables))
-            & (!row.mark | (target <= MAX_MARK))
-            & (!row.expression | expression_ok(job, at, variables))
-    } else {
-        false
+    let target = byte_at(job, at + 1);
+    if !(!reads.target | (target < variables)) {
+        return false;
     }
+    if !(!reads.mark | (target <= MAX_MARK)) {
+        return false;
+    }
+    if reads.expression {
+        return expression_ok(job, at, variables);
+    }
+    true
+}
+
+// Check 7: the first of `count` records that fails it, or the count.
+pub fn first_fault(job: &[u8], base: usize, count: usize, variables: usize) -> usize
+    requires { ⌜ recordPlace base count ≤ length (now job) ⌝ }
+    ensures { λ r. ⌜ r ≡ firstFault (λ i. recordRule (now (job .entry)) variables (recordPlace base i)) count 0 ⌝ }
+{
+    let rows = table();
+    let mut i = 0;
+    while i < count {
+        let at = base + RECORD_SIZE * i;
+        let command = byte_at(job, at);
+        if COMMANDS <= command {
+            return i;
+        }
+        if !fields_ok(job, at, rows[command], variables) {
+            return i;
+        }
+        i += 1;
+    }
+    i
 }

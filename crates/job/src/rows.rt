@@ -1,9 +1,10 @@
 // The table of commands: which fields each of them reads. The others are ignored.
 use rules::limits::COMMANDS;
 ghost use mathlib.Core.Path.{_≡_};
+ghost use mathlib.Core.List.{map};
 ghost use Prim.Native.Nat.{_<_};
 ghost use Rattle.rules.specs.Limits.{commandCount};
-ghost use Rattle.rules.specs.Script.{rowOf};
+ghost use Rattle.rules.specs.Script.{rows, rowOf};
 ghost use Rattle.job.specs.Fields.{rowHeld};
 
 // Whether a command reads its target as a variable's index, its target as a mark, its expression.
@@ -57,7 +58,14 @@ const ROWS: [Row; COMMANDS] = [
     NOTHING, // 16 cover
 ];
 
-// The one reader of the table: a constant is built anew at each use.
+// The whole table, for a scan: a constant is built anew at each use.
+pub fn table() -> [Row; COMMANDS]
+    ensures { λ r. ⌜ r ≡ map rowHeld rows ⌝ }
+{
+    ROWS
+}
+
+// The row of one command.
 pub fn row_of(command: usize) -> Row
     requires { ⌜ command < commandCount ⌝ }
     ensures { λ r. ⌜ r ≡ rowHeld (rowOf command) ⌝ }

@@ -16,57 +16,58 @@ use Rattle.job.proofs.blocks.first_fault.Statement.{statement}
 use Rattle.job.proofs.blocks.first_fault.Tie as tie
 
 abbrev Inv-loop : tie.InvT-loop
-Inv-loop job base count p₀ i₀ p i = Scan (blockRule (code job base) count) (suc count) i × (i ≤ count) × Spells p (parts (code job base) i)
+Inv-loop job base count begun₀ depth₀ i₀ begun depth i =
+    Scan (blockRule (code job base) count) (suc count) i × (i ≤ count) × Spells begun depth (parts (code job base) i)
 
 abbrev μ-loop : tie.MeasureT-loop
-μ-loop job base count p₀ i₀ p i = count - i
+μ-loop job base count begun₀ depth₀ i₀ begun depth i = count - i
 
 loop-holds : tie.Need-loop-holds Inv-loop μ-loop
 unfolding stack parts
-loop-holds c = (scan-start _ _, search needs, record { deep = search needs; same = refl })
+loop-holds c = (scan-start _ _, search needs, record { size = search needs; deep = search needs; same = refl })
 
 block-ok-requires : tie.Need-block-ok-requires Inv-loop μ-loop
-block-ok-requires c κs = record { inside = search needs; spells = c .before .loop .inv .2 }
+block-ok-requires c κs = record { inside = search needs; spells = c .before .before .loop .inv .2 }
 
 returns : tie.Need-returns Inv-loop μ-loop
 unfolding placedAt
 returns c =
-    scan-stop _ _ (c .before .before .before .loop .inv .0) (search needs)
+    scan-stop _ _ (c .before .before .before .before .loop .inv .0) (search needs)
     (rule-inside _ _ _ (search needs) ∙ sym (c .before .block-ok .ensures) ∙ not-true _ (c .if1 .taken))
 
-parts-after-requires : tie.Need-parts-after-requires Inv-loop μ-loop
-parts-after-requires c κs =
+advance-requires : tie.Need-advance-requires Inv-loop μ-loop
+advance-requires c κs =
     record {
-      stands = record { inside = search needs; spells = c .before .before .before .loop .inv .2 };
-      passes = sym (c .before .block-ok .ensures) ∙ not-false _ (c .if1 .left);
+      stands = record { inside = search needs; spells = c .before .before .before .before .before .loop .inv .2 };
+      passes = sym (c .before .before .block-ok .ensures) ∙ not-false _ (c .before .if1 .left);
       few = search needs;
     }
 
 loop-again : tie.Need-loop-again Inv-loop μ-loop
 unfolding placedAt
 loop-again c = (
-  scan-next _ _ (c .before .before .before .before .loop .inv .0) (search needs)
-      (rule-inside _ _ _ (search needs) ∙ sym (c .before .before .block-ok .ensures) ∙ not-false _ (c .before .if1 .left)),
+  scan-next _ _ (c .before .before .before .before .before .before .before .loop .inv .0) (search needs)
+      (rule-inside _ _ _ (search needs) ∙ sym (c .before .before .before .before .block-ok .ensures) ∙ not-false _ (c .before .before .before .if1 .left)),
   search needs,
-  rw add-one (c .parts-after .ensures),
+  rw add-one (c .before .advance .ensures),
 )
 
 returns-2 : tie.Need-returns-2 Inv-loop μ-loop
 returns-2 c =
-    let v = c .before .before .before .loop .inv in
-    let e : c .before .before .before .before .before .args .count + 1 ≡ c .before .before .before .loop .i + 1 = omega arith in
-    let z = ap (λ (n : ℕ). eqb n 0) (depth _ _ (v .2)) ∙ eq-eqb _ 0 (c .if2 .taken) in
+    let v = c .before .before .loop .inv in
+    let e : c .before .before .before .before .args .count + 1 ≡ c .before .before .loop .i + 1 = omega arith in
+    let z = ap (λ (n : ℕ). eqb n 0) (depth _ _ _ (v .2)) ∙ eq-eqb _ 0 (c .if2 .taken) in
     e ∙ scan-end _ _ (scan-next _ _ (v .0) (search needs) (rule-end _ _ _ (search needs) ∙ z)) (search needs)
 
 returns-3 : tie.Need-returns-3 Inv-loop μ-loop
 returns-3 c =
-    let v = c .before .before .before .loop .inv in
-    let e : c .before .before .before .before .before .args .count ≡ c .before .before .before .loop .i = omega arith in
-    let z = ap (λ (n : ℕ). eqb n 0) (depth _ _ (v .2)) ∙ ne-eqb _ 0 (c .if2 .left) in
+    let v = c .before .before .loop .inv in
+    let e : c .before .before .before .before .args .count ≡ c .before .before .loop .i = omega arith in
+    let z = ap (λ (n : ℕ). eqb n 0) (depth _ _ _ (v .2)) ∙ ne-eqb _ 0 (c .if2 .left) in
     e ∙ scan-stop _ _ (v .0) (search needs) (rule-end _ _ _ (search needs) ∙ z)
 
 pub first-fault-spec : {M : Type 1} → statement M
 first-fault-spec =
     tie.close (tie.spec
-    Inv-loop μ-loop loop-holds block-ok-requires returns parts-after-requires (λ c. search needs) (λ c. search needs)
-    loop-again (λ c. search needs) returns-2 returns-3)
+    Inv-loop μ-loop loop-holds (λ c. search needs) block-ok-requires returns (λ c. search needs) advance-requires
+    (λ c. search needs) (λ c. search needs) loop-again (λ c. search needs) returns-2 returns-3)

@@ -2,7 +2,6 @@
 use mathlib.Core.Path.{_≡_, refl, sym, ap, _∙_}
 use mathlib.Core.List.{List}
 use Prim.Native.Nat.{ℕ, suc}
-use native.Mathlib.Omega.{arith}
 use Rattle.rules.specs.Limits.{badVariable, badParent, badNode, badRecord, badBlock}
 use Rattle.rules.specs.Bytes.{recordPlace}
 use Rattle.rules.specs.Blocks.{blockRule}
@@ -46,12 +45,11 @@ past6 c = past5 (c .before .before .before) ∙ through badNode _ _ _ (c .before
 
 past7 : (c : tie.Else4) → let a = c .before .before .before .before .before .before .before .before .before .before .before .before .before .args in
     from4 (a .job .now) (a .l) ≡ from8 (a .job .now) (a .l)
-unfolding ruleOf
 past7 c = past6 (c .before .before .before) ∙ through badRecord _ _ _ (c .before .before .first-fault4 .ensures) (c .if4 .left)
 
 first-fault-requires : tie.Need-first-fault-requires
 unfolding countOf
-first-fault-requires c κs = record { inside = c .before .pre; count = refl; parents = λ e. absurd (omega arith) }
+first-fault-requires c κs = record { inside = c .before .pre; count = refl; parents = λ n m. absurd (n refl) }
 
 returns : tie.Need-returns
 unfolding checkRecords ruleOf answer
@@ -59,7 +57,7 @@ returns c = sym (ap (answer _) (stopped badVariable _ _ _ (c .before .before .fi
 
 first-fault-requires-2 : tie.Need-first-fault-requires-2
 unfolding countOf
-first-fault-requires-2 c κs = record { inside = c .before .before .before .before .pre; count = refl; parents = λ e. absurd (omega arith) }
+first-fault-requires-2 c κs = record { inside = c .before .before .before .before .pre; count = refl; parents = λ n m. absurd (m refl) }
 
 returns-2 : tie.Need-returns-2
 unfolding ruleOf answer
@@ -70,20 +68,14 @@ first-fault-requires-3 : tie.Need-first-fault-requires-3
 unfolding countOf ruleOf
 first-fault-requires-3 c κs =
     let p = all-pass _ _ (c .before .before .first-fault2 .ensures) (c .if2 .left) in
-    record { inside = c .before .before .before .before .before .before .before .pre; count = refl; parents = λ e. p }
+    record { inside = c .before .before .before .before .before .before .before .pre; count = refl; parents = λ n m. p }
 
 returns-3 : tie.Need-returns-3
 unfolding ruleOf answer
 returns-3 c = sym (ap (answer _) (past5 (c .before .before .before) ∙ stopped badNode _ _ _ (c .before .before .first-fault3 .ensures) (c .if3 .taken)))
 
-first-fault-requires-4 : tie.Need-first-fault-requires-4
-unfolding countOf
-first-fault-requires-4 c κs =
-    let p = c .before .before .before .before .before .before .before .before .before .before .pre in
-    record { inside = p; count = refl; parents = λ e. absurd (omega arith) }
-
 returns-4 : tie.Need-returns-4
-unfolding ruleOf answer
+unfolding answer
 returns-4 c = sym (ap (answer _) (past6 (c .before .before .before) ∙ stopped badRecord _ _ _ (c .before .before .first-fault4 .ensures) (c .if4 .taken)))
 
 returns-5 : tie.Need-returns-5
@@ -97,5 +89,5 @@ returns-6 c = sym (ap (answer _) (past7 (c .before .before .before) ∙ through 
 pub check-records-spec : {M : Type 1} → statement M
 check-records-spec =
     tie.close (tie.spec
-    first-fault-requires returns first-fault-requires-2 returns-2 first-fault-requires-3 returns-3 first-fault-requires-4
+    first-fault-requires returns first-fault-requires-2 returns-2 first-fault-requires-3 returns-3 (λ c κs. search needs)
     returns-4 (λ c κs. search needs) returns-5 returns-6)

@@ -22,24 +22,10 @@ node-ok-requires : tie.Need-node-ok-requires
 unfolding countOf
 node-ok-requires c κs =
     let a = c .before .before .args in
-    let h : a .i < a .l .nodes = rw (c .match .keys3) at (c .before .before .pre .index) in
-    (omega (arith, c .before .before .pre .inside .nodes), c .before .before .pre .parent (c .match .keys3))
-
--- a record of the script
-among : (c : tie.At-match-rest) → c .before .before .args .i < c .before .before .args .l .records
-unfolding countOf
-among c =
     let r = c .match .rest in
-    rw (ne-eqb _ 4 (r .0 .0 .1), ne-eqb _ 5 (r .0 .1), ne-eqb _ 6 (r .1)) at (c .before .before .pre .index)
-
-mul-record-ok : tie.Need-mul-record-ok
-mul-record-ok c = omega (arith, among c, c .before .before .pre .inside .records)
-
-add-record-ok : tie.Need-add-record-ok
-add-record-ok c = omega (arith, among (c .before), c .before .before .before .pre .inside .records)
-
-record-ok-requires : tie.Need-record-ok-requires
-record-ok-requires c κs = omega (arith, among (c .before), c .before .before .before .pre .inside .records)
+    let q = c .before .before .pre in
+    let h : a .i < a .l .nodes = rw (ne-eqb _ 4 (r .0 .1)) at (q .index) in
+    record { inside = omega (arith, q .inside .nodes); few = omega (arith, q .inside .few); parents = q .parents (r .0 .1) (r .1) }
 
 returns : tie.Need-returns
 unfolding ruleOf
@@ -51,15 +37,7 @@ returns-2 c = rw (c .before .match .keys2) (c .parent-ok .ensures)
 
 returns-3 : tie.Need-returns-3
 unfolding ruleOf
-returns-3 c = rw (c .before .match .keys3) (c .node-ok .ensures)
-
-returns-4 : tie.Need-returns-4
-unfolding ruleOf
-returns-4 c =
-    let r = c .before .before .match .rest in rw (ne-eqb _ 4 (r .0 .0 .1), ne-eqb _ 5 (r .0 .1), ne-eqb _ 6 (r .1)) (c .record-ok .ensures)
+returns-3 c = let r = c .before .match .rest in rw (ne-eqb _ 4 (r .0 .1), ne-eqb _ 5 (r .1)) (c .node-ok .ensures)
 
 pub passes-spec : {M : Type 1} → statement M
-passes-spec =
-    tie.close (tie.spec
-    variable-ok-requires parent-ok-requires node-ok-requires mul-record-ok add-record-ok record-ok-requires returns returns-2
-    returns-3 returns-4)
+passes-spec = tie.close (tie.spec variable-ok-requires parent-ok-requires node-ok-requires returns returns-2 returns-3)

@@ -14,25 +14,25 @@ use Rattle.job.proofs.jumps.fill.Statement.{statement}
 use Rattle.job.proofs.jumps.fill.Tie as tie
 
 abbrev Inv-loop : tie.InvT-loop
-Inv-loop job base count jumps₀ p₀ i₀ jumps p i =
-    (i ≤ count) × (length jumps ≡ length jumps₀) × Spells p (parts (code job base) i) × Known (code job base) count i jumps × Kept count jumps₀ jumps
+Inv-loop job base count jumps₀ begun₀ depth₀ i₀ jumps begun depth i =
+    (i ≤ count) × (length jumps ≡ length jumps₀) × Spells begun depth (parts (code job base) i) × Known (code job base) count i jumps × Kept count jumps₀ jumps
 
 abbrev μ-loop : tie.MeasureT-loop
-μ-loop job base count jumps₀ p₀ i₀ jumps p i = count - i
+μ-loop job base count jumps₀ begun₀ depth₀ i₀ jumps begun depth i = count - i
 
 loop-holds : tie.Need-loop-holds Inv-loop μ-loop
 unfolding stack parts
 loop-holds c = (
   search needs,
   refl,
-  record { deep = search needs; same = refl },
+  record { size = search needs; deep = search needs; same = refl },
   record { long = search needs; right = λ k l. absurd (omega arith) },
   record { spare = λ k l. refl },
 )
 
 -- each record of a right script fits
-fits : (c : tie.In-loop Inv-loop μ-loop) →
-    let a = c .before .before .before .before .args in Fits (a .job .now) (a .base) (c .before .loop .p) (c .before .loop .i)
+fits : (c : tie.In-loop Inv-loop μ-loop) → let a = c .before .before .before .before .args in
+    let l = c .before .loop in Fits (a .job .now) (a .base) (l .begun) (l .depth) (l .i)
 unfolding placedAt
 fits c =
     record {
@@ -42,18 +42,18 @@ fits c =
     }
 
 settle-requires : tie.Need-settle-requires Inv-loop μ-loop
-settle-requires c κs = (fits (c .before), search needs, c .before .before .loop .inv .3)
+settle-requires c κs = (fits (c .before .before), search needs, c .before .before .before .loop .inv .3)
 
-parts-after-requires : tie.Need-parts-after-requires Inv-loop μ-loop
-parts-after-requires c κs = fits (c .before .before .before .before)
+advance-requires : tie.Need-advance-requires Inv-loop μ-loop
+advance-requires c κs = fits (c .before .before .before .before .before .before)
 
 loop-again : tie.Need-loop-again Inv-loop μ-loop
 loop-again c =
-    let v = c .before .before .before .before .before .before .loop .inv in
-    let s = c .before .before .before .settle in (
+    let v = c .before .before .before .before .before .before .before .before .before .loop .inv in
+    let s = c .before .before .before .before .before .settle in (
       search needs,
-      s .kept .1 .1 .1 .1 .1 .0 ∙ v .1,
-      rw add-one (c .parts-after .ensures),
+      s .kept .1 .1 .1 .1 .1 .1 .0 ∙ v .1,
+      rw add-one (c .before .advance .ensures),
       rw add-one (s .ensures .0),
       record { spare = λ k l. s .ensures .1 .spare k l ∙ v .4 .spare k l },
     )
@@ -73,5 +73,5 @@ returns c =
 pub fill-spec : {M : Type 1} → statement M
 fill-spec =
     tie.close (tie.spec
-    Inv-loop μ-loop loop-holds settle-requires parts-after-requires (λ c. search needs) (λ c. search needs) loop-again
-    (λ c. search needs) returns)
+    Inv-loop μ-loop loop-holds (λ c. search needs) settle-requires (λ c. search needs) advance-requires (λ c. search needs)
+    (λ c. search needs) loop-again (λ c. search needs) returns)

@@ -1,20 +1,23 @@
--- `left_ok` meets its contract: what is found below node i is what is found below the node that the search has come to. Assumes nothing.
+-- `left_ok` meets its contract: what is found below node i is what is found below the node that the search has come to, and nothing is found
+-- up to the parent. Assumes nothing.
 use mathlib.Core.Path.{_≡_, refl, sym, ap, _∙_}
 use mathlib.Core.Logic.{⊎-elim}
 use mathlib.Core.Option.{Option, none, some}
-use Prim.Native.Nat.{ℕ, _≤_}
+use Prim.Native.Nat.{ℕ, _≤_, _<_}
 use native.Mathlib.Omega.{arith}
 use Rattle.rules.specs.Check.{nearest, leftRule, parent}
-use Rattle.rules.proofs.Nearest.{near-none, near-found, near-passed, near-below}
+use Rattle.rules.proofs.Nearest.{near-found, near-passed, near-below}
+use Rattle.rules.proofs.Accepted.{parent-before}
 use Rattle.job.specs.declared.nodes.Found.{Found}
 use Rattle.job.specs.declared.nodes.Found.the-variants.{At, Nothing}
 use Rattle.job.specs.Fields.{levelsOf}
+use Rattle.job.proofs.Siblings.{none-before}
 use borrow.Author.Needs.{needs}
 use Rattle.job.proofs.nodes.left_ok.Statement.{statement}
 use Rattle.job.proofs.nodes.left_ok.Tie as tie
 
 abbrev Inv-loop : tie.InvT-loop
-Inv-loop job base i p k₀ k = (k ≤ i) × (nearest job base p i ≡ nearest job base p k)
+Inv-loop job base i p k₀ k = (p < k) × (k ≤ i) × (nearest job base p i ≡ nearest job base p k)
 
 abbrev μ-loop : tie.MeasureT-loop
 μ-loop job base i p k₀ k = k
@@ -29,35 +32,43 @@ sought c = let a = c .before .before .before .before .args in nearest (a .job .n
 -- what the loop is left with is what is sought
 joined : (c : tie.Joined1 Inv-loop μ-loop) → sought c ≡ found (c .if1 .left)
 joined c =
+    let q = c .before .before .before .before .pre .1 in
+    let v = c .before .loop .inv in
     rw (← c .before .before .parent-at .ensures .0)
     (⊎-elim
-    (λ w. c .before .loop .inv .1 ∙ near-none _ _ _ _ (w .0 .taken) ∙ sym (ap found (w .2)))
-    (λ w. c .before .loop .inv .1 ∙ near-found _ _ _ _ (w .0 .left) (sym (w .1 .ensures .0) ∙ w .2 .taken) ∙ sym (ap found (w .4)))
+    (λ w.
+    let e = w .0 .taken in
+    v .2 ∙ none-before _ _ _ (omega (arith, q .few)) _ (omega arith) (λ j l. q .parents j (omega arith)) ∙ sym (ap found (w .1)))
+    (λ w. v .2 ∙ near-found _ _ _ _ (λ z. omega arith) (sym (w .1 .ensures .0) ∙ w .2 .taken) ∙ sym (ap found (w .3)))
     (c .if1 .came))
 
 at : (c : tie.After-left Inv-loop μ-loop) → sought (c .before .before) ≡ some (c .left .given .0 .0)
 at c = joined (c .before .before) ∙ ap found (c .left .given .1)
 
+-- the parent comes before the node
 loop-holds : tie.Need-loop-holds Inv-loop μ-loop
-loop-holds c = (search needs, refl)
+loop-holds c =
+    let q = c .before .before .pre in
+    (rw (c .parent-at .ensures .0) (parent-before _ _ _ (q .0) (q .1 .parents _ (omega arith))), search needs, refl)
 
 loop-again : tie.Need-loop-again Inv-loop μ-loop
-loop-again c = (
-  search needs,
-  c .before .before .before .loop .inv .1
-      ∙ near-passed _ _ _ _ (c .before .before .if1 .left) (λ e. c .if2 .left (c .before .parent-at2 .ensures .0 ∙ e)),
-)
+loop-again c =
+    let v = c .before .before .before .loop .inv in
+    let n = c .before .before .if1 .left in (
+      omega arith,
+      search needs,
+      v .2 ∙ near-passed _ _ _ _ (λ z. omega arith) (λ e. c .if2 .left (c .before .parent-at2 .ensures .0 ∙ e)),
+    )
 
 levels-at-requires : tie.Need-levels-at-requires Inv-loop μ-loop
-levels-at-requires c κs = omega (arith, near-below _ _ _ _ (at (c .before)))
+levels-at-requires c κs = omega (arith, near-below _ _ _ _ (at (c .before)), c .before .before .before .before .before .before .before .pre .1 .inside)
 
 returns : tie.Need-returns Inv-loop μ-loop
 unfolding leftRule levelsOf
 returns c =
-    let d = c .before .before .before .before in
-    let a = d .before .before .before .before .before .before .args in
+    let a = c .before .before .before .before .before .before .before .before .before .before .args in
     rw (c .not-above .ensures, c .before .levels-at2 .ensures, c .before .before .levels-at .ensures)
-    (sym (ap (leftRule (a .job .now) (a .base) (a .i)) (at d)))
+    (sym (ap (leftRule (a .job .now) (a .base) (a .i)) (at (c .before .before .before .before))))
 
 returns-2 : tie.Need-returns-2 Inv-loop μ-loop
 unfolding leftRule
