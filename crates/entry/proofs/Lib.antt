@@ -4,5 +4,4 @@ mod Runs
 mod Own
 mod Numbers
 mod Slots
-mod Locals
 mod Big

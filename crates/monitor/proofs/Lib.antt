@@ -17,3 +17,5 @@ pub mod Secret
 pub mod Walk
 pub mod While
 pub mod Relend
+pub mod Locals
+pub mod Passed

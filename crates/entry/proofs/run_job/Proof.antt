@@ -31,7 +31,7 @@ use Rattle.monitor.proofs.entry.Outcome.Laws as O′
 use Rattle.monitor.specs.Promises as Words
 use Rattle.monitor.specs.Promises.{lent, Promises}
 use Rattle.entry.specs.Promises.{Tree, keptOf}
-use Rattle.entry.proofs.Locals.{sized, var, sets, result}
+use Rattle.monitor.proofs.Locals.{sized, var, sets, result}
 use Rattle.entry.proofs.Slots.{spread, gather, lends-row, row-back}
 use Rattle.entry.proofs.Big.{big}
 use Rattle.entry.proofs.Runs.{store-asks, promised}

@@ -38,7 +38,7 @@ use Rattle.monitor.specs.Promises.{lent, Promises}
 use Rattle.monitor.proofs.entry.Outcome as O
 use Rattle.monitor.proofs.entry.Outcome.Laws as O′
 use Rattle.entry.specs.Promises.{Tree, ownPlaces, Owned}
-use Rattle.entry.proofs.Locals.{sized, var, sets, result}
+use Rattle.monitor.proofs.Locals.{sized, var, sets, result}
 use Rattle.entry.proofs.Slots.{spread, gather, lends-row, row-back, apart, together}
 use Rattle.entry.proofs.Numbers.{span}
 use Rattle.entry.proofs.Own.{two-parts, lent-fits, all-length, owned}

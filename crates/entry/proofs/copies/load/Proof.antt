@@ -19,7 +19,7 @@ use denote.Struct.Laws as LL
 use Rattle.table.specs.declared.lent.Node.{Node}
 use Rattle.table.specs.Lent.{blank, putNode, loaded}
 use Rattle.monitor.proofs.While.{Upto, Nearer, nearer-wf, tests, whiles}
-use Rattle.entry.proofs.Locals.{sized, var, sets, result}
+use Rattle.monitor.proofs.Locals.{sized, var, sets, result}
 use Rattle.entry.proofs.Slots.{lends-row, row-back}
 use Rattle.table.proofs.Copies.{length-loaded}
 use Rattle.entry.proofs.Numbers.{start-fits, next-fits, fits-below, nearer, cell-in, one-more}

@@ -20,7 +20,7 @@ use Rattle.table.specs.Cells.{cells}
 use Rattle.table.specs.Lent.{blank, nodeOf, stored}
 use Rattle.monitor.proofs.While.{Upto, Nearer, nearer-wf, tests, whiles}
 use Rattle.table.proofs.Copies.{length-stored}
-use Rattle.entry.proofs.Locals.{sized, var, sets, result}
+use Rattle.monitor.proofs.Locals.{sized, var, sets, result}
 use Rattle.entry.proofs.Numbers.{start-fits, next-fits, fits-below, nearer, within, cell-in, one-more}
 use Rattle.table.proofs.lent.Node as T
 use Rattle.table.proofs.lent.Node.Laws as T′

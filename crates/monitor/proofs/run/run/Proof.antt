@@ -2,20 +2,32 @@
 -- to `step` for lifetimes of the call, and come back at what `step` says; the invariant is how far the run has come (`Way`). Assumes nothing.
 use lib.WfN.{Nat·lt-wfRel}
 use mathlib.Core.WellFounded.{WellFounded, InvImage·wf}
-use lib.Dec.{T as Holds, eqb, eqb→eq}
 use mathlib.Core.Bool.{not}
-use Rattle.monitor.proofs.Walk.{_≡_, refl, sym, ap, subst, ℕ, _<_, _^_, [], _∷_, List, length, URA, fullShare, named, erased, mut, w8, w16, w32, w64, imm, tyInt, tyBool, tyRef, lit<, Ty, Val, vint, vptr, SProp, ent, sep, id⊢, Lft, Share, GName, ftrue, fat, froom, fdies, flft, Memory, Routine, Heap, WpFn, Tables, Atoms, sem, Fun, Fml, fact, givenOf, tables, tablesOf, Given, Item, ‵, raw, _⊛_, some, later, ⋆, _$_, _∵_, !, qed, by, move, keep, drop, use1, use2, use3, split, join, pick, rewrite, fsplit, fjoin, feqL, suffices, frame, await, done, look, init, store, forget, stop, hop, fld, from, load, lit, of-opd, bin, addr, agg, and-then, no-more, assigns, returns, enter, alloc1, alloc0, params1, pass1, pass0, free1, free0, again, lft-new, lft-end, whole, sub, look-in, fmOf, WpFn-mono, owns, Is, shows, pointee, uint-makes, uint-vals, uint-tells, uint-lawful, u8, u16, u32, i32, RefT, RattleType, MutRef, ptr-vals, mut-tells, plain, shrSliceOf, sliceTy, sliceVal, MutSlice, ShrSlice, shr-slice-copy, Room, finally, slice-vals, mut-slice-tells, shr-slice-tells, only, owned, peeks, heard, nothing, Contract, Triple, calls-at-last, land-last, LentAgain, lends-again, comes-back, onEntry, Meets, tripleOf, entered, cited, says, needs, Stays, stay-dropped, stay-ref, stay-slice, walkOf, goes-dropped, goes-ref, goes-slice, Walks, ends-at, walked, walk-meets, ensured, lasts, yes, ℤ}
+use lib.Dec.{T as Holds, eqb, eqb→eq}
+use Rattle.monitor.proofs.Walk.{_<_, ℕ, Fml, GName, Lft, Share, fat, fdies, flft, froom, SProp, ent, id⊢, sep, Fun, fact, givenOf, tables}
+use Rattle.monitor.proofs.Walk.{tablesOf, i32, u16, u32, u8, yes, Is, shows, LentAgain, comes-back, lends-again, mem, pointee, uint-lawful}
+use Rattle.monitor.proofs.Walk.{uint-makes, uint-tells, uint-vals, owns, MutRef, RefT, mut-tells, ptr-vals, plain, shrSliceOf, MutSlice, Room}
+use Rattle.monitor.proofs.Walk.{ShrSlice, mut-slice-tells, shr-slice-copy, shr-slice-tells, slice-vals, sliceTy, sliceVal, heard, nothing, only}
+use Rattle.monitor.proofs.Walk.{owned, peeks, calls-at-last, ensured, lasts, onEntry, Meets, tripleOf, Contract, Triple, cited, entered, Stays}
+use Rattle.monitor.proofs.Walk.{Walks, ends-at, goes-dropped, goes-ref, goes-slice, needs, says, stay-dropped, stay-ref, stay-slice, walk-meets}
+use Rattle.monitor.proofs.Walk.{walkOf, walked, Atoms, sem, fullShare, URA, lit<, ℤ, List, [], _∷_, _≡_, ap, refl, subst, sym, Ty, erased, imm}
+use Rattle.monitor.proofs.Walk.{mut, named, tyBool, tyInt, tyRef, w16, w32, w8, Val, vint, vptr, Memory, Routine, Heap, Tables, WpFn, WpFn-mono}
+use Rattle.monitor.proofs.Walk.{fmOf, !, Given, Item, _$_, _∵_, _⊛_, await, by, done, drop, feqL, fjoin, frame, fsplit, join, keep, later, move}
+use Rattle.monitor.proofs.Walk.{pick, qed, raw, rewrite, some, split, suffices, use1, use2, use3, ‵, ⋆, agg, look-in, sub, whole, addr, again}
+use Rattle.monitor.proofs.Walk.{alloc0, alloc1, and-then, bin, enter, fld, forget, free0, free1, from, hop, init, land-last, lit, load, look}
+use Rattle.monitor.proofs.Walk.{no-more, of-opd, params1, pass0, pass1, returns, stop, store, lft-end, lft-new}
 use denote.Struct.Laws as LL
 use Rattle.monitor.specs.declared.control.Running.{Running}
-use Rattle.monitor.specs.declared.step.Frame.{Frame}
 use Rattle.monitor.specs.Shows.{Slices, slices}
-use Rattle.monitor.specs.Stands.{held, Held, Startable, Turns, Runs, stepped}
-use Rattle.monitor.proofs.While.{tests, whiles}
-use Rattle.monitor.proofs.Relend as on
-use Rattle.monitor.proofs.Looped.{Way, slicesAt, outset, startable, stride, rest, falls}
+use Rattle.monitor.specs.Stands.{Held, Startable, Turns, stepped}
+use Rattle.monitor.proofs.Locals.{sized, var, sets}
+use Rattle.monitor.proofs.Passed.{Passed, Args, passed, frameVal, sliceOf, renamed, lftsOf, sharesOf, argsOf, Rest, valsOf, listed, Tokens, Sized, heldOf, slicesOf, Before}
 use Rattle.monitor.proofs.control.Running as R
 use Rattle.monitor.proofs.step.Frame as F
 use Rattle.monitor.proofs.step.Frame.Laws as F′
+use Rattle.monitor.proofs.While.{tests, whiles}
+use Rattle.monitor.proofs.Relend as on
+use Rattle.monitor.proofs.Looped.{Way, slicesAt, outset, startable, stride, rest, falls}
 use Rattle.monitor.proofs.run.step as st
 use Rattle.monitor.proofs.run.step.Symbol as st-def
 use Rattle.monitor.proofs.run.step.Symbol.{name as #step}
@@ -47,9 +59,6 @@ stayed = (
   ),
 )
 
-abbrev frameVal : Frame → Val
-frameVal f = only (LL.vals F.the-type F′.the-laws f)
-
 abbrev Step : {M : Type 1} (𝓤 : URA M) (H : Heap 𝓤) (A : Atoms 𝓤) (at-mem : Memory → SProp 𝓤) (run : Routine → Fun 𝓤) → Contract 𝓤
 Step 𝓤 H A at-mem run = tripleOf 𝓤 H A st.signature (st.spec 𝓤 H A at-mem run)
 
@@ -73,107 +82,116 @@ lent-ref τ = tyRef erased mut τ
 abbrev lent-ty : Ty → Ty
 lent-ty τ = sliceTy (lent-ref τ)
 
--- r is behind (b, o) under γ, with h; the slices are job, jumps, levels, words, values and lines
-module _ {M : Type 1} (𝓤 : URA M) (H : Heap 𝓤) (A : Atoms 𝓤) (W : Given 𝓤 H A) (at-mem : Memory → SProp 𝓤) (run : Routine → Fun 𝓤)
-    (κ κ₁ κ₂ κ₃ κ₄ κ₅ κ₆ : Lft) (q q₁ q₂ q₃ q₄ q₅ q₆ : Share) (b o : ℕ) (γ : GName) (h : Running)
-    (job jumps levels : RefT (List ℕ)) (f : Frame) (limit : ℕ) (words : RefT (List ℕ)) (values : RefT (List ℤ)) (lines : RefT (List ℕ)) where
+-- r is behind (b, o) under γ, with h
+module _ {M : Type 1} (𝓤 : URA M) (H : Heap 𝓤) (A : Atoms 𝓤) (W : Given 𝓤 H A) (at-mem : Memory → SProp 𝓤) (run : Routine → Fun 𝓤) (κ : Lft) (q : Share) (b o : ℕ) (γ : GName) (h : Running) (s : Passed) where
   abbrev x : GName → Running → RefT Running
   x δ r = record { ptr = (b, o); name = δ; now = r }
 
-  abbrev ref : {X : Type 0} → RefT (List X) → GName → List X → RefT (List X)
-  ref s δ l = record { ptr = s .ptr; name = δ; now = l }
-
-  abbrev a : RefT Running × (RefT (List ℕ) × (RefT (List ℕ) × (RefT (List ℕ) × (Frame × (ℕ × (RefT (List ℕ) × (RefT (List ℤ) × (RefT (List ℕ) × Unit {0}))))))))
-  a = (x γ h, (job, (jumps, (levels, (f, (limit, (words, (values, (lines, tt)))))))))
-
-  abbrev sj : Val
-  sj = sliceVal (job .ptr) (length (job .now))
-
-  abbrev sp : Val
-  sp = sliceVal (jumps .ptr) (length (jumps .now))
-
-  abbrev sl : Val
-  sl = sliceVal (levels .ptr) (length (levels .now))
-
-  abbrev sw : Val
-  sw = sliceVal (words .ptr) (length (words .now))
-
-  abbrev sv : Val
-  sv = sliceVal (values .ptr) (length (values .now))
-
-  abbrev sb : Val
-  sb = sliceVal (lines .ptr) (length (lines .now))
-
-  abbrev vals : List Val × (List Val × (List Val × (List Val × (List Val × (List Val × (List Val × (List Val × (List Val × Unit {0}))))))))
-  vals = (vptr b o ∷ [], (sj ∷ [], (sp ∷ [], (sl ∷ [], (frameVal f ∷ [], (vint w32 limit ∷ [], (sw ∷ [], (sv ∷ [], (sb ∷ [], tt)))))))))
+  abbrev a : RefT Running × Args
+  a = (x γ h, argsOf s)
 
   abbrev bound : walkOf 𝓤 H A run′.ended stayed (run′.clauses 𝓤 H A at-mem run) .Ghost
-  bound = (((κ, (κ₁, (κ₂, (κ₃, (κ₄, (κ₅, (κ₆, tt))))))), (q, (q₁, (q₂, (q₃, (q₄, (q₅, (q₆, tt))))))), tt, a, vals), tt)
+  bound = (((κ, lftsOf s), (q, sharesOf s), tt, a, (vptr b o ∷ [], valsOf s)), tt)
 
   abbrev Post : Val → SProp 𝓤
   Post = walkOf 𝓤 H A run′.ended stayed (run′.clauses 𝓤 H A at-mem run) .post bound
 
-  abbrev hd : Held
-  hd = held (job .now) (jumps .now) f
-
-  abbrev Before : Type 0
-  Before = Startable hd (slices (words .now) (levels .now) (values .now) (lines .now)) h limit
-
   abbrev On : Type 0
-  On = Way hd (slices (words .now) (levels .now) (values .now) (lines .now)) h limit
+  On = Way (heldOf s) (slicesOf s) h (s .limit)
 
   -- what is owned of r and of the slices
   abbrev Rn : Lft → GName → Running → Fml
   Rn κ′ δ r = MutRef (named 0) κ′ R.the-row .own (x δ r) (vptr b o ∷ [])
 
   abbrev Wo : Lft → GName → List ℕ → Fml
-  Wo κ′ δ l = MutSlice (named 4) κ′ u32 .own (ref words δ l) (sw ∷ [])
+  Wo κ′ δ l = MutSlice (named 4) κ′ u32 .own (renamed (s .words) δ l) (sliceOf (s .words) ∷ [])
 
   abbrev Va : Lft → GName → List ℤ → Fml
-  Va κ′ δ l = MutSlice (named 5) κ′ i32 .own (ref values δ l) (sv ∷ [])
+  Va κ′ δ l = MutSlice (named 5) κ′ i32 .own (renamed (s .values) δ l) (sliceOf (s .values) ∷ [])
 
   abbrev Li : Lft → GName → List ℕ → Fml
-  Li κ′ δ l = MutSlice (named 6) κ′ u8 .own (ref lines δ l) (sb ∷ [])
+  Li κ′ δ l = MutSlice (named 6) κ′ u8 .own (renamed (s .lines) δ l) (sliceOf (s .lines) ∷ [])
 
   abbrev Jo : Fml
-  Jo = ShrSlice (named 1) κ₁ u8 .own job (sj ∷ [])
+  Jo = ShrSlice (named 1) (s .κ₁) u8 .own (s .job) (sliceOf (s .job) ∷ [])
 
   abbrev Ju : Fml
-  Ju = ShrSlice (named 2) κ₂ u16 .own jumps (sp ∷ [])
+  Ju = ShrSlice (named 2) (s .κ₂) u16 .own (s .jumps) (sliceOf (s .jumps) ∷ [])
 
   abbrev Le : Fml
-  Le = ShrSlice (named 3) κ₃ u8 .own levels (sl ∷ [])
+  Le = ShrSlice (named 3) (s .κ₃) u8 .own (s .levels) (sliceOf (s .levels) ∷ [])
 
-  -- the call of `step` from a way w, with r and the slices lent on
+  -- what waits while they are lent on
+  abbrev WaitsR : ℕ → GName → Running → Fml
+  WaitsR ν δ r = LentAgain R.the-row κ (ν ∷ []) q γ b o δ r
+
+  abbrev WaitsW : ℕ → GName → List ℕ → Fml
+  WaitsW ν δ l = on.Waits u32 (s .κ₄) (ν ∷ []) (s .q₄) (s .words .name) (s .words .ptr .0) (s .words .ptr .1) δ l
+
+  abbrev WaitsV : ℕ → GName → List ℤ → Fml
+  WaitsV ν δ l = on.Waits i32 (s .κ₅) (ν ∷ []) (s .q₅) (s .values .name) (s .values .ptr .0) (s .values .ptr .1) δ l
+
+  abbrev WaitsL : ℕ → GName → List ℕ → Fml
+  WaitsL ν δ l = on.Waits u8 (s .κ₆) (ν ∷ []) (s .q₆) (s .lines .name) (s .lines .ptr .0) (s .lines .ptr .1) δ l
+
+  -- what `step` is passed from a way w: the three slices that change are lent on
   module _ (w : On) (ν ν₄ ν₅ ν₆ : ℕ) (δ δ₄ δ₅ δ₆ : GName) where
-    abbrev args : RefT Running × (RefT (List ℕ) × (RefT (List ℕ) × (RefT (List ℕ) × (Frame × (ℕ × (RefT (List ℕ) × (RefT (List ℤ) × (RefT (List ℕ) × Unit {0}))))))))
-    args = (x δ (w .running), (job, (jumps, (levels, (f, (limit, (ref words δ₄ (w .words), (ref values δ₅ (w .values), (ref lines δ₆ (w .board), tt)))))))))
+    abbrev on-step : Passed
+    on-step = record {
+      κ₁ = s .κ₁;
+      κ₂ = s .κ₂;
+      κ₃ = s .κ₃;
+      κ₄ = ν₄ ∷ [];
+      κ₅ = ν₅ ∷ [];
+      κ₆ = ν₆ ∷ [];
+      q₁ = s .q₁;
+      q₂ = s .q₂;
+      q₃ = s .q₃;
+      q₄ = fullShare;
+      q₅ = fullShare;
+      q₆ = fullShare;
+      job = s .job;
+      jumps = s .jumps;
+      levels = s .levels;
+      f = s .f;
+      limit = s .limit;
+      words = renamed (s .words) δ₄ (w .words);
+      values = renamed (s .values) δ₅ (w .values);
+      lines = renamed (s .lines) δ₆ (w .board);
+    }
+
+    abbrev args : RefT Running × Args
+    args = (x δ (w .running), argsOf on-step)
 
     abbrev to-step : Step 𝓤 H A at-mem run .Ghost
-    to-step = (((ν ∷ [], (κ₁, (κ₂, (κ₃, (ν₄ ∷ [], (ν₅ ∷ [], (ν₆ ∷ [], tt))))))), (fullShare, (q₁, (q₂, (q₃, (fullShare, (fullShare, (fullShare, tt))))))), tt, args, vals), tt)
+    to-step = (((ν ∷ [], lftsOf on-step), (fullShare, sharesOf on-step), tt, args, (vptr b o ∷ [], valsOf s)), tt)
 
-    abbrev Tokens : Item 𝓤
-    Tokens = ‵ (flft (ν ∷ []) fullShare) ⊛ ‵ (flft κ₁ q₁) ⊛ ‵ (flft κ₂ q₂) ⊛ ‵ (flft κ₃ q₃) ⊛ ‵ (flft (ν₄ ∷ []) fullShare) ⊛ ‵ (flft (ν₅ ∷ []) fullShare) ⊛ ‵ (flft (ν₆ ∷ []) fullShare) ⊛ ‵ ftrue
+    abbrev Toks : Item 𝓤
+    Toks = ‵ (flft (ν ∷ []) fullShare) ⊛ Tokens on-step 𝓤
 
     abbrev Owned : Fml
-    Owned = owns (MutRef (named 0) (ν ∷ []) R.the-row ∷ ShrSlice (named 1) κ₁ u8 ∷ ShrSlice (named 2) κ₂ u16 ∷ ShrSlice (named 3) κ₃ u8 ∷ F.the-row ∷ u32 ∷ MutSlice (named 4) (ν₄ ∷ []) u32
-        ∷ MutSlice (named 5) (ν₅ ∷ []) i32 ∷ MutSlice (named 6) (ν₆ ∷ []) u8 ∷ []) args vals
+    Owned = owns (MutRef (named 0) (ν ∷ []) R.the-row ∷ Rest on-step) args (vptr b o ∷ [], valsOf s)
 
-    goes-step : Startable hd (slicesAt hd _ h limit w) (w .running) limit → ent 𝓤 (sep 𝓤 (⋆ 𝓤 H A (Tokens ∷ [])) (sem 𝓤 H A Owned)) (Step 𝓤 H A at-mem run .pre to-step)
-    goes-step pre = qed W (Tokens ∷ ‵ Owned ∷ []) ∵ says ! pre $ done !
+    goes-step : Startable (heldOf s) (slicesAt (heldOf s) (slicesOf s) h (s .limit) w) (w .running) (s .limit)
+        → ent 𝓤 (sep 𝓤 (⋆ 𝓤 H A (Toks ∷ [])) (sem 𝓤 H A Owned)) (Step 𝓤 H A at-mem run .pre to-step)
+    goes-step pre = qed W (Toks ∷ ‵ Owned ∷ []) ∵ says ! pre $ done !
 
     abbrev After : Running → List ℕ → List ℤ → List ℕ → ℕ → Type 0
-    After r ws vs ls c = Turns hd (slicesAt hd _ h limit w) (slices ws (levels .now) vs ls) (w .running) limit (stepped c r)
+    After r ws vs ls c =
+        Turns (heldOf s) (slicesAt (heldOf s) (slicesOf s) h (s .limit) w) (slices ws (s .levels .now) vs ls) (w .running) (s .limit) (stepped c r)
 
-  abbrev Left : Running → List ℕ → List ℤ → List ℕ → List (Item 𝓤)
-  Left r ws vs ls =
-      ‵ (Rn κ γ r) ∷ ‵ (Wo κ₄ (words .name) ws) ∷ ‵ (Va κ₅ (values .name) vs) ∷ ‵ (Li κ₆ (lines .name) ls)
-      ∷ ‵ (flft κ q) ∷ ‵ (flft κ₁ q₁) ∷ ‵ (flft κ₂ q₂) ∷ ‵ (flft κ₃ q₃) ∷ ‵ (flft κ₄ q₄) ∷ ‵ (flft κ₅ q₅) ∷ ‵ (flft κ₆ q₆) ∷ []
+  abbrev Left : On → List (Item 𝓤)
+  Left w =
+      ‵ (Rn κ γ (w .running)) ∷ ‵ (Wo (s .κ₄) (s .words .name) (w .words)) ∷ ‵ (Va (s .κ₅) (s .values .name) (w .values))
+      ∷ ‵ (Li (s .κ₆) (s .lines .name) (w .board)) ∷ ‵ (flft κ q) ∷ ‵ (flft (s .κ₁) (s .q₁)) ∷ ‵ (flft (s .κ₂) (s .q₂)) ∷ ‵ (flft (s .κ₃) (s .q₃))
+      ∷ ‵ (flft (s .κ₄) (s .q₄)) ∷ ‵ (flft (s .κ₅) (s .q₅)) ∷ ‵ (flft (s .κ₆) (s .q₆)) ∷ []
 
-  exits : (w : On) → (w .ending ≡ 0 → ⊥) → ent 𝓤 (⋆ 𝓤 H A (Left (w .running) (w .words) (w .values) (w .board))) (Post (vint w8 (w .ending)))
+  exits : (w : On) → (w .ending ≡ 0 → ⊥) → ent 𝓤 (⋆ 𝓤 H A (Left w)) (Post (vint w8 (w .ending)))
   exits w n =
-      qed W (Left (w .running) (w .words) (w .values) (w .board)) ∵
-      suffices ! _ (ends-at 𝓤 H A run′.ended stayed (run′.clauses 𝓤 H A at-mem run) W bound (vint w8 (w .ending)) (w .ending) (w .running, (tt, (tt, (tt, (tt, (tt, (w .words, (w .values, (w .board, tt))))))))) (tt, (tt, (tt, (tt, (tt, (tt, (w .long-words, (w .long-values, (w .long-board, tt)))))))))) $ says ! (w .over n) $
+      qed W (Left w) ∵
+      suffices ! _ (ends-at 𝓤 H A run′.ended stayed (run′.clauses 𝓤 H A at-mem run) W bound (vint w8 (w .ending)) (w .ending)
+      (w .running, (tt, (tt, (tt, (tt, (tt, (w .words, (w .values, (w .board, tt)))))))))
+      (tt, (tt, (tt, (tt, (tt, (tt, (w .long-words, (w .long-values, (w .long-board, tt)))))))))) $ says ! (w .over n) $
       nothing ! $
       move ! (11 ∷ 0 ∷ []) $
       join ! $
@@ -216,8 +234,9 @@ module _ {M : Type 1} (𝓤 : URA M) (H : Heap 𝓤) (A : Atoms 𝓤) (W : Given
     -- the loop's invariant
     abbrev At : (l₀ l₁ l₂ l₃ l₄ l₅ l₆ l₇ l₈ l₉ l₁₀ l₁₁ l₁₂ l₁₃ l₁₄ l₁₅ l₁₆ l₁₇ l₁₈ : ℕ) → On → List (Item 𝓤)
     At l₀ l₁ l₂ l₃ l₄ l₅ l₆ l₇ l₈ l₉ l₁₀ l₁₁ l₁₂ l₁₃ l₁₄ l₁₅ l₁₆ l₁₇ l₁₈ w =
-        ‵ (Rn κ γ (w .running)) ∷ ‵ (Wo κ₄ (words .name) (w .words)) ∷ ‵ (Va κ₅ (values .name) (w .values)) ∷ ‵ (Li κ₆ (lines .name) (w .board)) ∷ ‵ Jo ∷ ‵ Ju ∷ ‵ Le
-        ∷ ‵ (flft κ q) ∷ ‵ (flft κ₁ q₁) ∷ ‵ (flft κ₂ q₂) ∷ ‵ (flft κ₃ q₃) ∷ ‵ (flft κ₄ q₄) ∷ ‵ (flft κ₅ q₅) ∷ ‵ (flft κ₆ q₆)
+        ‵ (Rn κ γ (w .running)) ∷ ‵ (Wo (s .κ₄) (s .words .name) (w .words)) ∷ ‵ (Va (s .κ₅) (s .values .name) (w .values))
+        ∷ ‵ (Li (s .κ₆) (s .lines .name) (w .board)) ∷ ‵ Jo ∷ ‵ Ju ∷ ‵ Le ∷ ‵ (flft κ q) ∷ ‵ (flft (s .κ₁) (s .q₁)) ∷ ‵ (flft (s .κ₂) (s .q₂))
+        ∷ ‵ (flft (s .κ₃) (s .q₃)) ∷ ‵ (flft (s .κ₄) (s .q₄)) ∷ ‵ (flft (s .κ₅) (s .q₅)) ∷ ‵ (flft (s .κ₆) (s .q₆))
         ∷ ‵ (froom (lent-ty (tyInt w8)) l₁₈ 0) ∷ ‵ (fdies (lent-ty (tyInt w8)) l₁₈)
         ∷ ‵ (froom (lent-ref (tyInt w8)) l₁₇ 0) ∷ ‵ (fdies (lent-ref (tyInt w8)) l₁₇)
         ∷ ‵ (froom (lent-ty (tyInt w32)) l₁₆ 0) ∷ ‵ (fdies (lent-ty (tyInt w32)) l₁₆)
@@ -227,24 +246,21 @@ module _ {M : Type 1} (𝓤 : URA M) (H : Heap 𝓤) (A : Atoms 𝓤) (W : Given
         ∷ ‵ (froom (tyRef erased mut (pointee (R.the-row .written))) l₁₂ 0) ∷ ‵ (fdies (tyRef erased mut (pointee (R.the-row .written))) l₁₂)
         ∷ ‵ (froom tyBool l₁₁ 0) ∷ ‵ (fdies tyBool l₁₁)
         ∷ ‵ (fat fullShare (tyInt w8) l₁₀ 0 (vint w8 (w .ending))) ∷ ‵ (fdies (tyInt w8) l₁₀)
-        ∷ ‵ (fat fullShare (sliceTy (tyRef (named 6) mut (tyInt w8))) l₉ 0 sb) ∷ ‵ (fdies (sliceTy (tyRef (named 6) mut (tyInt w8))) l₉)
-        ∷ ‵ (fat fullShare (sliceTy (tyRef (named 5) mut (tyInt w32))) l₈ 0 sv) ∷ ‵ (fdies (sliceTy (tyRef (named 5) mut (tyInt w32))) l₈)
-        ∷ ‵ (fat fullShare (sliceTy (tyRef (named 4) mut (tyInt w32))) l₇ 0 sw) ∷ ‵ (fdies (sliceTy (tyRef (named 4) mut (tyInt w32))) l₇)
-        ∷ ‵ (fat fullShare (tyInt w32) l₆ 0 (vint w32 limit)) ∷ ‵ (fdies (tyInt w32) l₆)
-        ∷ ‵ (fat fullShare F′.mir l₅ 0 (frameVal f)) ∷ ‵ (fdies F′.mir l₅)
-        ∷ ‵ (fat fullShare (sliceTy (tyRef (named 3) imm (tyInt w8))) l₄ 0 sl) ∷ ‵ (fdies (sliceTy (tyRef (named 3) imm (tyInt w8))) l₄)
-        ∷ ‵ (fat fullShare (sliceTy (tyRef (named 2) imm (tyInt w16))) l₃ 0 sp) ∷ ‵ (fdies (sliceTy (tyRef (named 2) imm (tyInt w16))) l₃)
-        ∷ ‵ (fat fullShare (sliceTy (tyRef (named 1) imm (tyInt w8))) l₂ 0 sj) ∷ ‵ (fdies (sliceTy (tyRef (named 1) imm (tyInt w8))) l₂)
+        ∷ ‵ (fat fullShare (sliceTy (tyRef (named 6) mut (tyInt w8))) l₉ 0 (sliceOf (s .lines))) ∷ ‵ (fdies (sliceTy (tyRef (named 6) mut (tyInt w8))) l₉)
+        ∷ ‵ (fat fullShare (sliceTy (tyRef (named 5) mut (tyInt w32))) l₈ 0 (sliceOf (s .values))) ∷ ‵ (fdies (sliceTy (tyRef (named 5) mut (tyInt w32))) l₈)
+        ∷ ‵ (fat fullShare (sliceTy (tyRef (named 4) mut (tyInt w32))) l₇ 0 (sliceOf (s .words))) ∷ ‵ (fdies (sliceTy (tyRef (named 4) mut (tyInt w32))) l₇)
+        ∷ ‵ (fat fullShare (tyInt w32) l₆ 0 (vint w32 (s .limit))) ∷ ‵ (fdies (tyInt w32) l₆)
+        ∷ ‵ (fat fullShare F′.mir l₅ 0 (frameVal (s .f))) ∷ ‵ (fdies F′.mir l₅)
+        ∷ ‵ (fat fullShare (sliceTy (tyRef (named 3) imm (tyInt w8))) l₄ 0 (sliceOf (s .levels))) ∷ ‵ (fdies (sliceTy (tyRef (named 3) imm (tyInt w8))) l₄)
+        ∷ ‵ (fat fullShare (sliceTy (tyRef (named 2) imm (tyInt w16))) l₃ 0 (sliceOf (s .jumps))) ∷ ‵ (fdies (sliceTy (tyRef (named 2) imm (tyInt w16))) l₃)
+        ∷ ‵ (fat fullShare (sliceTy (tyRef (named 1) imm (tyInt w8))) l₂ 0 (sliceOf (s .job))) ∷ ‵ (fdies (sliceTy (tyRef (named 1) imm (tyInt w8))) l₂)
         ∷ ‵ (fat fullShare (tyRef (named 0) mut (pointee (R.the-row .written))) l₁ 0 (vptr b o)) ∷ ‵ (fdies (tyRef (named 0) mut (pointee (R.the-row .written))) l₁)
         ∷ ‵ (froom (tyInt w8) l₀ 0) ∷ ‵ (fdies (tyInt w8) l₀) ∷ []
 
-    walk : Room u8 (length (job .now)) → Room u16 (length (jumps .now)) → Room u8 (length (levels .now)) → Is F.the-row f (frameVal f ∷ []) → limit < 2 ^ 32 → Room u32 (length (words .now)) → Room i32 (length (values .now))
-        → Room u8 (length (lines .now)) → Before
-        → ent 𝓤 (onEntry 𝓤 H A run′.signature (κ, (κ₁, (κ₂, (κ₃, (κ₄, (κ₅, (κ₆, tt))))))) (q, (q₁, (q₂, (q₃, (q₄, (q₅, (q₆, tt))))))) a vals)
-        (WpFn 𝓤 H (𝓣 .C) (𝓣 .Λ) code.function (vptr b o ∷ sj ∷ sp ∷ sl ∷ frameVal f ∷ vint w32 limit ∷ sw ∷ sv ∷ sb ∷ []) Post)
-    walk rj rp rl isf limit-fits rw rv rb pre =
-        qed W ((‵ (flft κ q) ⊛ ‵ (flft κ₁ q₁) ⊛ ‵ (flft κ₂ q₂) ⊛ ‵ (flft κ₃ q₃) ⊛ ‵ (flft κ₄ q₄) ⊛ ‵ (flft κ₅ q₅) ⊛ ‵ (flft κ₆ q₆) ⊛ ‵ ftrue) ∷ ‵ (owns (MutRef (named 0) κ R.the-row
-        ∷ ShrSlice (named 1) κ₁ u8 ∷ ShrSlice (named 2) κ₂ u16 ∷ ShrSlice (named 3) κ₃ u8 ∷ F.the-row ∷ u32 ∷ MutSlice (named 4) κ₄ u32 ∷ MutSlice (named 5) κ₅ i32 ∷ MutSlice (named 6) κ₆ u8 ∷ []) a vals) ∷ []) ∵
+    walk : Sized s → Before s h → ent 𝓤 (onEntry 𝓤 H A run′.signature (κ, lftsOf s) (q, sharesOf s) a (vptr b o ∷ [], valsOf s))
+        (WpFn 𝓤 H (𝓣 .C) (𝓣 .Λ) code.function (vptr b o ∷ listed s) Post)
+    walk z pre =
+        qed W ((‵ (flft κ q) ⊛ Tokens s 𝓤) ∷ ‵ (owns (MutRef (named 0) κ R.the-row ∷ Rest s) a (vptr b o ∷ [], valsOf s)) ∷ []) ∵
         split ! $
         move ! (1 ∷ []) $
         split ! $
@@ -284,53 +300,57 @@ module _ {M : Type 1} (𝓤 : URA M) (H : Heap 𝓤) (A : Atoms 𝓤) (W : Given
         enter ! (𝓣 .C) (𝓣 .Λ) code.function _ _ $
         alloc1 ! (λ l₀. alloc1 ! (λ l₁. alloc1 ! (λ l₂. alloc1 ! (λ l₃. alloc1 ! (λ l₄. alloc1 ! (λ l₅. alloc1 ! (λ l₆. alloc1 ! (λ l₇. alloc1 ! (λ l₈. alloc1 ! (λ l₉. alloc1 ! (λ l₁₀. alloc1 ! (λ l₁₁. alloc1 ! (λ l₁₂. alloc1 ! (λ l₁₃. alloc1 ! (λ l₁₄. alloc1 ! (λ l₁₅. alloc1 ! (λ l₁₆. alloc1 ! (λ l₁₇. alloc1 ! (λ l₁₈. alloc0 ! $ params1 ! $
         pass1 ! (init ! 34 refl (tt, tt)) $
-        pass1 ! (init ! 32 refl (tt, (tt, (record { fits = rj .0 }, tt)))) $
-        pass1 ! (init ! 30 refl (tt, (tt, (record { fits = rp .0 }, tt)))) $
-        pass1 ! (init ! 28 refl (tt, (tt, (record { fits = rl .0 }, tt)))) $
-        pass1 ! (init ! 26 refl (LL.lawful F.the-type F′.the-laws 𝓤 H A W .typed f _ isf .0)) $
-        pass1 ! (init ! 24 refl (tt, record { fits = limit-fits })) $
-        pass1 ! (init ! 22 refl (tt, (tt, (record { fits = rw .0 }, tt)))) $
-        pass1 ! (init ! 20 refl (tt, (tt, (record { fits = rv .0 }, tt)))) $
-        pass1 ! (init ! 18 refl (tt, (tt, (record { fits = rb .0 }, tt)))) $
+        pass1 ! (init ! 32 refl (sized (z .job .0))) $
+        pass1 ! (init ! 30 refl (sized (z .jumps .0))) $
+        pass1 ! (init ! 28 refl (sized (z .levels .0))) $
+        pass1 ! (init ! 26 refl (LL.lawful F.the-type F′.the-laws 𝓤 H A W .typed (s .f) _ (z .frame) .0)) $
+        pass1 ! (init ! 24 refl (tt, record { fits = z .limit })) $
+        pass1 ! (init ! 22 refl (sized (z .words .0))) $
+        pass1 ! (init ! 20 refl (sized (z .values .0))) $
+        pass1 ! (init ! 18 refl (sized (z .lines .0))) $
         pass0 ! $
-        assigns ! (of-opd ! (lit ! tt)) (from ! (stop !)) (init ! 16 refl (tt, record { fits = lit< tt })) $
+        sets ! (of-opd ! (lit ! tt)) 16 refl (tt, record { fits = lit< tt }) $
         move ! (38 ∷ 39 ∷ 40 ∷ 41 ∷ 42 ∷ 43 ∷ 44 ∷ 45 ∷ 46 ∷ 47 ∷ 48 ∷ 49 ∷ 50 ∷ 51 ∷ []) $
-        whiles ! 𝓣 (Less hd _ h limit) (less-wf hd _ h limit) (At l₀ l₁ l₂ l₃ l₄ l₅ l₆ l₇ l₈ l₉ l₁₀ l₁₁ l₁₂ l₁₃ l₁₄ l₁₅ l₁₆ l₁₇ l₁₈) (λ w P ways.
-        assigns ! (bin ! (load ! (from ! (stop !)) (look ! 30 refl)) (lit ! tt) tt) (from ! (stop !)) (init ! 28 refl (tt, tt)) $
-        tests ! (load ! (from ! (stop !)) (look ! 28 refl))
-        (λ going. let z = eqb→eq (w .ending) 0 going in
-        assigns ! (addr ! (from ! (hop ! (look ! 48 refl) (stop !)))) (from ! (stop !)) (init ! 26 refl (tt, tt)) $
-        assigns ! (addr ! (from ! (fld ! refl (hop ! (look-in ! 36 (sub ! 0 refl (whole !))) (stop !))))) (from ! (stop !)) (init ! 24 refl (tt, tt)) $
-        assigns ! (agg ! (and-then ! (load ! (from ! (stop !)) (look ! 24 refl)) (and-then ! (load ! (from ! (fld ! refl (stop !))) (look-in ! 36 (sub ! 1 refl (whole !)))) (no-more !)))) (from ! (stop !)) (init ! 22 refl (tt, (tt, (record { fits = rw .0 }, tt)))) $
-        assigns ! (addr ! (from ! (fld ! refl (hop ! (look-in ! 34 (sub ! 0 refl (whole !))) (stop !))))) (from ! (stop !)) (init ! 20 refl (tt, tt)) $
-        assigns ! (agg ! (and-then ! (load ! (from ! (stop !)) (look ! 20 refl)) (and-then ! (load ! (from ! (fld ! refl (stop !))) (look-in ! 34 (sub ! 1 refl (whole !)))) (no-more !)))) (from ! (stop !)) (init ! 18 refl (tt, (tt, (record { fits = rv .0 }, tt)))) $
-        assigns ! (addr ! (from ! (fld ! refl (hop ! (look-in ! 32 (sub ! 0 refl (whole !))) (stop !))))) (from ! (stop !)) (init ! 16 refl (tt, tt)) $
-        assigns ! (agg ! (and-then ! (load ! (from ! (stop !)) (look ! 16 refl)) (and-then ! (load ! (from ! (fld ! refl (stop !))) (look-in ! 32 (sub ! 1 refl (whole !)))) (no-more !)))) (from ! (stop !)) (init ! 14 refl (tt, (tt, (record { fits = rb .0 }, tt)))) $
+        whiles ! 𝓣 (Less (heldOf s) (slicesOf s) h (s .limit)) (less-wf (heldOf s) (slicesOf s) h (s .limit)) (At l₀ l₁ l₂ l₃ l₄ l₅ l₆ l₇ l₈ l₉ l₁₀ l₁₁ l₁₂ l₁₃ l₁₄ l₁₅ l₁₆ l₁₇ l₁₈) (λ w P ways.
+        sets ! (bin ! (var ! 30 refl) (lit ! tt) tt) 28 refl (tt, tt) $
+        tests ! (var ! 28 refl)
+        (λ going. let y = eqb→eq (w .ending) 0 going in
+        sets ! (addr ! (from ! (hop ! (look ! 48 refl) (stop !)))) 26 refl (tt, tt) $
+        sets ! (addr ! (from ! (fld ! refl (hop ! (look-in ! 36 (sub ! 0 refl (whole !))) (stop !))))) 24 refl (tt, tt) $
+        sets ! (agg ! (and-then ! (var ! 24 refl) (and-then ! (load ! (from ! (fld ! refl (stop !))) (look-in ! 36 (sub ! 1 refl (whole !)))) (no-more !)))) 22 refl (sized (z .words .0)) $
+        sets ! (addr ! (from ! (fld ! refl (hop ! (look-in ! 34 (sub ! 0 refl (whole !))) (stop !))))) 20 refl (tt, tt) $
+        sets ! (agg ! (and-then ! (var ! 20 refl) (and-then ! (load ! (from ! (fld ! refl (stop !))) (look-in ! 34 (sub ! 1 refl (whole !)))) (no-more !)))) 18 refl (sized (z .values .0)) $
+        sets ! (addr ! (from ! (fld ! refl (hop ! (look-in ! 32 (sub ! 0 refl (whole !))) (stop !))))) 16 refl (tt, tt) $
+        sets ! (agg ! (and-then ! (var ! 16 refl) (and-then ! (load ! (from ! (fld ! refl (stop !))) (look-in ! 32 (sub ! 1 refl (whole !)))) (no-more !)))) 14 refl (sized (z .lines .0)) $
         -- r and the slices are lent on
         lft-new ! tt (λ ν.
         move ! (1 ∷ 8 ∷ []) $
-        use2 W (later (some (λ (δ : GName). ‵ (Rn (ν ∷ []) δ (w .running)) ⊛ ‵ (LentAgain R.the-row κ (ν ∷ []) q γ b o δ (w .running))))) (lends-again 𝓤 H A W R.the-row (named 0) κ (ν ∷ []) q γ b o (named 0) (w .running)) $ await ! tt $ pick ! (λ δ.
+        use2 W (later (some (λ (δ : GName). ‵ (Rn (ν ∷ []) δ (w .running)) ⊛ ‵ (WaitsR ν δ (w .running)))))
+        (lends-again 𝓤 H A W R.the-row (named 0) κ (ν ∷ []) q γ b o (named 0) (w .running)) $ await ! tt $ pick ! (λ δ.
         split ! $
         lft-new ! tt (λ ν₄.
         move ! (4 ∷ 13 ∷ []) $
-        use2 W (later (some (λ (δ′ : GName). ‵ (Wo (ν₄ ∷ []) δ′ (w .words)) ⊛ ‵ (on.Waits u32 κ₄ (ν₄ ∷ []) q₄ (words .name) (words .ptr .0) (words .ptr .1) δ′ (w .words))))) (on.lends-on u32 κ₄ (ν₄ ∷ []) q₄ (words .name) (words .ptr .0) (words .ptr .1) 𝓤 H A W (named 4) (named 4) sw (w .words)) $ await ! tt $ pick ! (λ δ₄.
+        use2 W (later (some (λ (ε : GName). ‵ (Wo (ν₄ ∷ []) ε (w .words)) ⊛ ‵ (WaitsW ν₄ ε (w .words)))))
+        (on.lends-on u32 (s .κ₄) (ν₄ ∷ []) (s .q₄) (s .words .name) (s .words .ptr .0) (s .words .ptr .1) 𝓤 H A W (named 4) (named 4) (sliceOf (s .words)) (w .words)) $ await ! tt $ pick ! (λ δ₄.
         split ! $
         lft-new ! tt (λ ν₅.
         move ! (7 ∷ 15 ∷ []) $
-        use2 W (later (some (λ (δ′ : GName). ‵ (Va (ν₅ ∷ []) δ′ (w .values)) ⊛ ‵ (on.Waits i32 κ₅ (ν₅ ∷ []) q₅ (values .name) (values .ptr .0) (values .ptr .1) δ′ (w .values))))) (on.lends-on i32 κ₅ (ν₅ ∷ []) q₅ (values .name) (values .ptr .0) (values .ptr .1) 𝓤 H A W (named 5) (named 5) sv (w .values)) $ await ! tt $ pick ! (λ δ₅.
+        use2 W (later (some (λ (ε : GName). ‵ (Va (ν₅ ∷ []) ε (w .values)) ⊛ ‵ (WaitsV ν₅ ε (w .values)))))
+        (on.lends-on i32 (s .κ₅) (ν₅ ∷ []) (s .q₅) (s .values .name) (s .values .ptr .0) (s .values .ptr .1) 𝓤 H A W (named 5) (named 5) (sliceOf (s .values)) (w .values)) $ await ! tt $ pick ! (λ δ₅.
         split ! $
         lft-new ! tt (λ ν₆.
         move ! (10 ∷ 17 ∷ []) $
-        use2 W (later (some (λ (δ′ : GName). ‵ (Li (ν₆ ∷ []) δ′ (w .board)) ⊛ ‵ (on.Waits u8 κ₆ (ν₆ ∷ []) q₆ (lines .name) (lines .ptr .0) (lines .ptr .1) δ′ (w .board))))) (on.lends-on u8 κ₆ (ν₆ ∷ []) q₆ (lines .name) (lines .ptr .0) (lines .ptr .1) 𝓤 H A W (named 6) (named 6) sb (w .board)) $ await ! tt $ pick ! (λ δ₆.
+        use2 W (later (some (λ (ε : GName). ‵ (Li (ν₆ ∷ []) ε (w .board)) ⊛ ‵ (WaitsL ν₆ ε (w .board)))))
+        (on.lends-on u8 (s .κ₆) (ν₆ ∷ []) (s .q₆) (s .lines .name) (s .lines .ptr .0) (s .lines .ptr .1) 𝓤 H A W (named 6) (named 6) (sliceOf (s .lines)) (w .board)) $ await ! tt $ pick ! (λ δ₆.
         split ! $
         move ! (12 ∷ []) $
-        use1 W (‵ Jo ⊛ ‵ Jo) (shr-slice-copy 𝓤 H A W (named 1) κ₁ u8 .twice job (sj ∷ [])) $
+        use1 W (‵ Jo ⊛ ‵ Jo) (shr-slice-copy 𝓤 H A W (named 1) (s .κ₁) u8 .twice (s .job) (sliceOf (s .job) ∷ [])) $
         split ! $
         move ! (14 ∷ []) $
-        use1 W (‵ Ju ⊛ ‵ Ju) (shr-slice-copy 𝓤 H A W (named 2) κ₂ u16 .twice jumps (sp ∷ [])) $
+        use1 W (‵ Ju ⊛ ‵ Ju) (shr-slice-copy 𝓤 H A W (named 2) (s .κ₂) u16 .twice (s .jumps) (sliceOf (s .jumps) ∷ [])) $
         split ! $
         move ! (16 ∷ []) $
-        use1 W (‵ Le ⊛ ‵ Le) (shr-slice-copy 𝓤 H A W (named 3) κ₃ u8 .twice levels (sl ∷ [])) $
+        use1 W (‵ Le ⊛ ‵ Le) (shr-slice-copy 𝓤 H A W (named 3) (s .κ₃) u8 .twice (s .levels) (sliceOf (s .levels) ∷ [])) $
         split ! $
         nothing ! $
         move ! (9 ∷ 0 ∷ []) $
@@ -354,9 +374,9 @@ module _ {M : Type 1} (𝓤 : URA M) (H : Heap 𝓤) (A : Atoms 𝓤) (W : Given
         fjoin ! $
         move ! (10 ∷ 0 ∷ []) $
         fjoin ! $
-        owned ! u32 (Is u32) (uint-makes 𝓤 H A W w32) limit _ (refl, limit-fits) $
+        owned ! u32 (Is u32) (uint-makes 𝓤 H A W w32) (s .limit) _ (refl, z .limit) $
         fjoin ! $
-        owned ! F.the-row (Is F.the-row) (LL.makes F.the-type F′.the-plain 𝓤 H A) f _ isf $
+        owned ! F.the-row (Is F.the-row) (LL.makes F.the-type F′.the-plain 𝓤 H A) (s .f) _ (z .frame) $
         fjoin ! $
         move ! (3 ∷ 0 ∷ []) $
         fjoin ! $
@@ -367,12 +387,15 @@ module _ {M : Type 1} (𝓤 : URA M) (H : Heap 𝓤) (A : Atoms 𝓤) (W : Given
         move ! (8 ∷ 0 ∷ []) $
         fjoin ! $
         move ! (1 ∷ 0 ∷ []) $
-        use2 W (raw (Step 𝓤 H A at-mem run .pre (to-step w ν ν₄ ν₅ ν₆ δ δ₄ δ₅ δ₆))) (goes-step w ν ν₄ ν₅ ν₆ δ δ₄ δ₅ δ₆ (startable hd _ h limit pre w z)) $
-        calls-at-last ! (fmOf 𝓤 H (W .laws) 𝓣) (Step 𝓤 H A at-mem run) known (to-step w ν ν₄ ν₅ ν₆ δ δ₄ δ₅ δ₆) (and-then ! (load ! (from ! (stop !)) (look ! 20 refl)) (and-then ! (load ! (from ! (stop !)) (look ! 40 refl)) (and-then ! (load ! (from ! (stop !)) (look ! 38 refl)) (and-then ! (load ! (from ! (stop !)) (look ! 36 refl)) (and-then ! (load ! (from ! (stop !)) (look ! 34 refl)) (and-then ! (load ! (from ! (stop !)) (look ! 32 refl)) (and-then ! (load ! (from ! (stop !)) (look ! 16 refl)) (and-then ! (load ! (from ! (stop !)) (look ! 12 refl)) (and-then ! (load ! (from ! (stop !)) (look ! 8 refl)) (no-more !)))))))))) (λ v.
-        use1 W (later (some (λ (c : ℕ). (Tokens w ν ν₄ ν₅ ν₆ δ δ₄ δ₅ δ₆ ⊛ ‵ (u8 .own c (v ∷ []))) ⊛ raw (ensured 𝓤 H A st.ended (st.clauses 𝓤 H A at-mem run) (ν ∷ [], (κ₁, (κ₂, (κ₃, (ν₄ ∷ [], (ν₅ ∷ [], (ν₆ ∷ [], tt))))))) (args w ν ν₄ ν₅ ν₆ δ δ₄ δ₅ δ₆) tt c)))) (id⊢ 𝓤 _) $ await ! tt $ pick ! (λ c.
+        use2 W (raw (Step 𝓤 H A at-mem run .pre (to-step w ν ν₄ ν₅ ν₆ δ δ₄ δ₅ δ₆))) (goes-step w ν ν₄ ν₅ ν₆ δ δ₄ δ₅ δ₆ (startable (heldOf s) (slicesOf s) h (s .limit) pre w y)) $
+        calls-at-last ! (fmOf 𝓤 H (W .laws) 𝓣) (Step 𝓤 H A at-mem run) known (to-step w ν ν₄ ν₅ ν₆ δ δ₄ δ₅ δ₆)
+        (and-then ! (var ! 20 refl) (and-then ! (var ! 40 refl) (and-then ! (var ! 38 refl) (and-then ! (var ! 36 refl) (and-then ! (var ! 34 refl) (and-then ! (var ! 32 refl) (and-then ! (var ! 16 refl) (and-then ! (var ! 12 refl) (and-then ! (var ! 8 refl) (no-more !)))))))))) (λ v.
+        use1 W (later (some (λ (c : ℕ). (Toks w ν ν₄ ν₅ ν₆ δ δ₄ δ₅ δ₆ ⊛ ‵ (u8 .own c (v ∷ [])))
+        ⊛ raw (ensured 𝓤 H A st.ended (st.clauses 𝓤 H A at-mem run) (ν ∷ [], lftsOf (on-step w ν ν₄ ν₅ ν₆ δ δ₄ δ₅ δ₆)) (args w ν ν₄ ν₅ ν₆ δ δ₄ δ₅ δ₆) tt c)))) (id⊢ 𝓤 _) $ await ! tt $ pick ! (λ c.
         split ! $
         move ! (1 ∷ []) $
-        use1 W (some (λ (zs : Lasts). ‵ (lasts st.ended (ν ∷ [], (κ₁, (κ₂, (κ₃, (ν₄ ∷ [], (ν₅ ∷ [], (ν₆ ∷ [], tt))))))) (args w ν ν₄ ν₅ ν₆ δ δ₄ δ₅ δ₆) zs) ⊛ raw (fact 𝓤 (After w ν ν₄ ν₅ ν₆ δ δ₄ δ₅ δ₆ (zs .0) (zs .1 .1 .1 .1 .1 .1 .0) (zs .1 .1 .1 .1 .1 .1 .1 .0) (zs .1 .1 .1 .1 .1 .1 .1 .1 .0) c)))) (id⊢ 𝓤 _) $ pick ! (λ zs.
+        use1 W (some (λ (zs : Lasts). ‵ (lasts st.ended (ν ∷ [], lftsOf (on-step w ν ν₄ ν₅ ν₆ δ δ₄ δ₅ δ₆)) (args w ν ν₄ ν₅ ν₆ δ δ₄ δ₅ δ₆) zs)
+        ⊛ raw (fact 𝓤 (After w ν ν₄ ν₅ ν₆ δ δ₄ δ₅ δ₆ (zs .0) (zs .1 .1 .1 .1 .1 .1 .0) (zs .1 .1 .1 .1 .1 .1 .1 .0) (zs .1 .1 .1 .1 .1 .1 .1 .1 .0) c)))) (id⊢ 𝓤 _) $ pick ! (λ zs.
         split ! $
         move ! (1 ∷ []) $
         heard ! (After w ν ν₄ ν₅ ν₆ δ δ₄ δ₅ δ₆ (zs .0) (zs .1 .1 .1 .1 .1 .1 .0) (zs .1 .1 .1 .1 .1 .1 .1 .0) (zs .1 .1 .1 .1 .1 .1 .1 .1 .0) c) (λ e.
@@ -401,7 +424,7 @@ module _ {M : Type 1} (𝓤 : URA M) (H : Heap 𝓤) (A : Atoms 𝓤) (W : Given
         fsplit ! $
         fsplit ! $
         move ! (1 ∷ []) $
-        feqL ! (λ eb.
+        feqL ! (λ el.
         move ! (1 ∷ []) $
         drop ! $
         move ! (4 ∷ []) $
@@ -425,41 +448,40 @@ module _ {M : Type 1} (𝓤 : URA M) (H : Heap 𝓤) (A : Atoms 𝓤) (W : Given
         move ! (1 ∷ []) $
         drop ! $
         -- the lifetimes of the call are over, and what was lent comes back
+        let n = stride (heldOf s) (slicesOf s) h (s .limit) w y (zs .1 .1 .1 .1 .1 .1 .0) (zs .1 .1 .1 .1 .1 .1 .1 .0) (zs .1 .1 .1 .1 .1 .1 .1 .1 .0) c (zs .0) (is .1) ew ev el e in
         move ! (6 ∷ []) $
         lft-end ! tt $
         move ! (0 ∷ 17 ∷ 10 ∷ []) $
         use3 W (later (‵ (Rn κ γ (zs .0)) ⊛ ‵ (flft κ q))) (comes-back 𝓤 H A W R.the-row (named 0) κ (ν ∷ []) q γ b o δ (w .running) (zs .0)) $ await ! tt $
         split ! $
-        let n = stride hd _ h limit w z (zs .1 .1 .1 .1 .1 .1 .0) (zs .1 .1 .1 .1 .1 .1 .1 .0) (zs .1 .1 .1 .1 .1 .1 .1 .1 .0) c (zs .0) (is .1) ew ev eb e in
         move ! (4 ∷ []) $
         lft-end ! tt $
         move ! (0 ∷ 16 ∷ 10 ∷ []) $
-        use3 W (later (‵ (Wo κ₄ (words .name) (n .words)) ⊛ ‵ (flft κ₄ q₄))) (on.comes-back u32 κ₄ (ν₄ ∷ []) q₄ (words .name) (words .ptr .0) (words .ptr .1) 𝓤 H A W (named 4) (named 4) sw (w .words) δ₄ (n .words) ew (ap (λ (m : ℕ). sliceVal (words .ptr) m ∷ []) (sym (n .long-words))) (subst (Room u32) (sym (n .long-words)) rw)) $ await ! tt $
+        use3 W (later (‵ (Wo (s .κ₄) (s .words .name) (n .words)) ⊛ ‵ (flft (s .κ₄) (s .q₄))))
+        (on.comes-back u32 (s .κ₄) (ν₄ ∷ []) (s .q₄) (s .words .name) (s .words .ptr .0) (s .words .ptr .1) 𝓤 H A W (named 4) (named 4) (sliceOf (s .words)) (w .words) δ₄ (n .words) ew
+        (ap (λ (m : ℕ). sliceVal (s .words .ptr) m ∷ []) (sym (n .long-words))) (subst (Room u32) (sym (n .long-words)) (z .words))) $ await ! tt $
         split ! $
         move ! (5 ∷ []) $
         lft-end ! tt $
         move ! (0 ∷ 15 ∷ 10 ∷ []) $
-        use3 W (later (‵ (Va κ₅ (values .name) (n .values)) ⊛ ‵ (flft κ₅ q₅))) (on.comes-back i32 κ₅ (ν₅ ∷ []) q₅ (values .name) (values .ptr .0) (values .ptr .1) 𝓤 H A W (named 5) (named 5) sv (w .values) δ₅ (n .values) ev (ap (λ (m : ℕ). sliceVal (values .ptr) m ∷ []) (sym (n .long-values))) (subst (Room i32) (sym (n .long-values)) rv)) $ await ! tt $
+        use3 W (later (‵ (Va (s .κ₅) (s .values .name) (n .values)) ⊛ ‵ (flft (s .κ₅) (s .q₅))))
+        (on.comes-back i32 (s .κ₅) (ν₅ ∷ []) (s .q₅) (s .values .name) (s .values .ptr .0) (s .values .ptr .1) 𝓤 H A W (named 5) (named 5) (sliceOf (s .values)) (w .values) δ₅ (n .values) ev
+        (ap (λ (m : ℕ). sliceVal (s .values .ptr) m ∷ []) (sym (n .long-values))) (subst (Room i32) (sym (n .long-values)) (z .values))) $ await ! tt $
         split ! $
         move ! (6 ∷ []) $
         lft-end ! tt $
         move ! (0 ∷ 14 ∷ 10 ∷ []) $
-        use3 W (later (‵ (Li κ₆ (lines .name) (n .board)) ⊛ ‵ (flft κ₆ q₆))) (on.comes-back u8 κ₆ (ν₆ ∷ []) q₆ (lines .name) (lines .ptr .0) (lines .ptr .1) 𝓤 H A W (named 6) (named 6) sb (w .board) δ₆ (n .board) eb (ap (λ (m : ℕ). sliceVal (lines .ptr) m ∷ []) (sym (n .long-board))) (subst (Room u8) (sym (n .long-board)) rb)) $ await ! tt $
+        use3 W (later (‵ (Li (s .κ₆) (s .lines .name) (n .board)) ⊛ ‵ (flft (s .κ₆) (s .q₆))))
+        (on.comes-back u8 (s .κ₆) (ν₆ ∷ []) (s .q₆) (s .lines .name) (s .lines .ptr .0) (s .lines .ptr .1) 𝓤 H A W (named 6) (named 6) (sliceOf (s .lines)) (w .board) δ₆ (n .board) el
+        (ap (λ (m : ℕ). sliceVal (s .lines .ptr) m ∷ []) (sym (n .long-board))) (subst (Room u8) (sym (n .long-board)) (z .lines))) $ await ! tt $
         split ! $
         land-last ! (from ! (stop !)) (store ! 30 refl (uint-lawful 𝓤 H A W w8 .typed c _ is .0)) $
         rewrite ! 30 (λ (u : Val). ‵ (fat fullShare (tyInt w8) l₁₀ 0 u)) (ap only (uint-tells w8 c (v ∷ []) is)) refl $
-        forget ! 28 refl $
-        forget ! 26 refl $
-        forget ! 24 refl $
-        forget ! 22 refl $
-        forget ! 20 refl $
-        forget ! 18 refl $
-        forget ! 16 refl $
-        forget ! 14 refl $
+        forget ! 28 refl $ forget ! 26 refl $ forget ! 24 refl $ forget ! 22 refl $ forget ! 20 refl $ forget ! 18 refl $ forget ! 16 refl $ forget ! 14 refl $
         keep ! (6 ∷ 4 ∷ 2 ∷ 0 ∷ 13 ∷ 12 ∷ 11 ∷ 7 ∷ 10 ∷ 9 ∷ 8 ∷ 5 ∷ 3 ∷ 1 ∷ 14 ∷ 15 ∷ 16 ∷ 17 ∷ 18 ∷ 19 ∷ 20 ∷ 21 ∷ 22 ∷ 23 ∷ 24 ∷ 25 ∷ 26 ∷ 27 ∷ 28 ∷ 29 ∷ 30 ∷ 31 ∷ 32 ∷ 33 ∷ 34 ∷ 35 ∷ 36 ∷ 37 ∷ 38 ∷ 39 ∷ 40 ∷ 41 ∷ 42 ∷ 43 ∷ 44 ∷ 45 ∷ 46 ∷ 47 ∷ 48 ∷ 49 ∷ 50 ∷ 51 ∷ []) $
-        ways .end ! $ again ! (Less hd _ h limit) (At l₀ l₁ l₂ l₃ l₄ l₅ l₆ l₇ l₈ l₉ l₁₀ l₁₁ l₁₂ l₁₃ l₁₄ l₁₅ l₁₆ l₁₇ l₁₈) w n (falls hd _ h limit w z n (λ y. e .later y)))))))))))))))))))
+        ways .end ! $ again ! (Less (heldOf s) (slicesOf s) h (s .limit)) (At l₀ l₁ l₂ l₃ l₄ l₅ l₆ l₇ l₈ l₉ l₁₀ l₁₁ l₁₂ l₁₃ l₁₄ l₁₅ l₁₆ l₁₇ l₁₈) w n (falls (heldOf s) (slicesOf s) h (s .limit) w y n (λ u. e .later u)))))))))))))))))))
         (λ over. ways .out ! $
-        assigns ! (of-opd ! (load ! (from ! (stop !)) (look ! 30 refl))) (from ! (stop !)) (init ! 50 refl (tt, record { fits = w .small })) $
+        sets ! (of-opd ! (var ! 30 refl)) 50 refl (tt, record { fits = w .small }) $
         returns ! (look ! 50 refl) $
         forget ! 50 refl $
         forget ! 48 refl $
@@ -513,8 +535,8 @@ module _ {M : Type 1} (𝓤 : URA M) (H : Heap 𝓤) (A : Atoms 𝓤) (W : Given
         free1 ! $
         free0 ! $
         keep ! (0 ∷ 1 ∷ 2 ∷ 3 ∷ 7 ∷ 8 ∷ 9 ∷ 10 ∷ 11 ∷ 12 ∷ 13 ∷ []) $
-        by ! (exits w (λ z. not-over (w .ending) z over))))
-        (outset hd _ h limit pre))))))))))))))))))))
+        by ! (exits w (λ u. not-over (w .ending) u over))))
+        (outset (heldOf s) (slicesOf s) h (s .limit) pre))))))))))))))))))))
 
 module _ {M : Type 1} (𝓤 : URA M) (H : Heap 𝓤) (A : Atoms 𝓤) (W : Given 𝓤 H A) (at-mem : Memory → SProp 𝓤) (run : Routine → Fun 𝓤) (𝓣 : Tables 𝓤 H) (known : Triple 𝓤 (𝓣 .C #step) (Step 𝓤 H A at-mem run)) where
   walks : Walks 𝓤 H A run′.ended stayed (WpFn 𝓤 H (𝓣 .C) (𝓣 .Λ) code.function) (run′.clauses 𝓤 H A at-mem run)
@@ -545,13 +567,18 @@ module _ {M : Type 1} (𝓤 : URA M) (H : Heap 𝓤) (A : Atoms 𝓤) (W : Given
           ),
         ),
       ))
-      (λ κs qs bounds a g are.
-      let k = κs .1 in let s = qs .1 in let x = a .1 in let y = are .1 in
-      needs 𝓤 (Before 𝓤 H A W at-mem run (κs .0) (k .0) (k .1 .0) (k .1 .1 .0) (k .1 .1 .1 .0) (k .1 .1 .1 .1 .0) (k .1 .1 .1 .1 .1 .0) (qs .0) (s .0) (s .1 .0) (s .1 .1 .0) (s .1 .1 .1 .0) (s .1 .1 .1 .1 .0) (s .1 .1 .1 .1 .1 .0)
-      (a .0 .ptr .0) (a .0 .ptr .1) (a .0 .name) (a .0 .now) (x .0) (x .1 .0) (x .1 .1 .0) (x .1 .1 .1 .0) (x .1 .1 .1 .1 .0) (x .1 .1 .1 .1 .1 .0) (x .1 .1 .1 .1 .1 .1 .0) (x .1 .1 .1 .1 .1 .1 .1 .0)) _ (λ pre.
-      walk 𝓤 H A W at-mem run (κs .0) (k .0) (k .1 .0) (k .1 .1 .0) (k .1 .1 .1 .0) (k .1 .1 .1 .1 .0) (k .1 .1 .1 .1 .1 .0) (qs .0) (s .0) (s .1 .0) (s .1 .1 .0) (s .1 .1 .1 .0) (s .1 .1 .1 .1 .0) (s .1 .1 .1 .1 .1 .0)
-      (a .0 .ptr .0) (a .0 .ptr .1) (a .0 .name) (a .0 .now) (x .0) (x .1 .0) (x .1 .1 .0) (x .1 .1 .1 .0) (x .1 .1 .1 .1 .0) (x .1 .1 .1 .1 .1 .0) (x .1 .1 .1 .1 .1 .1 .0) (x .1 .1 .1 .1 .1 .1 .1 .0)
-      𝓣 known (y .0 .0 .1) (y .1 .0 .0 .1) (y .1 .1 .0 .0 .1) (y .1 .1 .1 .0) (y .1 .1 .1 .1 .0 .1) (y .1 .1 .1 .1 .1 .0 .0 .1) (y .1 .1 .1 .1 .1 .1 .0 .0 .1) (y .1 .1 .1 .1 .1 .1 .1 .0 .0 .1) pre))
+      (λ κs qs bounds a g are. needs 𝓤 (Before (passed (κs .1) (qs .1) (a .1)) (a .0 .now)) _ (λ pre.
+      walk 𝓤 H A W at-mem run (κs .0) (qs .0) (a .0 .ptr .0) (a .0 .ptr .1) (a .0 .name) (a .0 .now) (passed (κs .1) (qs .1) (a .1)) 𝓣 known
+      (record {
+        job = are .1 .0 .0 .1;
+        jumps = are .1 .1 .0 .0 .1;
+        levels = are .1 .1 .1 .0 .0 .1;
+        frame = are .1 .1 .1 .1 .0;
+        limit = are .1 .1 .1 .1 .1 .0 .1;
+        words = are .1 .1 .1 .1 .1 .1 .0 .0 .1;
+        values = are .1 .1 .1 .1 .1 .1 .1 .0 .0 .1;
+        lines = are .1 .1 .1 .1 .1 .1 .1 .1 .0 .0 .1;
+      }) pre))
 
   meets : Meets 𝓤 H A run′.signature (WpFn 𝓤 H (𝓣 .C) (𝓣 .Λ) code.function) (run′.spec 𝓤 H A at-mem run)
   meets = walk-meets 𝓤 H A run′.ended stayed W (
@@ -566,7 +593,13 @@ module _ {M : Type 1} (𝓤 : URA M) (H : Heap 𝓤) (A : Atoms 𝓤) (W : Given
             goes-dropped 𝓤 H A W 7 (plain (λ _. F.the-row)) yes (λ κs x f. refl),
             (
               goes-dropped 𝓤 H A W 7 (plain (λ _. u32)) yes (λ κs x f. refl),
-              (goes-slice 𝓤 H A W 7 4 tt (plain (λ _. u32)), (goes-slice 𝓤 H A W 7 5 tt (plain (λ _. i32)), (goes-slice 𝓤 H A W 7 6 tt (plain (λ _. u8)), tt))),
+              (
+                goes-slice 𝓤 H A W 7 4 tt (plain (λ _. u32)),
+                (
+                  goes-slice 𝓤 H A W 7 5 tt (plain (λ _. i32)),
+                  (goes-slice 𝓤 H A W 7 6 tt (plain (λ _. u8)), tt),
+                ),
+              ),
             ),
           ),
         ),
