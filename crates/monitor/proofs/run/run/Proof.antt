@@ -83,7 +83,8 @@ abbrev lent-ty : Ty → Ty
 lent-ty τ = sliceTy (lent-ref τ)
 
 -- r is behind (b, o) under γ, with h
-module _ {M : Type 1} (𝓤 : URA M) (H : Heap 𝓤) (A : Atoms 𝓤) (W : Given 𝓤 H A) (at-mem : Memory → SProp 𝓤) (run : Routine → Fun 𝓤) (κ : Lft) (q : Share) (b o : ℕ) (γ : GName) (h : Running) (s : Passed) where
+module _ {M : Type 1} (𝓤 : URA M) (H : Heap 𝓤) (A : Atoms 𝓤) (W : Given 𝓤 H A) (at-mem : Memory → SProp 𝓤) (run : Routine → Fun 𝓤) (κ : Lft) (q :
+    Share) (b o : ℕ) (γ : GName) (h : Running) (s : Passed) where
   abbrev x : GName → Running → RefT Running
   x δ r = record { ptr = (b, o); name = δ; now = r }
 
@@ -191,43 +192,11 @@ module _ {M : Type 1} (𝓤 : URA M) (H : Heap 𝓤) (A : Atoms 𝓤) (W : Given
       qed W (Left w) ∵
       suffices ! _ (ends-at 𝓤 H A run′.ended stayed (run′.clauses 𝓤 H A at-mem run) W bound (vint w8 (w .ending)) (w .ending)
       (w .running, (tt, (tt, (tt, (tt, (tt, (w .words, (w .values, (w .board, tt)))))))))
-      (tt, (tt, (tt, (tt, (tt, (tt, (w .long-words, (w .long-values, (w .long-board, tt)))))))))) $ says ! (w .over n) $
-      nothing ! $
-      move ! (11 ∷ 0 ∷ []) $
-      join ! $
-      move ! (10 ∷ 0 ∷ []) $
-      join ! $
-      move ! (9 ∷ 0 ∷ []) $
-      join ! $
-      move ! (8 ∷ 0 ∷ []) $
-      join ! $
-      move ! (7 ∷ 0 ∷ []) $
-      join ! $
-      move ! (6 ∷ 0 ∷ []) $
-      join ! $
-      move ! (5 ∷ 0 ∷ []) $
-      join ! $
-      frame ! $
-      nothing ! $
-      move ! (4 ∷ 0 ∷ []) $
-      fjoin ! $
-      move ! (3 ∷ 0 ∷ []) $
-      fjoin ! $
-      move ! (2 ∷ 0 ∷ []) $
-      fjoin ! $
-      nothing ! $
-      fjoin ! $
-      nothing ! $
-      fjoin ! $
-      nothing ! $
-      fjoin ! $
-      nothing ! $
-      fjoin ! $
-      nothing ! $
-      fjoin ! $
-      move ! (1 ∷ 0 ∷ []) $
-      fjoin ! $
-      frame ! $
+      (tt, (tt, (tt, (tt, (tt, (tt, (w .long-words, (w .long-values, (w .long-board, tt)))))))))) $ says ! (w .over n) $ nothing ! $
+      move ! (11 ∷ 0 ∷ []) $ join ! $ move ! (10 ∷ 0 ∷ []) $ join ! $ move ! (9 ∷ 0 ∷ []) $ join ! $ move ! (8 ∷ 0 ∷ []) $ join ! $
+      move ! (7 ∷ 0 ∷ []) $ join ! $ move ! (6 ∷ 0 ∷ []) $ join ! $ move ! (5 ∷ 0 ∷ []) $ join ! $ frame ! $ nothing ! $
+      move ! (4 ∷ 0 ∷ []) $ fjoin ! $ move ! (3 ∷ 0 ∷ []) $ fjoin ! $ move ! (2 ∷ 0 ∷ []) $ fjoin ! $ nothing ! $ fjoin ! $ nothing ! $
+      fjoin ! $ nothing ! $ fjoin ! $ nothing ! $ fjoin ! $ nothing ! $ fjoin ! $ move ! (1 ∷ 0 ∷ []) $ fjoin ! $ frame ! $
       owned ! u8 (Is u8) (uint-makes 𝓤 H A W w8) (w .ending) _ (refl, w .small) $ done !
 
   module _ (𝓣 : Tables 𝓤 H) (known : Triple 𝓤 (𝓣 .C #step) (Step 𝓤 H A at-mem run)) where
@@ -246,302 +215,173 @@ module _ {M : Type 1} (𝓤 : URA M) (H : Heap 𝓤) (A : Atoms 𝓤) (W : Given
         ∷ ‵ (froom (tyRef erased mut (pointee (R.the-row .written))) l₁₂ 0) ∷ ‵ (fdies (tyRef erased mut (pointee (R.the-row .written))) l₁₂)
         ∷ ‵ (froom tyBool l₁₁ 0) ∷ ‵ (fdies tyBool l₁₁)
         ∷ ‵ (fat fullShare (tyInt w8) l₁₀ 0 (vint w8 (w .ending))) ∷ ‵ (fdies (tyInt w8) l₁₀)
-        ∷ ‵ (fat fullShare (sliceTy (tyRef (named 6) mut (tyInt w8))) l₉ 0 (sliceOf (s .lines))) ∷ ‵ (fdies (sliceTy (tyRef (named 6) mut (tyInt w8))) l₉)
-        ∷ ‵ (fat fullShare (sliceTy (tyRef (named 5) mut (tyInt w32))) l₈ 0 (sliceOf (s .values))) ∷ ‵ (fdies (sliceTy (tyRef (named 5) mut (tyInt w32))) l₈)
-        ∷ ‵ (fat fullShare (sliceTy (tyRef (named 4) mut (tyInt w32))) l₇ 0 (sliceOf (s .words))) ∷ ‵ (fdies (sliceTy (tyRef (named 4) mut (tyInt w32))) l₇)
+        ∷ ‵ (fat fullShare (sliceTy (tyRef (named 6) mut (tyInt w8))) l₉ 0 (sliceOf (s .lines))) ∷ ‵ (fdies (sliceTy (tyRef (named 6) mut (tyInt
+        w8))) l₉)
+        ∷ ‵ (fat fullShare (sliceTy (tyRef (named 5) mut (tyInt w32))) l₈ 0 (sliceOf (s .values))) ∷ ‵ (fdies (sliceTy (tyRef (named 5) mut (tyInt
+        w32))) l₈)
+        ∷ ‵ (fat fullShare (sliceTy (tyRef (named 4) mut (tyInt w32))) l₇ 0 (sliceOf (s .words))) ∷ ‵ (fdies (sliceTy (tyRef (named 4) mut (tyInt
+        w32))) l₇)
         ∷ ‵ (fat fullShare (tyInt w32) l₆ 0 (vint w32 (s .limit))) ∷ ‵ (fdies (tyInt w32) l₆)
         ∷ ‵ (fat fullShare F′.mir l₅ 0 (frameVal (s .f))) ∷ ‵ (fdies F′.mir l₅)
-        ∷ ‵ (fat fullShare (sliceTy (tyRef (named 3) imm (tyInt w8))) l₄ 0 (sliceOf (s .levels))) ∷ ‵ (fdies (sliceTy (tyRef (named 3) imm (tyInt w8))) l₄)
-        ∷ ‵ (fat fullShare (sliceTy (tyRef (named 2) imm (tyInt w16))) l₃ 0 (sliceOf (s .jumps))) ∷ ‵ (fdies (sliceTy (tyRef (named 2) imm (tyInt w16))) l₃)
-        ∷ ‵ (fat fullShare (sliceTy (tyRef (named 1) imm (tyInt w8))) l₂ 0 (sliceOf (s .job))) ∷ ‵ (fdies (sliceTy (tyRef (named 1) imm (tyInt w8))) l₂)
-        ∷ ‵ (fat fullShare (tyRef (named 0) mut (pointee (R.the-row .written))) l₁ 0 (vptr b o)) ∷ ‵ (fdies (tyRef (named 0) mut (pointee (R.the-row .written))) l₁)
+        ∷ ‵ (fat fullShare (sliceTy (tyRef (named 3) imm (tyInt w8))) l₄ 0 (sliceOf (s .levels))) ∷ ‵ (fdies (sliceTy (tyRef (named 3) imm (tyInt
+        w8))) l₄)
+        ∷ ‵ (fat fullShare (sliceTy (tyRef (named 2) imm (tyInt w16))) l₃ 0 (sliceOf (s .jumps))) ∷ ‵ (fdies (sliceTy (tyRef (named 2) imm (tyInt
+        w16))) l₃)
+        ∷ ‵ (fat fullShare (sliceTy (tyRef (named 1) imm (tyInt w8))) l₂ 0 (sliceOf (s .job))) ∷ ‵ (fdies (sliceTy (tyRef (named 1) imm (tyInt w8)))
+        l₂)
+        ∷ ‵ (fat fullShare (tyRef (named 0) mut (pointee (R.the-row .written))) l₁ 0 (vptr b o)) ∷ ‵ (fdies (tyRef (named 0) mut (pointee (R.the-row
+        .written))) l₁)
         ∷ ‵ (froom (tyInt w8) l₀ 0) ∷ ‵ (fdies (tyInt w8) l₀) ∷ []
 
     walk : Sized s → Before s h → ent 𝓤 (onEntry 𝓤 H A run′.signature (κ, lftsOf s) (q, sharesOf s) a (vptr b o ∷ [], valsOf s))
         (WpFn 𝓤 H (𝓣 .C) (𝓣 .Λ) code.function (vptr b o ∷ listed s) Post)
     walk z pre =
         qed W ((‵ (flft κ q) ⊛ Tokens s 𝓤) ∷ ‵ (owns (MutRef (named 0) κ R.the-row ∷ Rest s) a (vptr b o ∷ [], valsOf s)) ∷ []) ∵
-        split ! $
-        move ! (1 ∷ []) $
-        split ! $
-        move ! (1 ∷ []) $
-        split ! $
-        move ! (1 ∷ []) $
-        split ! $
-        move ! (1 ∷ []) $
-        split ! $
-        move ! (1 ∷ []) $
-        split ! $
-        move ! (1 ∷ []) $
-        split ! $
-        move ! (1 ∷ []) $
-        drop ! $
-        move ! (7 ∷ []) $
-        fsplit ! $
-        move ! (1 ∷ []) $
-        fsplit ! $
-        move ! (1 ∷ []) $
-        fsplit ! $
-        move ! (1 ∷ []) $
-        fsplit ! $
-        move ! (1 ∷ []) $
-        fsplit ! $
-        move ! (1 ∷ []) $
-        fsplit ! $
-        move ! (1 ∷ []) $
-        fsplit ! $
-        move ! (1 ∷ []) $
-        fsplit ! $
-        move ! (1 ∷ []) $
-        fsplit ! $
-        move ! (1 ∷ []) $
-        drop ! $
-        keep ! (8 ∷ 2 ∷ 1 ∷ 0 ∷ 7 ∷ 6 ∷ 5 ∷ 15 ∷ 14 ∷ 13 ∷ 12 ∷ 11 ∷ 10 ∷ 9 ∷ []) $
-        enter ! (𝓣 .C) (𝓣 .Λ) code.function _ _ $
-        alloc1 ! (λ l₀. alloc1 ! (λ l₁. alloc1 ! (λ l₂. alloc1 ! (λ l₃. alloc1 ! (λ l₄. alloc1 ! (λ l₅. alloc1 ! (λ l₆. alloc1 ! (λ l₇. alloc1 ! (λ l₈. alloc1 ! (λ l₉. alloc1 ! (λ l₁₀. alloc1 ! (λ l₁₁. alloc1 ! (λ l₁₂. alloc1 ! (λ l₁₃. alloc1 ! (λ l₁₄. alloc1 ! (λ l₁₅. alloc1 ! (λ l₁₆. alloc1 ! (λ l₁₇. alloc1 ! (λ l₁₈. alloc0 ! $ params1 ! $
-        pass1 ! (init ! 34 refl (tt, tt)) $
-        pass1 ! (init ! 32 refl (sized (z .job .0))) $
-        pass1 ! (init ! 30 refl (sized (z .jumps .0))) $
+        split ! $ move ! (1 ∷ []) $ split ! $ move ! (1 ∷ []) $ split ! $ move ! (1 ∷ []) $ split ! $ move ! (1 ∷ []) $ split ! $
+        move ! (1 ∷ []) $ split ! $ move ! (1 ∷ []) $ split ! $ move ! (1 ∷ []) $ drop ! $ move ! (7 ∷ []) $ fsplit ! $ move ! (1 ∷ []) $
+        fsplit ! $ move ! (1 ∷ []) $ fsplit ! $ move ! (1 ∷ []) $ fsplit ! $ move ! (1 ∷ []) $ fsplit ! $ move ! (1 ∷ []) $ fsplit ! $
+        move ! (1 ∷ []) $ fsplit ! $ move ! (1 ∷ []) $ fsplit ! $ move ! (1 ∷ []) $ fsplit ! $ move ! (1 ∷ []) $ drop ! $
+        keep ! (8 ∷ 2 ∷ 1 ∷ 0 ∷ 7 ∷ 6 ∷ 5 ∷ 15 ∷ 14 ∷ 13 ∷ 12 ∷ 11 ∷ 10 ∷ 9 ∷ []) $ enter ! (𝓣 .C) (𝓣 .Λ) code.function _ _ $
+        alloc1 ! (λ l₀. alloc1 ! (λ l₁. alloc1 ! (λ l₂. alloc1 ! (λ l₃. alloc1 ! (λ l₄. alloc1 ! (λ l₅. alloc1 ! (λ l₆. alloc1 ! (λ l₇. alloc1 ! (λ
+        l₈. alloc1 ! (λ l₉. alloc1 ! (λ l₁₀. alloc1 ! (λ l₁₁. alloc1 ! (λ l₁₂. alloc1 ! (λ l₁₃. alloc1 ! (λ l₁₄. alloc1 ! (λ l₁₅. alloc1 ! (λ l₁₆.
+        alloc1 ! (λ l₁₇. alloc1 ! (λ l₁₈. alloc0 ! $ params1 ! $
+        pass1 ! (init ! 34 refl (tt, tt)) $ pass1 ! (init ! 32 refl (sized (z .job .0))) $ pass1 ! (init ! 30 refl (sized (z .jumps .0))) $
         pass1 ! (init ! 28 refl (sized (z .levels .0))) $
         pass1 ! (init ! 26 refl (LL.lawful F.the-type F′.the-laws 𝓤 H A W .typed (s .f) _ (z .frame) .0)) $
-        pass1 ! (init ! 24 refl (tt, record { fits = z .limit })) $
-        pass1 ! (init ! 22 refl (sized (z .words .0))) $
-        pass1 ! (init ! 20 refl (sized (z .values .0))) $
-        pass1 ! (init ! 18 refl (sized (z .lines .0))) $
-        pass0 ! $
+        pass1 ! (init ! 24 refl (tt, record { fits = z .limit })) $ pass1 ! (init ! 22 refl (sized (z .words .0))) $
+        pass1 ! (init ! 20 refl (sized (z .values .0))) $ pass1 ! (init ! 18 refl (sized (z .lines .0))) $ pass0 ! $
         sets ! (of-opd ! (lit ! tt)) 16 refl (tt, record { fits = lit< tt }) $
         move ! (38 ∷ 39 ∷ 40 ∷ 41 ∷ 42 ∷ 43 ∷ 44 ∷ 45 ∷ 46 ∷ 47 ∷ 48 ∷ 49 ∷ 50 ∷ 51 ∷ []) $
-        whiles ! 𝓣 (Less (heldOf s) (slicesOf s) h (s .limit)) (less-wf (heldOf s) (slicesOf s) h (s .limit)) (At l₀ l₁ l₂ l₃ l₄ l₅ l₆ l₇ l₈ l₉ l₁₀ l₁₁ l₁₂ l₁₃ l₁₄ l₁₅ l₁₆ l₁₇ l₁₈) (λ w P ways.
-        sets ! (bin ! (var ! 30 refl) (lit ! tt) tt) 28 refl (tt, tt) $
-        tests ! (var ! 28 refl)
-        (λ going. let y = eqb→eq (w .ending) 0 going in
+        whiles ! 𝓣 (Less (heldOf s) (slicesOf s) h (s .limit)) (less-wf (heldOf s) (slicesOf s) h (s .limit)) (At l₀ l₁ l₂ l₃ l₄ l₅ l₆ l₇ l₈ l₉ l₁₀
+        l₁₁ l₁₂ l₁₃ l₁₄ l₁₅ l₁₆ l₁₇ l₁₈) (λ w P ways.
+        sets ! (bin ! (var ! 30 refl) (lit ! tt) tt) 28 refl (tt, tt) $ tests ! (var ! 28 refl) (λ going. let y = eqb→eq (w .ending) 0 going in
         sets ! (addr ! (from ! (hop ! (look ! 48 refl) (stop !)))) 26 refl (tt, tt) $
         sets ! (addr ! (from ! (fld ! refl (hop ! (look-in ! 36 (sub ! 0 refl (whole !))) (stop !))))) 24 refl (tt, tt) $
-        sets ! (agg ! (and-then ! (var ! 24 refl) (and-then ! (load ! (from ! (fld ! refl (stop !))) (look-in ! 36 (sub ! 1 refl (whole !)))) (no-more !)))) 22 refl (sized (z .words .0)) $
+        sets ! (agg ! (and-then ! (var ! 24 refl) (and-then ! (load ! (from ! (fld ! refl (stop !))) (look-in ! 36 (sub ! 1 refl (whole !))))
+        (no-more !)))) 22 refl (sized (z .words .0)) $
         sets ! (addr ! (from ! (fld ! refl (hop ! (look-in ! 34 (sub ! 0 refl (whole !))) (stop !))))) 20 refl (tt, tt) $
-        sets ! (agg ! (and-then ! (var ! 20 refl) (and-then ! (load ! (from ! (fld ! refl (stop !))) (look-in ! 34 (sub ! 1 refl (whole !)))) (no-more !)))) 18 refl (sized (z .values .0)) $
+        sets ! (agg ! (and-then ! (var ! 20 refl) (and-then ! (load ! (from ! (fld ! refl (stop !))) (look-in ! 34 (sub ! 1 refl (whole !))))
+        (no-more !)))) 18 refl (sized (z .values .0)) $
         sets ! (addr ! (from ! (fld ! refl (hop ! (look-in ! 32 (sub ! 0 refl (whole !))) (stop !))))) 16 refl (tt, tt) $
-        sets ! (agg ! (and-then ! (var ! 16 refl) (and-then ! (load ! (from ! (fld ! refl (stop !))) (look-in ! 32 (sub ! 1 refl (whole !)))) (no-more !)))) 14 refl (sized (z .lines .0)) $
+        sets ! (agg ! (and-then ! (var ! 16 refl) (and-then ! (load ! (from ! (fld ! refl (stop !))) (look-in ! 32 (sub ! 1 refl (whole !))))
+        (no-more !)))) 14 refl (sized (z .lines .0)) $
         -- r and the slices are lent on
-        lft-new ! tt (λ ν.
-        move ! (1 ∷ 8 ∷ []) $
+        lft-new ! tt (λ ν. move ! (1 ∷ 8 ∷ []) $
         use2 W (later (some (λ (δ : GName). ‵ (Rn (ν ∷ []) δ (w .running)) ⊛ ‵ (WaitsR ν δ (w .running)))))
-        (lends-again 𝓤 H A W R.the-row (named 0) κ (ν ∷ []) q γ b o (named 0) (w .running)) $ await ! tt $ pick ! (λ δ.
-        split ! $
-        lft-new ! tt (λ ν₄.
-        move ! (4 ∷ 13 ∷ []) $
+        (lends-again 𝓤 H A W R.the-row (named 0) κ (ν ∷ []) q γ b o (named 0) (w .running)) $ await ! tt $ pick ! (λ δ. split ! $
+        lft-new ! tt (λ ν₄. move ! (4 ∷ 13 ∷ []) $
         use2 W (later (some (λ (ε : GName). ‵ (Wo (ν₄ ∷ []) ε (w .words)) ⊛ ‵ (WaitsW ν₄ ε (w .words)))))
-        (on.lends-on u32 (s .κ₄) (ν₄ ∷ []) (s .q₄) (s .words .name) (s .words .ptr .0) (s .words .ptr .1) 𝓤 H A W (named 4) (named 4) (sliceOf (s .words)) (w .words)) $ await ! tt $ pick ! (λ δ₄.
-        split ! $
-        lft-new ! tt (λ ν₅.
-        move ! (7 ∷ 15 ∷ []) $
+        (on.lends-on u32 (s .κ₄) (ν₄ ∷ []) (s .q₄) (s .words .name) (s .words .ptr .0) (s .words .ptr .1) 𝓤 H A W (named 4) (named 4) (sliceOf (s
+        .words)) (w .words)) $ await ! tt $ pick ! (λ δ₄.
+        split ! $ lft-new ! tt (λ ν₅. move ! (7 ∷ 15 ∷ []) $
         use2 W (later (some (λ (ε : GName). ‵ (Va (ν₅ ∷ []) ε (w .values)) ⊛ ‵ (WaitsV ν₅ ε (w .values)))))
-        (on.lends-on i32 (s .κ₅) (ν₅ ∷ []) (s .q₅) (s .values .name) (s .values .ptr .0) (s .values .ptr .1) 𝓤 H A W (named 5) (named 5) (sliceOf (s .values)) (w .values)) $ await ! tt $ pick ! (λ δ₅.
-        split ! $
-        lft-new ! tt (λ ν₆.
-        move ! (10 ∷ 17 ∷ []) $
+        (on.lends-on i32 (s .κ₅) (ν₅ ∷ []) (s .q₅) (s .values .name) (s .values .ptr .0) (s .values .ptr .1) 𝓤 H A W (named 5) (named 5) (sliceOf (s
+        .values)) (w .values)) $ await ! tt $ pick ! (λ δ₅.
+        split ! $ lft-new ! tt (λ ν₆. move ! (10 ∷ 17 ∷ []) $
         use2 W (later (some (λ (ε : GName). ‵ (Li (ν₆ ∷ []) ε (w .board)) ⊛ ‵ (WaitsL ν₆ ε (w .board)))))
-        (on.lends-on u8 (s .κ₆) (ν₆ ∷ []) (s .q₆) (s .lines .name) (s .lines .ptr .0) (s .lines .ptr .1) 𝓤 H A W (named 6) (named 6) (sliceOf (s .lines)) (w .board)) $ await ! tt $ pick ! (λ δ₆.
-        split ! $
-        move ! (12 ∷ []) $
-        use1 W (‵ Jo ⊛ ‵ Jo) (shr-slice-copy 𝓤 H A W (named 1) (s .κ₁) u8 .twice (s .job) (sliceOf (s .job) ∷ [])) $
-        split ! $
-        move ! (14 ∷ []) $
-        use1 W (‵ Ju ⊛ ‵ Ju) (shr-slice-copy 𝓤 H A W (named 2) (s .κ₂) u16 .twice (s .jumps) (sliceOf (s .jumps) ∷ [])) $
-        split ! $
-        move ! (16 ∷ []) $
-        use1 W (‵ Le ⊛ ‵ Le) (shr-slice-copy 𝓤 H A W (named 3) (s .κ₃) u8 .twice (s .levels) (sliceOf (s .levels) ∷ [])) $
-        split ! $
-        nothing ! $
-        move ! (9 ∷ 0 ∷ []) $
-        join ! $
-        move ! (11 ∷ 0 ∷ []) $
-        join ! $
-        move ! (13 ∷ 0 ∷ []) $
-        join ! $
-        move ! (18 ∷ 0 ∷ []) $
-        join ! $
-        move ! (17 ∷ 0 ∷ []) $
-        join ! $
-        move ! (16 ∷ 0 ∷ []) $
-        join ! $
-        move ! (15 ∷ 0 ∷ []) $
-        join ! $
-        nothing ! $
-        move ! (8 ∷ 0 ∷ []) $
-        fjoin ! $
-        move ! (9 ∷ 0 ∷ []) $
-        fjoin ! $
-        move ! (10 ∷ 0 ∷ []) $
-        fjoin ! $
-        owned ! u32 (Is u32) (uint-makes 𝓤 H A W w32) (s .limit) _ (refl, z .limit) $
-        fjoin ! $
-        owned ! F.the-row (Is F.the-row) (LL.makes F.the-type F′.the-plain 𝓤 H A) (s .f) _ (z .frame) $
-        fjoin ! $
-        move ! (3 ∷ 0 ∷ []) $
-        fjoin ! $
-        move ! (4 ∷ 0 ∷ []) $
-        fjoin ! $
-        move ! (5 ∷ 0 ∷ []) $
-        fjoin ! $
-        move ! (8 ∷ 0 ∷ []) $
-        fjoin ! $
-        move ! (1 ∷ 0 ∷ []) $
-        use2 W (raw (Step 𝓤 H A at-mem run .pre (to-step w ν ν₄ ν₅ ν₆ δ δ₄ δ₅ δ₆))) (goes-step w ν ν₄ ν₅ ν₆ δ δ₄ δ₅ δ₆ (startable (heldOf s) (slicesOf s) h (s .limit) pre w y)) $
+        (on.lends-on u8 (s .κ₆) (ν₆ ∷ []) (s .q₆) (s .lines .name) (s .lines .ptr .0) (s .lines .ptr .1) 𝓤 H A W (named 6) (named 6) (sliceOf (s
+        .lines)) (w .board)) $ await ! tt $ pick ! (λ δ₆.
+        split ! $ move ! (12 ∷ []) $
+        use1 W (‵ Jo ⊛ ‵ Jo) (shr-slice-copy 𝓤 H A W (named 1) (s .κ₁) u8 .twice (s .job) (sliceOf (s .job) ∷ [])) $ split ! $
+        move ! (14 ∷ []) $ use1 W (‵ Ju ⊛ ‵ Ju) (shr-slice-copy 𝓤 H A W (named 2) (s .κ₂) u16 .twice (s .jumps) (sliceOf (s .jumps) ∷ [])) $
+        split ! $ move ! (16 ∷ []) $
+        use1 W (‵ Le ⊛ ‵ Le) (shr-slice-copy 𝓤 H A W (named 3) (s .κ₃) u8 .twice (s .levels) (sliceOf (s .levels) ∷ [])) $ split ! $
+        nothing ! $ move ! (9 ∷ 0 ∷ []) $ join ! $ move ! (11 ∷ 0 ∷ []) $ join ! $ move ! (13 ∷ 0 ∷ []) $ join ! $ move ! (18 ∷ 0 ∷ []) $
+        join ! $ move ! (17 ∷ 0 ∷ []) $ join ! $ move ! (16 ∷ 0 ∷ []) $ join ! $ move ! (15 ∷ 0 ∷ []) $ join ! $ nothing ! $
+        move ! (8 ∷ 0 ∷ []) $ fjoin ! $ move ! (9 ∷ 0 ∷ []) $ fjoin ! $ move ! (10 ∷ 0 ∷ []) $ fjoin ! $
+        owned ! u32 (Is u32) (uint-makes 𝓤 H A W w32) (s .limit) _ (refl, z .limit) $ fjoin ! $
+        owned ! F.the-row (Is F.the-row) (LL.makes F.the-type F′.the-plain 𝓤 H A) (s .f) _ (z .frame) $ fjoin ! $ move ! (3 ∷ 0 ∷ []) $
+        fjoin ! $ move ! (4 ∷ 0 ∷ []) $ fjoin ! $ move ! (5 ∷ 0 ∷ []) $ fjoin ! $ move ! (8 ∷ 0 ∷ []) $ fjoin ! $ move ! (1 ∷ 0 ∷ []) $
+        use2 W (raw (Step 𝓤 H A at-mem run .pre (to-step w ν ν₄ ν₅ ν₆ δ δ₄ δ₅ δ₆))) (goes-step w ν ν₄ ν₅ ν₆ δ δ₄ δ₅ δ₆ (startable (heldOf s)
+        (slicesOf s) h (s .limit) pre w y)) $
         calls-at-last ! (fmOf 𝓤 H (W .laws) 𝓣) (Step 𝓤 H A at-mem run) known (to-step w ν ν₄ ν₅ ν₆ δ δ₄ δ₅ δ₆)
-        (and-then ! (var ! 20 refl) (and-then ! (var ! 40 refl) (and-then ! (var ! 38 refl) (and-then ! (var ! 36 refl) (and-then ! (var ! 34 refl) (and-then ! (var ! 32 refl) (and-then ! (var ! 16 refl) (and-then ! (var ! 12 refl) (and-then ! (var ! 8 refl) (no-more !)))))))))) (λ v.
+        (and-then ! (var ! 20 refl) (and-then ! (var ! 40 refl) (and-then ! (var ! 38 refl) (and-then ! (var ! 36 refl) (and-then ! (var ! 34 refl)
+        (and-then ! (var ! 32 refl) (and-then ! (var ! 16 refl) (and-then ! (var ! 12 refl) (and-then ! (var ! 8 refl) (no-more !)))))))))) (λ v.
         use1 W (later (some (λ (c : ℕ). (Toks w ν ν₄ ν₅ ν₆ δ δ₄ δ₅ δ₆ ⊛ ‵ (u8 .own c (v ∷ [])))
-        ⊛ raw (ensured 𝓤 H A st.ended (st.clauses 𝓤 H A at-mem run) (ν ∷ [], lftsOf (on-step w ν ν₄ ν₅ ν₆ δ δ₄ δ₅ δ₆)) (args w ν ν₄ ν₅ ν₆ δ δ₄ δ₅ δ₆) tt c)))) (id⊢ 𝓤 _) $ await ! tt $ pick ! (λ c.
-        split ! $
-        move ! (1 ∷ []) $
+        ⊛ raw (ensured 𝓤 H A st.ended (st.clauses 𝓤 H A at-mem run) (ν ∷ [], lftsOf (on-step w ν ν₄ ν₅ ν₆ δ δ₄ δ₅ δ₆)) (args w ν ν₄ ν₅ ν₆ δ δ₄ δ₅ δ₆)
+        tt c)))) (id⊢ 𝓤 _) $ await ! tt $ pick ! (λ c.
+        split ! $ move ! (1 ∷ []) $
         use1 W (some (λ (zs : Lasts). ‵ (lasts st.ended (ν ∷ [], lftsOf (on-step w ν ν₄ ν₅ ν₆ δ δ₄ δ₅ δ₆)) (args w ν ν₄ ν₅ ν₆ δ δ₄ δ₅ δ₆) zs)
-        ⊛ raw (fact 𝓤 (After w ν ν₄ ν₅ ν₆ δ δ₄ δ₅ δ₆ (zs .0) (zs .1 .1 .1 .1 .1 .1 .0) (zs .1 .1 .1 .1 .1 .1 .1 .0) (zs .1 .1 .1 .1 .1 .1 .1 .1 .0) c)))) (id⊢ 𝓤 _) $ pick ! (λ zs.
-        split ! $
-        move ! (1 ∷ []) $
+        ⊛ raw (fact 𝓤 (After w ν ν₄ ν₅ ν₆ δ δ₄ δ₅ δ₆ (zs .0) (zs .1 .1 .1 .1 .1 .1 .0) (zs .1 .1 .1 .1 .1 .1 .1 .0) (zs .1 .1 .1 .1 .1 .1 .1 .1 .0)
+        c)))) (id⊢ 𝓤 _) $ pick ! (λ zs.
+        split ! $ move ! (1 ∷ []) $
         heard ! (After w ν ν₄ ν₅ ν₆ δ δ₄ δ₅ δ₆ (zs .0) (zs .1 .1 .1 .1 .1 .1 .0) (zs .1 .1 .1 .1 .1 .1 .1 .0) (zs .1 .1 .1 .1 .1 .1 .1 .1 .0) c) (λ e.
-        fsplit ! $
-        move ! (1 ∷ []) $
-        fsplit ! $
-        drop ! $
-        fsplit ! $
-        drop ! $
-        fsplit ! $
-        drop ! $
-        fsplit ! $
-        drop ! $
-        fsplit ! $
-        drop ! $
-        fsplit ! $
-        fsplit ! $
-        move ! (1 ∷ []) $
-        feqL ! (λ ew.
-        move ! (1 ∷ []) $
-        fsplit ! $
-        fsplit ! $
-        move ! (1 ∷ []) $
-        feqL ! (λ ev.
-        move ! (1 ∷ []) $
-        fsplit ! $
-        fsplit ! $
-        move ! (1 ∷ []) $
-        feqL ! (λ el.
-        move ! (1 ∷ []) $
-        drop ! $
-        move ! (4 ∷ []) $
-        split ! $
-        move ! (1 ∷ []) $
-        peeks ! u8 (Is u8) (shows 𝓤 H A u8) c (v ∷ []) (λ is.
-        drop ! $
-        split ! $
-        move ! (1 ∷ []) $
-        split ! $
-        move ! (1 ∷ []) $
-        split ! $
-        move ! (1 ∷ []) $
-        split ! $
-        move ! (1 ∷ []) $
-        split ! $
-        move ! (1 ∷ []) $
-        split ! $
-        move ! (1 ∷ []) $
-        split ! $
-        move ! (1 ∷ []) $
-        drop ! $
+        fsplit ! $ move ! (1 ∷ []) $ fsplit ! $ drop ! $ fsplit ! $ drop ! $ fsplit ! $ drop ! $ fsplit ! $ drop ! $ fsplit ! $ drop ! $
+        fsplit ! $ fsplit ! $ move ! (1 ∷ []) $ feqL ! (λ ew. move ! (1 ∷ []) $ fsplit ! $ fsplit ! $ move ! (1 ∷ []) $ feqL ! (λ ev.
+        move ! (1 ∷ []) $ fsplit ! $ fsplit ! $ move ! (1 ∷ []) $ feqL ! (λ el. move ! (1 ∷ []) $ drop ! $ move ! (4 ∷ []) $ split ! $
+        move ! (1 ∷ []) $ peeks ! u8 (Is u8) (shows 𝓤 H A u8) c (v ∷ []) (λ is. drop ! $ split ! $ move ! (1 ∷ []) $ split ! $
+        move ! (1 ∷ []) $ split ! $ move ! (1 ∷ []) $ split ! $ move ! (1 ∷ []) $ split ! $ move ! (1 ∷ []) $ split ! $ move ! (1 ∷ []) $
+        split ! $ move ! (1 ∷ []) $ drop ! $
         -- the lifetimes of the call are over, and what was lent comes back
-        let n = stride (heldOf s) (slicesOf s) h (s .limit) w y (zs .1 .1 .1 .1 .1 .1 .0) (zs .1 .1 .1 .1 .1 .1 .1 .0) (zs .1 .1 .1 .1 .1 .1 .1 .1 .0) c (zs .0) (is .1) ew ev el e in
-        move ! (6 ∷ []) $
-        lft-end ! tt $
-        move ! (0 ∷ 17 ∷ 10 ∷ []) $
-        use3 W (later (‵ (Rn κ γ (zs .0)) ⊛ ‵ (flft κ q))) (comes-back 𝓤 H A W R.the-row (named 0) κ (ν ∷ []) q γ b o δ (w .running) (zs .0)) $ await ! tt $
-        split ! $
-        move ! (4 ∷ []) $
-        lft-end ! tt $
-        move ! (0 ∷ 16 ∷ 10 ∷ []) $
+        let n = stride (heldOf s) (slicesOf s) h (s .limit) w y (zs .1 .1 .1 .1 .1 .1 .0) (zs .1 .1 .1 .1 .1 .1 .1 .0) (zs .1 .1 .1 .1 .1 .1 .1 .1
+        .0) c (zs .0) (is .1) ew ev el e in
+        move ! (6 ∷ []) $ lft-end ! tt $ move ! (0 ∷ 17 ∷ 10 ∷ []) $
+        use3 W (later (‵ (Rn κ γ (zs .0)) ⊛ ‵ (flft κ q))) (comes-back 𝓤 H A W R.the-row (named 0) κ (ν ∷ []) q γ b o δ (w .running) (zs .0)) $ await
+        ! tt $
+        split ! $ move ! (4 ∷ []) $ lft-end ! tt $ move ! (0 ∷ 16 ∷ 10 ∷ []) $
         use3 W (later (‵ (Wo (s .κ₄) (s .words .name) (n .words)) ⊛ ‵ (flft (s .κ₄) (s .q₄))))
-        (on.comes-back u32 (s .κ₄) (ν₄ ∷ []) (s .q₄) (s .words .name) (s .words .ptr .0) (s .words .ptr .1) 𝓤 H A W (named 4) (named 4) (sliceOf (s .words)) (w .words) δ₄ (n .words) ew
+        (on.comes-back u32 (s .κ₄) (ν₄ ∷ []) (s .q₄) (s .words .name) (s .words .ptr .0) (s .words .ptr .1) 𝓤 H A W (named 4) (named 4) (sliceOf (s
+        .words)) (w .words) δ₄ (n .words) ew
         (ap (λ (m : ℕ). sliceVal (s .words .ptr) m ∷ []) (sym (n .long-words))) (subst (Room u32) (sym (n .long-words)) (z .words))) $ await ! tt $
-        split ! $
-        move ! (5 ∷ []) $
-        lft-end ! tt $
-        move ! (0 ∷ 15 ∷ 10 ∷ []) $
+        split ! $ move ! (5 ∷ []) $ lft-end ! tt $ move ! (0 ∷ 15 ∷ 10 ∷ []) $
         use3 W (later (‵ (Va (s .κ₅) (s .values .name) (n .values)) ⊛ ‵ (flft (s .κ₅) (s .q₅))))
-        (on.comes-back i32 (s .κ₅) (ν₅ ∷ []) (s .q₅) (s .values .name) (s .values .ptr .0) (s .values .ptr .1) 𝓤 H A W (named 5) (named 5) (sliceOf (s .values)) (w .values) δ₅ (n .values) ev
-        (ap (λ (m : ℕ). sliceVal (s .values .ptr) m ∷ []) (sym (n .long-values))) (subst (Room i32) (sym (n .long-values)) (z .values))) $ await ! tt $
-        split ! $
-        move ! (6 ∷ []) $
-        lft-end ! tt $
-        move ! (0 ∷ 14 ∷ 10 ∷ []) $
+        (on.comes-back i32 (s .κ₅) (ν₅ ∷ []) (s .q₅) (s .values .name) (s .values .ptr .0) (s .values .ptr .1) 𝓤 H A W (named 5) (named 5) (sliceOf
+        (s .values)) (w .values) δ₅ (n .values) ev
+        (ap (λ (m : ℕ). sliceVal (s .values .ptr) m ∷ []) (sym (n .long-values))) (subst (Room i32) (sym (n .long-values)) (z .values))) $ await ! tt
+        $
+        split ! $ move ! (6 ∷ []) $ lft-end ! tt $ move ! (0 ∷ 14 ∷ 10 ∷ []) $
         use3 W (later (‵ (Li (s .κ₆) (s .lines .name) (n .board)) ⊛ ‵ (flft (s .κ₆) (s .q₆))))
-        (on.comes-back u8 (s .κ₆) (ν₆ ∷ []) (s .q₆) (s .lines .name) (s .lines .ptr .0) (s .lines .ptr .1) 𝓤 H A W (named 6) (named 6) (sliceOf (s .lines)) (w .board) δ₆ (n .board) el
+        (on.comes-back u8 (s .κ₆) (ν₆ ∷ []) (s .q₆) (s .lines .name) (s .lines .ptr .0) (s .lines .ptr .1) 𝓤 H A W (named 6) (named 6) (sliceOf (s
+        .lines)) (w .board) δ₆ (n .board) el
         (ap (λ (m : ℕ). sliceVal (s .lines .ptr) m ∷ []) (sym (n .long-board))) (subst (Room u8) (sym (n .long-board)) (z .lines))) $ await ! tt $
-        split ! $
-        land-last ! (from ! (stop !)) (store ! 30 refl (uint-lawful 𝓤 H A W w8 .typed c _ is .0)) $
+        split ! $ land-last ! (from ! (stop !)) (store ! 30 refl (uint-lawful 𝓤 H A W w8 .typed c _ is .0)) $
         rewrite ! 30 (λ (u : Val). ‵ (fat fullShare (tyInt w8) l₁₀ 0 u)) (ap only (uint-tells w8 c (v ∷ []) is)) refl $
-        forget ! 28 refl $ forget ! 26 refl $ forget ! 24 refl $ forget ! 22 refl $ forget ! 20 refl $ forget ! 18 refl $ forget ! 16 refl $ forget ! 14 refl $
-        keep ! (6 ∷ 4 ∷ 2 ∷ 0 ∷ 13 ∷ 12 ∷ 11 ∷ 7 ∷ 10 ∷ 9 ∷ 8 ∷ 5 ∷ 3 ∷ 1 ∷ 14 ∷ 15 ∷ 16 ∷ 17 ∷ 18 ∷ 19 ∷ 20 ∷ 21 ∷ 22 ∷ 23 ∷ 24 ∷ 25 ∷ 26 ∷ 27 ∷ 28 ∷ 29 ∷ 30 ∷ 31 ∷ 32 ∷ 33 ∷ 34 ∷ 35 ∷ 36 ∷ 37 ∷ 38 ∷ 39 ∷ 40 ∷ 41 ∷ 42 ∷ 43 ∷ 44 ∷ 45 ∷ 46 ∷ 47 ∷ 48 ∷ 49 ∷ 50 ∷ 51 ∷ []) $
-        ways .end ! $ again ! (Less (heldOf s) (slicesOf s) h (s .limit)) (At l₀ l₁ l₂ l₃ l₄ l₅ l₆ l₇ l₈ l₉ l₁₀ l₁₁ l₁₂ l₁₃ l₁₄ l₁₅ l₁₆ l₁₇ l₁₈) w n (falls (heldOf s) (slicesOf s) h (s .limit) w y n (λ u. e .later u)))))))))))))))))))
-        (λ over. ways .out ! $
-        sets ! (of-opd ! (var ! 30 refl)) 50 refl (tt, record { fits = w .small }) $
-        returns ! (look ! 50 refl) $
-        forget ! 50 refl $
-        forget ! 48 refl $
-        forget ! 46 refl $
-        forget ! 44 refl $
-        forget ! 42 refl $
-        forget ! 40 refl $
-        forget ! 38 refl $
-        forget ! 36 refl $
-        forget ! 34 refl $
-        forget ! 32 refl $
-        forget ! 30 refl $
-        forget ! 28 refl $
-        move ! (50 ∷ 51 ∷ []) $
-        free1 ! $
-        move ! (48 ∷ 49 ∷ []) $
-        free1 ! $
-        move ! (46 ∷ 47 ∷ []) $
-        free1 ! $
-        move ! (44 ∷ 45 ∷ []) $
-        free1 ! $
-        move ! (42 ∷ 43 ∷ []) $
-        free1 ! $
-        move ! (40 ∷ 41 ∷ []) $
-        free1 ! $
-        move ! (38 ∷ 39 ∷ []) $
-        free1 ! $
-        move ! (36 ∷ 37 ∷ []) $
-        free1 ! $
-        move ! (34 ∷ 35 ∷ []) $
-        free1 ! $
-        move ! (32 ∷ 33 ∷ []) $
-        free1 ! $
-        move ! (30 ∷ 31 ∷ []) $
-        free1 ! $
-        move ! (28 ∷ 29 ∷ []) $
-        free1 ! $
-        move ! (26 ∷ 27 ∷ []) $
-        free1 ! $
-        move ! (24 ∷ 25 ∷ []) $
-        free1 ! $
-        move ! (22 ∷ 23 ∷ []) $
-        free1 ! $
-        move ! (20 ∷ 21 ∷ []) $
-        free1 ! $
-        move ! (18 ∷ 19 ∷ []) $
-        free1 ! $
-        move ! (16 ∷ 17 ∷ []) $
-        free1 ! $
-        move ! (14 ∷ 15 ∷ []) $
-        free1 ! $
-        free0 ! $
-        keep ! (0 ∷ 1 ∷ 2 ∷ 3 ∷ 7 ∷ 8 ∷ 9 ∷ 10 ∷ 11 ∷ 12 ∷ 13 ∷ []) $
-        by ! (exits w (λ u. not-over (w .ending) u over))))
+        forget ! 28 refl $ forget ! 26 refl $ forget ! 24 refl $ forget ! 22 refl $ forget ! 20 refl $ forget ! 18 refl $ forget ! 16 refl $ forget !
+        14 refl $
+        keep ! (6 ∷ 4 ∷ 2 ∷ 0 ∷ 13 ∷ 12 ∷ 11 ∷ 7 ∷ 10 ∷ 9 ∷ 8 ∷ 5 ∷ 3 ∷ 1 ∷ 14 ∷ 15 ∷ 16 ∷ 17 ∷ 18 ∷ 19 ∷ 20 ∷ 21 ∷ 22 ∷ 23 ∷ 24 ∷ 25 ∷ 26 ∷ 27 ∷ 28
+        ∷ 29 ∷ 30 ∷ 31 ∷ 32 ∷ 33 ∷ 34 ∷ 35 ∷ 36 ∷ 37 ∷ 38 ∷ 39 ∷ 40 ∷ 41 ∷ 42 ∷ 43 ∷ 44 ∷ 45 ∷ 46 ∷ 47 ∷ 48 ∷ 49 ∷ 50 ∷ 51 ∷ []) $
+        ways .end ! $ again ! (Less (heldOf s) (slicesOf s) h (s .limit)) (At l₀ l₁ l₂ l₃ l₄ l₅ l₆ l₇ l₈ l₉ l₁₀ l₁₁ l₁₂ l₁₃ l₁₄ l₁₅ l₁₆ l₁₇ l₁₈) w n
+        (falls (heldOf s) (slicesOf s) h (s .limit) w y n (λ u. e .later u)))))))))))))))))))
+        (λ over. ways .out ! $ sets ! (of-opd ! (var ! 30 refl)) 50 refl (tt, record { fits = w .small }) $ returns ! (look ! 50 refl) $
+        forget ! 50 refl $ forget ! 48 refl $ forget ! 46 refl $ forget ! 44 refl $ forget ! 42 refl $ forget ! 40 refl $ forget ! 38 refl $
+        forget ! 36 refl $ forget ! 34 refl $ forget ! 32 refl $ forget ! 30 refl $ forget ! 28 refl $ move ! (50 ∷ 51 ∷ []) $ free1 ! $
+        move ! (48 ∷ 49 ∷ []) $ free1 ! $ move ! (46 ∷ 47 ∷ []) $ free1 ! $ move ! (44 ∷ 45 ∷ []) $ free1 ! $ move ! (42 ∷ 43 ∷ []) $ free1 ! $
+        move ! (40 ∷ 41 ∷ []) $ free1 ! $ move ! (38 ∷ 39 ∷ []) $ free1 ! $ move ! (36 ∷ 37 ∷ []) $ free1 ! $ move ! (34 ∷ 35 ∷ []) $ free1 ! $
+        move ! (32 ∷ 33 ∷ []) $ free1 ! $ move ! (30 ∷ 31 ∷ []) $ free1 ! $ move ! (28 ∷ 29 ∷ []) $ free1 ! $ move ! (26 ∷ 27 ∷ []) $ free1 ! $
+        move ! (24 ∷ 25 ∷ []) $ free1 ! $ move ! (22 ∷ 23 ∷ []) $ free1 ! $ move ! (20 ∷ 21 ∷ []) $ free1 ! $ move ! (18 ∷ 19 ∷ []) $ free1 ! $
+        move ! (16 ∷ 17 ∷ []) $ free1 ! $ move ! (14 ∷ 15 ∷ []) $ free1 ! $ free0 ! $
+        keep ! (0 ∷ 1 ∷ 2 ∷ 3 ∷ 7 ∷ 8 ∷ 9 ∷ 10 ∷ 11 ∷ 12 ∷ 13 ∷ []) $ by ! (exits w (λ u. not-over (w .ending) u over))))
         (outset (heldOf s) (slicesOf s) h (s .limit) pre))))))))))))))))))))
 
-module _ {M : Type 1} (𝓤 : URA M) (H : Heap 𝓤) (A : Atoms 𝓤) (W : Given 𝓤 H A) (at-mem : Memory → SProp 𝓤) (run : Routine → Fun 𝓤) (𝓣 : Tables 𝓤 H) (known : Triple 𝓤 (𝓣 .C #step) (Step 𝓤 H A at-mem run)) where
+module _ {M : Type 1} (𝓤 : URA M) (H : Heap 𝓤) (A : Atoms 𝓤) (W : Given 𝓤 H A) (at-mem : Memory → SProp 𝓤) (run : Routine → Fun 𝓤) (𝓣 : Tables 𝓤 H)
+    (known : Triple 𝓤 (𝓣 .C #step) (Step 𝓤 H A at-mem run)) where
   walks : Walks 𝓤 H A run′.ended stayed (WpFn 𝓤 H (𝓣 .C) (𝓣 .Λ) code.function) (run′.clauses 𝓤 H A at-mem run)
   walks = walked 𝓤 H A run′.ended stayed (run′.clauses 𝓤 H A at-mem run) (WpFn 𝓤 H (𝓣 .C) (𝓣 .Λ) code.function)
-      (λ κs. (ptr-vals, (slice-vals, (slice-vals, (slice-vals, (LL.vals F.the-type F′.the-laws, (uint-vals w32, (slice-vals, (slice-vals, (slice-vals, tt))))))))))
+      (λ κs. (
+        ptr-vals,
+        (
+          slice-vals,
+          (
+            slice-vals,
+            (
+              slice-vals,
+              (
+                LL.vals F.the-type F′.the-laws,
+                (
+                  uint-vals w32,
+                  (
+                    slice-vals,
+                    (
+                      slice-vals,
+                      (slice-vals, tt),
+                    ),
+                  ),
+                ),
+              ),
+            ),
+          ),
+        ),
+      ))
       (λ κs. (
         mut-tells (named 0) (κs .0) R.the-row,
         (
@@ -557,7 +397,8 @@ module _ {M : Type 1} (𝓤 : URA M) (H : Heap 𝓤) (A : Atoms 𝓤) (W : Given
                   (
                     mut-slice-tells (named 4) (κs .1 .1 .1 .1 .0) u32,
                     (
-                      mut-slice-tells (named 5) (κs .1 .1 .1 .1 .1 .0) i32,
+                      mut-slice-tells (named 5) (κs .1 .1 .1
+                          .1 .1 .0) i32,
                       (mut-slice-tells (named 6) (κs .1 .1 .1 .1 .1 .1 .0) u8, tt),
                     ),
                   ),
@@ -574,7 +415,8 @@ module _ {M : Type 1} (𝓤 : URA M) (H : Heap 𝓤) (A : Atoms 𝓤) (W : Given
         jumps = are .1 .1 .0 .0 .1;
         levels = are .1 .1 .1 .0 .0 .1;
         frame = are .1 .1 .1 .1 .0;
-        limit = are .1 .1 .1 .1 .1 .0 .1;
+        limit = are .1 .1 .1
+            .1 .1 .0 .1;
         words = are .1 .1 .1 .1 .1 .1 .0 .0 .1;
         values = are .1 .1 .1 .1 .1 .1 .1 .0 .0 .1;
         lines = are .1 .1 .1 .1 .1 .1 .1 .1 .0 .0 .1;
@@ -586,17 +428,20 @@ module _ {M : Type 1} (𝓤 : URA M) (H : Heap 𝓤) (A : Atoms 𝓤) (W : Given
     (
       goes-dropped 𝓤 H A W 7 (shrSliceOf (1 ∷ []) tt (plain (λ _. u8))) yes (λ κs x f. refl),
       (
-        goes-dropped 𝓤 H A W 7 (shrSliceOf (2 ∷ []) tt (plain (λ _. u16))) yes (λ κs x f. refl),
+        goes-dropped 𝓤 H A W 7 (shrSliceOf (2 ∷ []) tt (plain
+            (λ _. u16))) yes (λ κs x f. refl),
         (
           goes-dropped 𝓤 H A W 7 (shrSliceOf (3 ∷ []) tt (plain (λ _. u8))) yes (λ κs x f. refl),
           (
-            goes-dropped 𝓤 H A W 7 (plain (λ _. F.the-row)) yes (λ κs x f. refl),
+            goes-dropped 𝓤 H A W 7 (plain (λ _. F.the-row)) yes
+                (λ κs x f. refl),
             (
               goes-dropped 𝓤 H A W 7 (plain (λ _. u32)) yes (λ κs x f. refl),
               (
                 goes-slice 𝓤 H A W 7 4 tt (plain (λ _. u32)),
                 (
-                  goes-slice 𝓤 H A W 7 5 tt (plain (λ _. i32)),
+                  goes-slice 𝓤 H A W 7 5 tt
+                      (plain (λ _. i32)),
                   (goes-slice 𝓤 H A W 7 6 tt (plain (λ _. u8)), tt),
                 ),
               ),

@@ -66,7 +66,8 @@ abbrev Lasts : Type 0
 Lasts = Unit {0} × (Unit {0} × (Unit {0} × (Unit {0} × (Unit {0} × (Unit {0} × (List ℕ × (List ℤ × (List ℕ × Unit {0}))))))))
 
 -- r is behind (b, o) under γ, with h
-module _ {M : Type 1} (𝓤 : URA M) (H : Heap 𝓤) (A : Atoms 𝓤) (W : Given 𝓤 H A) (at-mem : Memory → SProp 𝓤) (run : Routine → Fun 𝓤) (κ : Lft) (q : Share) (b o : ℕ) (γ : GName) (h : Running) (s : Passed) where
+module _ {M : Type 1} (𝓤 : URA M) (H : Heap 𝓤) (A : Atoms 𝓤) (W : Given 𝓤 H A) (at-mem : Memory → SProp 𝓤) (run : Routine → Fun 𝓤) (κ : Lft) (q :
+    Share) (b o : ℕ) (γ : GName) (h : Running) (s : Passed) where
   abbrev a : RefT Running × Args
   a = (record { ptr = (b, o); name = γ; now = h }, argsOf s)
 
@@ -90,7 +91,8 @@ module _ {M : Type 1} (𝓤 : URA M) (H : Heap 𝓤) (A : Atoms 𝓤) (W : Given
 
   abbrev Left : Running → List ℕ → List ℤ → List ℕ → List (Item 𝓤)
   Left r ws vs ls =
-      ‵ (fobs γ (R.the-row .coded .code r)) ∷ ‵ (fbor κ (Body (mem R.the-row) b o γ)) ∷ ‵ (flft κ q) ∷ Tokens s 𝓤 ∷ ‵ (finally u32 (s .words .name) ws)
+      ‵ (fobs γ (R.the-row .coded .code r)) ∷ ‵ (fbor κ (Body (mem R.the-row) b o γ)) ∷ ‵ (flft κ q) ∷ Tokens s 𝓤 ∷ ‵ (finally u32 (s .words .name)
+      ws)
       ∷ ‵ (finally i32 (s .values .name) vs) ∷ ‵ (finally u8 (s .lines .name) ls) ∷ []
 
   exits : (c : Stepped) (ws : List ℕ) (vs : List ℤ) (ls : List ℕ) → After ws vs ls c → length ws ≡ length (s .words .now)
@@ -100,31 +102,9 @@ module _ {M : Type 1} (𝓤 : URA M) (H : Heap 𝓤) (A : Atoms 𝓤) (W : Given
       qed W (Left (c .running) ws vs ls) ∵
       suffices ! _ (ends-at 𝓤 H A step′.ended stayed (step′.clauses 𝓤 H A at-mem run) W bound (vint w8 (c .stop)) (c .stop)
       (c .running, (tt, (tt, (tt, (tt, (tt, (ws, (vs, (ls, tt))))))))) (tt, (tt, (tt, (tt, (tt, (tt, (ew, (ev, (el, tt)))))))))) $ says ! e $
-      move ! (2 ∷ 3 ∷ []) $
-      join ! $
-      frame ! $
-      feqI ! (List Val) (vptr b o ∷ []) (vptr b o ∷ []) refl $
-      fjoin3 ! $
-      nothing ! $
-      move ! (4 ∷ 0 ∷ []) $
-      fjoin ! $
-      move ! (3 ∷ 0 ∷ []) $
-      fjoin ! $
-      move ! (2 ∷ 0 ∷ []) $
-      fjoin ! $
-      nothing ! $
-      fjoin ! $
-      nothing ! $
-      fjoin ! $
-      nothing ! $
-      fjoin ! $
-      nothing ! $
-      fjoin ! $
-      nothing ! $
-      fjoin ! $
-      move ! (1 ∷ 0 ∷ []) $
-      fjoin ! $
-      frame ! $
+      move ! (2 ∷ 3 ∷ []) $ join ! $ frame ! $ feqI ! (List Val) (vptr b o ∷ []) (vptr b o ∷ []) refl $ fjoin3 ! $ nothing ! $
+      move ! (4 ∷ 0 ∷ []) $ fjoin ! $ move ! (3 ∷ 0 ∷ []) $ fjoin ! $ move ! (2 ∷ 0 ∷ []) $ fjoin ! $ nothing ! $ fjoin ! $ nothing ! $
+      fjoin ! $ nothing ! $ fjoin ! $ nothing ! $ fjoin ! $ nothing ! $ fjoin ! $ move ! (1 ∷ 0 ∷ []) $ fjoin ! $ frame ! $
       owned ! u8 (Is u8) (uint-makes 𝓤 H A W w8) (c .stop) _ (refl, fits) $ done !
 
   module _ (𝓣 : Tables 𝓤 H) (known : Triple 𝓤 (𝓣 .C #turn) (Turn 𝓤 H A at-mem run)) where
@@ -132,84 +112,45 @@ module _ {M : Type 1} (𝓤 : URA M) (H : Heap 𝓤) (A : Atoms 𝓤) (W : Given
         (WpFn 𝓤 H (𝓣 .C) (𝓣 .Λ) code.function (vptr b o ∷ listed s) Post)
     walk z pre =
         qed W ((‵ (flft κ q) ⊛ Tokens s 𝓤) ∷ ‵ (owns (MutRef (named 0) κ R.the-row ∷ Rest s) a (vptr b o ∷ [], valsOf s)) ∷ []) ∵
-        split ! $
-        move ! (2 ∷ []) $
-        fsplit ! $
-        enter ! (𝓣 .C) (𝓣 .Λ) code.function _ _ $
-        alloc1 ! (λ l₀. alloc1 ! (λ l₁. alloc1 ! (λ l₂. alloc1 ! (λ l₃. alloc1 ! (λ l₄. alloc1 ! (λ l₅. alloc1 ! (λ l₆. alloc1 ! (λ l₇. alloc1 ! (λ l₈. alloc1 ! (λ l₉. alloc1 ! (λ l₁₀. alloc1 ! (λ l₁₁. alloc1 ! (λ l₁₂. alloc1 ! (λ l₁₃. alloc1 ! (λ l₁₄. alloc1 ! (λ l₁₅. alloc1 ! (λ l₁₆. alloc1 ! (λ l₁₇. alloc1 ! (λ l₁₈. alloc0 ! $ params1 ! $
-        pass1 ! (init ! 34 refl (tt, tt)) $
-        pass1 ! (init ! 32 refl (sized (z .job .0))) $
-        pass1 ! (init ! 30 refl (sized (z .jumps .0))) $
+        split ! $ move ! (2 ∷ []) $ fsplit ! $ enter ! (𝓣 .C) (𝓣 .Λ) code.function _ _ $
+        alloc1 ! (λ l₀. alloc1 ! (λ l₁. alloc1 ! (λ l₂. alloc1 ! (λ l₃. alloc1 ! (λ l₄. alloc1 ! (λ l₅. alloc1 ! (λ l₆. alloc1 ! (λ l₇. alloc1 ! (λ
+        l₈. alloc1 ! (λ l₉. alloc1 ! (λ l₁₀. alloc1 ! (λ l₁₁. alloc1 ! (λ l₁₂. alloc1 ! (λ l₁₃. alloc1 ! (λ l₁₄. alloc1 ! (λ l₁₅. alloc1 ! (λ l₁₆.
+        alloc1 ! (λ l₁₇. alloc1 ! (λ l₁₈. alloc0 ! $ params1 ! $
+        pass1 ! (init ! 34 refl (tt, tt)) $ pass1 ! (init ! 32 refl (sized (z .job .0))) $ pass1 ! (init ! 30 refl (sized (z .jumps .0))) $
         pass1 ! (init ! 28 refl (sized (z .levels .0))) $
         pass1 ! (init ! 26 refl (LL.lawful F.the-type F′.the-laws 𝓤 H A W .typed (s .f) _ (z .frame) .0)) $
-        pass1 ! (init ! 24 refl (tt, record { fits = z .limit })) $
-        pass1 ! (init ! 22 refl (sized (z .words .0))) $
-        pass1 ! (init ! 20 refl (sized (z .values .0))) $
-        pass1 ! (init ! 18 refl (sized (z .lines .0))) $
-        pass0 ! $
-        move ! (38 ∷ []) $
-        fsplit3 ! $
-        drop ! $
-        move ! (0 ∷ 1 ∷ 41 ∷ []) $
-        opens ! tt R.the-row {h = h} b o (λ us.
-        spelt ! R.the-row (Is R.the-row) (shows 𝓤 H A R.the-row) (LL.vals R.the-type R′.the-laws) (LL.tells R.the-type R′.the-laws) fullShare h us b o $
-        move ! (1 ∷ []) $
-        peeks ! R.the-row (Is R.the-row) (shows 𝓤 H A R.the-row) h (mach h ∷ []) (λ g.
+        pass1 ! (init ! 24 refl (tt, record { fits = z .limit })) $ pass1 ! (init ! 22 refl (sized (z .words .0))) $
+        pass1 ! (init ! 20 refl (sized (z .values .0))) $ pass1 ! (init ! 18 refl (sized (z .lines .0))) $ pass0 ! $ move ! (38 ∷ []) $
+        fsplit3 ! $ drop ! $ move ! (0 ∷ 1 ∷ 41 ∷ []) $ opens ! tt R.the-row {h = h} b o (λ us.
+        spelt ! R.the-row (Is R.the-row) (shows 𝓤 H A R.the-row) (LL.vals R.the-type R′.the-laws) (LL.tells R.the-type R′.the-laws) fullShare h us b
+        o $
+        move ! (1 ∷ []) $ peeks ! R.the-row (Is R.the-row) (shows 𝓤 H A R.the-row) h (mach h ∷ []) (λ g.
         -- the record is copied, and the slices are passed on
-        sets ! (of-opd ! (load ! (from ! (hop ! (look ! 39 refl) (stop !))) (look-raw ! 1 refl))) 21 refl (LL.lawful R.the-type R′.the-laws 𝓤 H A W .typed h _ g .0) $
+        sets ! (of-opd ! (load ! (from ! (hop ! (look ! 39 refl) (stop !))) (look-raw ! 1 refl))) 21 refl (LL.lawful R.the-type R′.the-laws 𝓤 H A W
+        .typed h _ g .0) $
         sets ! (addr ! (from ! (fld ! refl (hop ! (look-in ! 27 (sub ! 0 refl (whole !))) (stop !))))) 15 refl (tt, tt) $
-        sets ! (agg ! (and-then ! (var ! 15 refl) (and-then ! (load ! (from ! (fld ! refl (stop !))) (look-in ! 27 (sub ! 1 refl (whole !)))) (no-more !)))) 13 refl (sized (z .words .0)) $
+        sets ! (agg ! (and-then ! (var ! 15 refl) (and-then ! (load ! (from ! (fld ! refl (stop !))) (look-in ! 27 (sub ! 1 refl (whole !))))
+        (no-more !)))) 13 refl (sized (z .words .0)) $
         sets ! (addr ! (from ! (fld ! refl (hop ! (look-in ! 25 (sub ! 0 refl (whole !))) (stop !))))) 11 refl (tt, tt) $
-        sets ! (agg ! (and-then ! (var ! 11 refl) (and-then ! (load ! (from ! (fld ! refl (stop !))) (look-in ! 25 (sub ! 1 refl (whole !)))) (no-more !)))) 9 refl (sized (z .values .0)) $
+        sets ! (agg ! (and-then ! (var ! 11 refl) (and-then ! (load ! (from ! (fld ! refl (stop !))) (look-in ! 25 (sub ! 1 refl (whole !))))
+        (no-more !)))) 9 refl (sized (z .values .0)) $
         sets ! (addr ! (from ! (fld ! refl (hop ! (look-in ! 23 (sub ! 0 refl (whole !))) (stop !))))) 7 refl (tt, tt) $
-        sets ! (agg ! (and-then ! (var ! 7 refl) (and-then ! (load ! (from ! (fld ! refl (stop !))) (look-in ! 23 (sub ! 1 refl (whole !)))) (no-more !)))) 5 refl (sized (z .lines .0)) $
-        owned ! R.the-row (Is R.the-row) (LL.makes R.the-type R′.the-plain 𝓤 H A) h (mach h ∷ []) g $
-        move ! (0 ∷ 44 ∷ []) $
-        fjoin ! $
-        move ! (44 ∷ 0 ∷ []) $
-        use2 W (raw (Turn 𝓤 H A at-mem run .pre to-turn)) (goes-turn pre) $
+        sets ! (agg ! (and-then ! (var ! 7 refl) (and-then ! (load ! (from ! (fld ! refl (stop !))) (look-in ! 23 (sub ! 1 refl (whole !)))) (no-more
+        !)))) 5 refl (sized (z .lines .0)) $
+        owned ! R.the-row (Is R.the-row) (LL.makes R.the-type R′.the-plain 𝓤 H A) h (mach h ∷ []) g $ move ! (0 ∷ 44 ∷ []) $ fjoin ! $
+        move ! (44 ∷ 0 ∷ []) $ use2 W (raw (Turn 𝓤 H A at-mem run .pre to-turn)) (goes-turn pre) $
         calls-at ! (fmOf 𝓤 H (W .laws) 𝓣) (Turn 𝓤 H A at-mem run) known to-turn
-        (and-then ! (var ! 22 refl) (and-then ! (var ! 38 refl) (and-then ! (var ! 36 refl) (and-then ! (var ! 34 refl) (and-then ! (var ! 32 refl) (and-then ! (var ! 30 refl) (and-then ! (var ! 14 refl) (and-then ! (var ! 10 refl) (and-then ! (var ! 6 refl) (no-more !)))))))))) (λ v.
+        (and-then ! (var ! 22 refl) (and-then ! (var ! 38 refl) (and-then ! (var ! 36 refl) (and-then ! (var ! 34 refl) (and-then ! (var ! 32 refl)
+        (and-then ! (var ! 30 refl) (and-then ! (var ! 14 refl) (and-then ! (var ! 10 refl) (and-then ! (var ! 6 refl) (no-more !)))))))))) (λ v.
         use1 W (later (some (λ (c : Stepped). (Tokens s 𝓤 ⊛ ‵ (S.the-row .own c (v ∷ [])))
         ⊛ raw (ensured 𝓤 H A tu.ended (tu.clauses 𝓤 H A at-mem run) (lftsOf s) (h, argsOf s) tt c)))) (id⊢ 𝓤 _) $ await ! tt $ pick ! (λ c.
-        split ! $
-        move ! (1 ∷ []) $
-        use1 W (some (λ (zs : Lasts). ‵ (lasts tu.ended (lftsOf s) (h, argsOf s) zs)
+        split ! $ move ! (1 ∷ []) $ use1 W (some (λ (zs : Lasts). ‵ (lasts tu.ended (lftsOf s) (h, argsOf s) zs)
         ⊛ raw (fact 𝓤 (After (zs .1 .1 .1 .1 .1 .1 .0) (zs .1 .1 .1 .1 .1 .1 .1 .0) (zs .1 .1 .1 .1 .1 .1 .1 .1 .0) c)))) (id⊢ 𝓤 _) $ pick ! (λ zs.
-        split ! $
-        move ! (1 ∷ []) $
-        heard ! (After (zs .1 .1 .1 .1 .1 .1 .0) (zs .1 .1 .1 .1 .1 .1 .1 .0) (zs .1 .1 .1 .1 .1 .1 .1 .1 .0) c) (λ e.
-        fsplit ! $
-        drop ! $
-        fsplit ! $
-        drop ! $
-        fsplit ! $
-        drop ! $
-        fsplit ! $
-        drop ! $
-        fsplit ! $
-        drop ! $
-        fsplit ! $
-        drop ! $
-        fsplit ! $
-        fsplit ! $
-        move ! (1 ∷ []) $
-        feqL ! (λ ew.
-        move ! (1 ∷ []) $
-        fsplit ! $
-        fsplit ! $
-        move ! (1 ∷ []) $
-        feqL ! (λ ev.
-        move ! (1 ∷ []) $
-        fsplit ! $
-        fsplit ! $
-        move ! (1 ∷ []) $
-        feqL ! (λ el.
-        move ! (1 ∷ []) $
-        drop ! $
-        move ! (3 ∷ []) $
-        split ! $
-        move ! (1 ∷ []) $
+        split ! $ move ! (1 ∷ []) $
+        heard ! (After (zs .1 .1 .1 .1 .1 .1 .0) (zs .1 .1 .1 .1 .1 .1 .1 .0) (zs .1 .1 .1 .1 .1 .1 .1 .1 .0) c) (λ e. fsplit ! $ drop ! $
+        fsplit ! $ drop ! $ fsplit ! $ drop ! $ fsplit ! $ drop ! $ fsplit ! $ drop ! $ fsplit ! $ drop ! $ fsplit ! $ fsplit ! $
+        move ! (1 ∷ []) $ feqL ! (λ ew. move ! (1 ∷ []) $ fsplit ! $ fsplit ! $ move ! (1 ∷ []) $ feqL ! (λ ev. move ! (1 ∷ []) $ fsplit ! $
+        fsplit ! $ move ! (1 ∷ []) $ feqL ! (λ el. move ! (1 ∷ []) $ drop ! $ move ! (3 ∷ []) $ split ! $ move ! (1 ∷ []) $
         peeks ! S.the-row (Is S.the-row) (shows 𝓤 H A S.the-row) c (v ∷ []) (λ is.
         let parts = LL.owed S.the-type S′.the-laws c _ is in
         let typed = LL.lawful R.the-type R′.the-laws 𝓤 H A W .typed (c .running) _ (parts .1 .0) .0 in
@@ -219,76 +160,51 @@ module _ {M : Type 1} (𝓤 : URA M) (H : Heap 𝓤) (A : Atoms 𝓤) (W : Given
         sets ! (of-opd ! (load ! (from ! (fld ! refl (stop !))) (look-in ! 24 (sub ! 1 refl (whole !))))) 22 refl typed $
         assigns ! (of-opd ! (var ! 22 refl)) (from ! (hop ! (look ! 44 refl) (stop !))) (store-raw ! 6 refl typed) $
         owned ! R.the-row (Is R.the-row) (LL.makes R.the-type R′.the-plain 𝓤 H A) (c .running) (inner c ∷ []) (parts .1 .0) $
-        keep ! (0 ∷ 2 ∷ 3 ∷ 4 ∷ 5 ∷ 7 ∷ 8 ∷ 9 ∷ 10 ∷ 11 ∷ 12 ∷ 13 ∷ 14 ∷ 15 ∷ 16 ∷ 17 ∷ 18 ∷ 19 ∷ 20 ∷ 21 ∷ 22 ∷ 23 ∷ 24 ∷ 25 ∷ 26 ∷ 27 ∷ 28 ∷ 29 ∷ 30 ∷ 31 ∷ 32 ∷ 33 ∷ 34 ∷ 35 ∷ 36 ∷ 37 ∷ 38 ∷ 39 ∷ 40 ∷ 41 ∷ 42 ∷ 43 ∷ 44 ∷ 45 ∷ 46 ∷ 47 ∷ 48 ∷ []) $
-        move ! (5 ∷ 0 ∷ 6 ∷ 7 ∷ 8 ∷ []) $
-        closes ! tt R.the-row (c .running) (inner c ∷ []) b o $
-        sets ! (of-opd ! (load ! (from ! (fld ! refl (stop !))) (look-in ! 21 (sub ! 0 refl (whole !))))) 43 refl (tt, record { fits = parts .0 .1 }) $
-        returns ! (look ! 43 refl) $
-        forget ! 43 refl $
-        forget ! 41 refl $
-        forget ! 39 refl $
-        forget ! 37 refl $
-        forget ! 35 refl $
-        forget ! 33 refl $
-        forget ! 31 refl $
-        forget ! 29 refl $
-        forget ! 27 refl $
-        forget ! 25 refl $
-        forget ! 23 refl $
-        forget ! 21 refl $
-        forget ! 19 refl $
-        forget ! 17 refl $
-        forget ! 15 refl $
-        forget ! 13 refl $
-        forget ! 11 refl $
-        forget ! 9 refl $
-        forget ! 7 refl $
-        move ! (43 ∷ 44 ∷ []) $
-        free1 ! $
-        move ! (41 ∷ 42 ∷ []) $
-        free1 ! $
-        move ! (39 ∷ 40 ∷ []) $
-        free1 ! $
-        move ! (37 ∷ 38 ∷ []) $
-        free1 ! $
-        move ! (35 ∷ 36 ∷ []) $
-        free1 ! $
-        move ! (33 ∷ 34 ∷ []) $
-        free1 ! $
-        move ! (31 ∷ 32 ∷ []) $
-        free1 ! $
-        move ! (29 ∷ 30 ∷ []) $
-        free1 ! $
-        move ! (27 ∷ 28 ∷ []) $
-        free1 ! $
-        move ! (25 ∷ 26 ∷ []) $
-        free1 ! $
-        move ! (23 ∷ 24 ∷ []) $
-        free1 ! $
-        move ! (21 ∷ 22 ∷ []) $
-        free1 ! $
-        move ! (19 ∷ 20 ∷ []) $
-        free1 ! $
-        move ! (17 ∷ 18 ∷ []) $
-        free1 ! $
-        move ! (15 ∷ 16 ∷ []) $
-        free1 ! $
-        move ! (13 ∷ 14 ∷ []) $
-        free1 ! $
-        move ! (11 ∷ 12 ∷ []) $
-        free1 ! $
-        move ! (9 ∷ 10 ∷ []) $
-        free1 ! $
-        move ! (7 ∷ 8 ∷ []) $
-        free1 ! $
-        free0 ! $
+        keep ! (0 ∷ 2 ∷ 3 ∷ 4 ∷ 5 ∷ 7 ∷ 8 ∷ 9 ∷ 10 ∷ 11 ∷ 12 ∷ 13 ∷ 14 ∷ 15 ∷ 16 ∷ 17 ∷ 18 ∷ 19 ∷ 20 ∷ 21 ∷ 22 ∷ 23 ∷ 24 ∷ 25 ∷ 26 ∷ 27 ∷ 28 ∷ 29 ∷
+        30 ∷ 31 ∷ 32 ∷ 33 ∷ 34 ∷ 35 ∷ 36 ∷ 37 ∷ 38 ∷ 39 ∷ 40 ∷ 41 ∷ 42 ∷ 43 ∷ 44 ∷ 45 ∷ 46 ∷ 47 ∷ 48 ∷ []) $
+        move ! (5 ∷ 0 ∷ 6 ∷ 7 ∷ 8 ∷ []) $ closes ! tt R.the-row (c .running) (inner c ∷ []) b o $
+        sets ! (of-opd ! (load ! (from ! (fld ! refl (stop !))) (look-in ! 21 (sub ! 0 refl (whole !))))) 43 refl (tt, record { fits = parts .0 .1 })
+        $
+        returns ! (look ! 43 refl) $ forget ! 43 refl $ forget ! 41 refl $ forget ! 39 refl $ forget ! 37 refl $ forget ! 35 refl $
+        forget ! 33 refl $ forget ! 31 refl $ forget ! 29 refl $ forget ! 27 refl $ forget ! 25 refl $ forget ! 23 refl $ forget ! 21 refl $
+        forget ! 19 refl $ forget ! 17 refl $ forget ! 15 refl $ forget ! 13 refl $ forget ! 11 refl $ forget ! 9 refl $ forget ! 7 refl $
+        move ! (43 ∷ 44 ∷ []) $ free1 ! $ move ! (41 ∷ 42 ∷ []) $ free1 ! $ move ! (39 ∷ 40 ∷ []) $ free1 ! $ move ! (37 ∷ 38 ∷ []) $ free1 ! $
+        move ! (35 ∷ 36 ∷ []) $ free1 ! $ move ! (33 ∷ 34 ∷ []) $ free1 ! $ move ! (31 ∷ 32 ∷ []) $ free1 ! $ move ! (29 ∷ 30 ∷ []) $ free1 ! $
+        move ! (27 ∷ 28 ∷ []) $ free1 ! $ move ! (25 ∷ 26 ∷ []) $ free1 ! $ move ! (23 ∷ 24 ∷ []) $ free1 ! $ move ! (21 ∷ 22 ∷ []) $ free1 ! $
+        move ! (19 ∷ 20 ∷ []) $ free1 ! $ move ! (17 ∷ 18 ∷ []) $ free1 ! $ move ! (15 ∷ 16 ∷ []) $ free1 ! $ move ! (13 ∷ 14 ∷ []) $ free1 ! $
+        move ! (11 ∷ 12 ∷ []) $ free1 ! $ move ! (9 ∷ 10 ∷ []) $ free1 ! $ move ! (7 ∷ 8 ∷ []) $ free1 ! $ free0 ! $
         keep ! (0 ∷ 1 ∷ 2 ∷ 3 ∷ 6 ∷ 5 ∷ 4 ∷ []) $
         by ! (exits c _ _ _ e ew ev el (parts .0 .1)))))))))))))))))))))))))))))))
 
-module _ {M : Type 1} (𝓤 : URA M) (H : Heap 𝓤) (A : Atoms 𝓤) (W : Given 𝓤 H A) (at-mem : Memory → SProp 𝓤) (run : Routine → Fun 𝓤) (𝓣 : Tables 𝓤 H) (known : Triple 𝓤 (𝓣 .C #turn) (Turn 𝓤 H A at-mem run)) where
+module _ {M : Type 1} (𝓤 : URA M) (H : Heap 𝓤) (A : Atoms 𝓤) (W : Given 𝓤 H A) (at-mem : Memory → SProp 𝓤) (run : Routine → Fun 𝓤) (𝓣 : Tables 𝓤 H)
+    (known : Triple 𝓤 (𝓣 .C #turn) (Turn 𝓤 H A at-mem run)) where
   walks : Walks 𝓤 H A step′.ended stayed (WpFn 𝓤 H (𝓣 .C) (𝓣 .Λ) code.function) (step′.clauses 𝓤 H A at-mem run)
   walks = walked 𝓤 H A step′.ended stayed (step′.clauses 𝓤 H A at-mem run) (WpFn 𝓤 H (𝓣 .C) (𝓣 .Λ) code.function)
-      (λ κs. (ptr-vals, (slice-vals, (slice-vals, (slice-vals, (LL.vals F.the-type F′.the-laws, (uint-vals w32, (slice-vals, (slice-vals, (slice-vals, tt))))))))))
+      (λ κs. (
+        ptr-vals,
+        (
+          slice-vals,
+          (
+            slice-vals,
+            (
+              slice-vals,
+              (
+                LL.vals F.the-type F′.the-laws,
+                (
+                  uint-vals w32,
+                  (
+                    slice-vals,
+                    (
+                      slice-vals,
+                      (slice-vals, tt),
+                    ),
+                  ),
+                ),
+              ),
+            ),
+          ),
+        ),
+      ))
       (λ κs. (
         mut-tells (named 0) (κs .0) R.the-row,
         (
@@ -304,7 +220,8 @@ module _ {M : Type 1} (𝓤 : URA M) (H : Heap 𝓤) (A : Atoms 𝓤) (W : Given
                   (
                     mut-slice-tells (named 4) (κs .1 .1 .1 .1 .0) u32,
                     (
-                      mut-slice-tells (named 5) (κs .1 .1 .1 .1 .1 .0) i32,
+                      mut-slice-tells (named 5) (κs .1 .1 .1
+                          .1 .1 .0) i32,
                       (mut-slice-tells (named 6) (κs .1 .1 .1 .1 .1 .1 .0) u8, tt),
                     ),
                   ),
@@ -321,7 +238,8 @@ module _ {M : Type 1} (𝓤 : URA M) (H : Heap 𝓤) (A : Atoms 𝓤) (W : Given
         jumps = are .1 .1 .0 .0 .1;
         levels = are .1 .1 .1 .0 .0 .1;
         frame = are .1 .1 .1 .1 .0;
-        limit = are .1 .1 .1 .1 .1 .0 .1;
+        limit = are .1 .1 .1
+            .1 .1 .0 .1;
         words = are .1 .1 .1 .1 .1 .1 .0 .0 .1;
         values = are .1 .1 .1 .1 .1 .1 .1 .0 .0 .1;
         lines = are .1 .1 .1 .1 .1 .1 .1 .1 .0 .0 .1;
@@ -333,17 +251,20 @@ module _ {M : Type 1} (𝓤 : URA M) (H : Heap 𝓤) (A : Atoms 𝓤) (W : Given
     (
       goes-dropped 𝓤 H A W 7 (shrSliceOf (1 ∷ []) tt (plain (λ _. u8))) yes (λ κs x f. refl),
       (
-        goes-dropped 𝓤 H A W 7 (shrSliceOf (2 ∷ []) tt (plain (λ _. u16))) yes (λ κs x f. refl),
+        goes-dropped 𝓤 H A W 7 (shrSliceOf (2 ∷ []) tt (plain
+            (λ _. u16))) yes (λ κs x f. refl),
         (
           goes-dropped 𝓤 H A W 7 (shrSliceOf (3 ∷ []) tt (plain (λ _. u8))) yes (λ κs x f. refl),
           (
-            goes-dropped 𝓤 H A W 7 (plain (λ _. F.the-row)) yes (λ κs x f. refl),
+            goes-dropped 𝓤 H A W 7 (plain (λ _. F.the-row)) yes
+                (λ κs x f. refl),
             (
               goes-dropped 𝓤 H A W 7 (plain (λ _. u32)) yes (λ κs x f. refl),
               (
                 goes-gave-slice 𝓤 H A W 7 4 tt (plain (λ _. u32)),
                 (
-                  goes-gave-slice 𝓤 H A W 7 5 tt (plain (λ _. i32)),
+                  goes-gave-slice 𝓤 H A W 7
+                      5 tt (plain (λ _. i32)),
                   (goes-gave-slice 𝓤 H A W 7 6 tt (plain (λ _. u8)), tt),
                 ),
               ),
