@@ -130,6 +130,7 @@ pub record Steps (h : Held) (x x′ : Slices) (r : Running) (a : Stepped) : Type
 abbrev pub ended : ℕ
 ended = 255
 
+-- the number that a step hands back for an ending
 unfoldable pub codeOf : Ending → ℕ
 codeOf finished = ended
 codeOf (stopped k) = stopNumber k
@@ -173,5 +174,6 @@ pub record Turns (h : Held) (x x′ : Slices) (r : Running) (limit : ℕ) (a : S
   pub later : a .stop ≡ 0 → (a .running .steps ≡ suc (r .steps)) × (a .running .steps ≤ limit)
   pub ends : (a .stop ≡ 0 → ⊥) → Runs h x x′ r (limit - r .steps) a
 
+-- an answer by its parts
 abbrev pub stepped : ℕ → Running → Stepped
 stepped k r = record { stop = k; running = r }
