@@ -6,8 +6,7 @@ use super::step::Frame;
 use super::step::carry_out;
 use rules::limits::SPENT;
 ghost use mathlib.Core.Path.{_≡_};
-ghost use Prim.Native.Nat.{_≤_, _-_};
-ghost use Rattle.rules.specs.Limits.{maxBudget};
+ghost use Prim.Native.Nat.{_-_};
 ghost use Rattle.monitor.specs.Shows.{slices};
 ghost use Rattle.monitor.specs.Stands.{held, Startable, stepped, Turns, Runs};
 
