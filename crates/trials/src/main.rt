@@ -1,5 +1,5 @@
 // Puts jobs in text form, one to a line of standard input, through the run over job bytes, and prints what each comes to.
-mod print;
+mod report;
 mod settings;
 
 ghost use Prim.Native.Nat.{_≤_};
@@ -29,7 +29,7 @@ fn run_lent(
     lines: &mut [u8],
 ) {
     let o = run_words(bytes, budget, words, levels, values, lines);
-    print::show(name, o, lines, values, variables(bytes));
+    report::show(name, o, lines, values, variables(bytes));
 }
 
 // Lends a job buffers of the lengths that it asks for.

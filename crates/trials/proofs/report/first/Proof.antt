@@ -2,8 +2,8 @@
 use mathlib.Core.Path.{sym}
 use lib.Seq.{length-take-le}
 use borrow.Author.Needs.{needs}
-use Rattle.trials.proofs.print.first.Statement.{statement}
-use Rattle.trials.proofs.print.first.Tie as tie
+use Rattle.trials.proofs.report.first.Statement.{statement}
+use Rattle.trials.proofs.report.first.Tie as tie
 
 slice-aggregate-numbers : tie.Need-slice-aggregate-numbers
 slice-aggregate-numbers c = sym (length-take-le _ _ (c .before .at-most .ensures))

@@ -2,8 +2,8 @@
 use Prim.Native.Nat.{_/_, _-_, _≤_}
 use lib.ListN.{length}
 use borrow.Author.Needs.{needs}
-use Rattle.trials.proofs.print.board.Statement.{statement}
-use Rattle.trials.proofs.print.board.Tie as tie
+use Rattle.trials.proofs.report.board.Statement.{statement}
+use Rattle.trials.proofs.report.board.Tie as tie
 
 abbrev Inv-loop : tie.InvT-loop
 Inv-loop lines n k i₀ i = (i ≤ k) × (k ≤ length lines / 4)

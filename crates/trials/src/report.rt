@@ -3,6 +3,7 @@ use super::settings::at_most;
 use job::reads::signed_at;
 use libc::STDOUT_FILENO;
 use monitor::Outcome;
+use print::answer;
 use rules::numbers::bits;
 
 // A name with a number.
@@ -47,45 +48,9 @@ fn board(lines: &[u8], n: usize) {
     }
 }
 
-// Ending, record index, steps and line count.
-struct Ended {
-    ending: u8,
-    index: usize,
-    steps: u32,
-    lines: usize,
-}
-
-fn answer_of(o: Outcome) -> Ended {
-    match o {
-        Outcome::Refused { number, index } => Ended {
-            ending: number,
-            index,
-            steps: 0,
-            lines: 0,
-        },
-        Outcome::Finished { steps, lines } => Ended {
-            ending: 0,
-            index: 0,
-            steps,
-            lines,
-        },
-        Outcome::Stopped {
-            number,
-            index,
-            steps,
-            lines,
-        } => Ended {
-            ending: number,
-            index,
-            steps,
-            lines,
-        },
-    }
-}
-
 // The name, the answer, the board lines and the values of the variables.
 pub fn show(name: &[u8], o: Outcome, lines: &[u8], values: &[i32], variables: usize) {
-    let a = answer_of(o);
+    let a = answer::of(o);
     io::write_all(STDOUT_FILENO, name);
     item(b": ending ", a.ending as u64);
     item(b" at ", a.index as u64);
