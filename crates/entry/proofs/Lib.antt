@@ -3,5 +3,3 @@ pub mod Secret
 mod Runs
 mod Own
 mod Numbers
-mod Slots
-mod Big

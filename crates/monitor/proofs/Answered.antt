@@ -24,8 +24,8 @@ use Rattle.job.specs.declared.sections.Layout.{Layout}
 use Rattle.job.specs.Layout.{layoutOf}
 use Rattle.monitor.specs.declared.entry.Outcome.{Outcome}
 use Rattle.monitor.specs.declared.entry.Outcome.the-variants.{Refused}
-use Rattle.monitor.specs.Board.{capacity}
-use Rattle.monitor.specs.Shows.{Slices}
+use Rattle.actions.specs.Board.{capacity}
+use Rattle.actions.specs.Shows.{Slices}
 use Rattle.monitor.specs.Promises.{answerOf, told, toldBy, Lent, lentBy, Ran, Tree, Leaves, Promises}
 use Rattle.monitor.specs.Starting.{bufferTest, Begun, asLent, Left}
 

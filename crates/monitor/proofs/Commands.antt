@@ -29,17 +29,18 @@ use Rattle.rules.proofs.Control.{Valid}
 use Rattle.job.specs.declared.records.Fields.{Fields}
 use Rattle.job.specs.Fields.{fieldsOf, expressionFrom, commandFrom}
 use Rattle.table.specs.Cells.{sideOf, Within}
-use Rattle.monitor.specs.declared.memory.Effect.{Effect}
-use Rattle.monitor.specs.declared.evaluate.Valued.{Valued}
-use Rattle.monitor.specs.declared.control.Running.{Running}
-use Rattle.monitor.specs.declared.control.Stepped.{Stepped}
-use Rattle.monitor.specs.Guards.{Holds}
-use Rattle.monitor.specs.Board.{capacity}
-use Rattle.monitor.specs.Shows.{Slices, Reads, Readable}
-use Rattle.monitor.specs.Acts.{Does, Kept, Acts, Evaluates, moveOf}
-use Rattle.monitor.specs.Stands.{Stands, Timely, Onward, Passes, Jumps, Leaves, Enters, Held, scriptIn, fieldsAt, Script, Safe, Lent, Steps}
-use Rattle.monitor.proofs.Doing.{kept-refl}
-use Rattle.monitor.proofs.Stepping.{action-steps, jump-steps, leave-steps}
+use Rattle.actions.specs.declared.memory.Effect.{Effect}
+use Rattle.actions.specs.declared.evaluate.Valued.{Valued}
+use Rattle.actions.specs.declared.control.Running.{Running}
+use Rattle.actions.specs.declared.control.Stepped.{Stepped}
+use Rattle.actions.specs.Guards.{Holds}
+use Rattle.actions.specs.Board.{capacity}
+use Rattle.actions.specs.Shows.{Slices, Reads, Readable}
+use Rattle.actions.specs.Acts.{Does, Kept, Acts, Evaluates, moveOf}
+use Rattle.actions.specs.Stands.{Stands, Timely, Onward, Passes, Jumps, Leaves, Enters}
+use Rattle.monitor.specs.Steps.{Held, scriptIn, fieldsAt, Script, Safe, Lent, Steps}
+use Rattle.actions.proofs.Doing.{kept-refl}
+use Rattle.actions.proofs.Stepping.{action-steps, jump-steps, leave-steps}
 
 -- slices of the same lengths
 pub record SameLengths (x x′ : Slices) : Type 0 where

@@ -1,21 +1,7 @@
--- Laws of the state of the monitor.
-pub mod Board
-pub mod Doing
-pub mod Evaluation
-pub mod Assigned
-pub mod Moved
-pub mod Touched
-pub mod Inserted
-pub mod Contexts
-pub mod Entered
-pub mod Stepping
+-- Laws of the run.
 pub mod Commands
 pub mod Looped
 pub mod Started
 pub mod Answered
 pub mod Secret
-pub mod Walk
-pub mod While
-pub mod Relend
-pub mod Locals
 pub mod Passed

@@ -19,13 +19,14 @@ use Rattle.rules.proofs.Runs.{run-spent, run-over, run-next, run-stop}
 use Rattle.rules.proofs.Results.{good-next}
 use Rattle.rules.proofs.Control.{Closed, Valid, step-valid}
 use Rattle.rules.proofs.Decode.{listed-length}
-use Rattle.monitor.specs.declared.control.Running.{Running}
-use Rattle.monitor.specs.declared.control.Stepped.{Stepped}
-use Rattle.monitor.specs.Shows.{Slices, slices}
-use Rattle.monitor.specs.Acts.{Does, Kept}
-use Rattle.monitor.specs.Stands.{Stands, Held, scriptIn, Script, Safe, Lent, Steps, ended, codeOf, Ran, Runs, Comes, Reached, Startable, Turns, stepped}
-use Rattle.monitor.proofs.Doing.{kept-refl}
-use Rattle.monitor.proofs.Stepping.{stop-number}
+use Rattle.actions.specs.declared.control.Running.{Running}
+use Rattle.actions.specs.declared.control.Stepped.{Stepped}
+use Rattle.actions.specs.Shows.{Slices, slices}
+use Rattle.actions.specs.Acts.{Does, Kept}
+use Rattle.actions.specs.Stands.{Stands, ended, stepped}
+use Rattle.monitor.specs.Steps.{Held, scriptIn, Script, Safe, Lent, Steps, codeOf, Ran, Runs, Comes, Reached, Startable, Turns}
+use Rattle.actions.proofs.Doing.{kept-refl}
+use Rattle.actions.proofs.Stepping.{stop-number}
 
 kept-trans : {vars : ℕ} {x y z : Slices} {k m n : ℕ} → Kept vars x y k m → Kept vars y z m n → Kept vars x z k n
 kept-trans {x = x} {y = y} {k = k} {m = m} {n = n} a b =

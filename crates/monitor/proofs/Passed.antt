@@ -17,13 +17,13 @@ use denote.Ref.{RefT}
 use denote.Slice.{sliceVal, MutSlice, ShrSlice, Room}
 use denote.Steps.{only}
 use denote.Struct.Laws as LL
-use Rattle.monitor.specs.declared.control.Running.{Running}
-use Rattle.monitor.specs.declared.control.Stepped.{Stepped}
+use Rattle.actions.specs.declared.control.Running.{Running}
+use Rattle.actions.specs.declared.control.Stepped.{Stepped}
 use Rattle.monitor.specs.declared.step.Frame.{Frame}
-use Rattle.monitor.specs.Shows.{Slices, slices}
-use Rattle.monitor.specs.Stands.{Held, held, Startable}
-use Rattle.monitor.proofs.control.Running as R
-use Rattle.monitor.proofs.control.Running.Laws as R′
+use Rattle.actions.specs.Shows.{Slices, slices}
+use Rattle.monitor.specs.Steps.{Held, held, Startable}
+use Rattle.actions.proofs.control.Running as R
+use Rattle.actions.proofs.control.Running.Laws as R′
 use Rattle.monitor.proofs.step.Frame as F
 use Rattle.monitor.proofs.step.Frame.Laws as F′
 

@@ -17,11 +17,11 @@ use Rattle.rules.proofs.Decode.{listed-length}
 use Rattle.rules.proofs.Noninterference.{runs, noninterference}
 use Rattle.table.proofs.Unique.{one-tree}
 use Rattle.monitor.specs.declared.entry.Outcome.{Outcome}
-use Rattle.monitor.specs.Board.{spell}
+use Rattle.actions.specs.Board.{spell}
 use Rattle.monitor.specs.Promises.{answerOf, Lent, lentBy, placesIn, Tree, Ran, Leaves, Promises}
 use Rattle.monitor.specs.Secrecy.{boardOf, variableIn, Unseen, SecretCalls}
-use Rattle.monitor.proofs.Board.{spell-prefix, written-lines}
-use Rattle.monitor.proofs.Stepping.{stop-number}
+use Rattle.actions.proofs.Board.{spell-prefix, written-lines}
+use Rattle.actions.proofs.Stepping.{stop-number}
 
 -- only a finished run has the number 0
 pub ends : (k : Ending) → endingNumber k ≡ 0 → k ≡ finished

@@ -31,18 +31,19 @@ use Rattle.job.specs.Layout.{layoutOf}
 use Rattle.table.specs.Cells.{cells}
 use Rattle.table.specs.Holds.{Holds}
 use Rattle.table.specs.Promises.{Loadable, Loaded}
-use Rattle.monitor.specs.declared.guards.Guards.{Guards}
-use Rattle.monitor.specs.declared.control.Running.{Running}
-use Rattle.monitor.specs.declared.control.Stepped.{Stepped}
+use Rattle.actions.specs.declared.guards.Guards.{Guards}
+use Rattle.actions.specs.declared.control.Running.{Running}
+use Rattle.actions.specs.declared.control.Stepped.{Stepped}
 use Rattle.monitor.specs.declared.step.Frame.{Frame}
-use Rattle.monitor.specs.Guards.{Holds as Guarded}
-use Rattle.monitor.specs.Board.{capacity}
-use Rattle.monitor.specs.Shows.{Slices, slices, Variables, Shows}
-use Rattle.monitor.specs.Stands.{Stands, Held, held, scriptIn, Script, Safe, Startable, Runs, codeOf}
+use Rattle.actions.specs.Guards.{Holds as Guarded}
+use Rattle.actions.specs.Board.{capacity}
+use Rattle.actions.specs.Shows.{Slices, slices, Variables, Shows}
+use Rattle.actions.specs.Stands.{Stands}
+use Rattle.monitor.specs.Steps.{Held, held, scriptIn, Script, Safe, Startable, Runs, codeOf}
 use Rattle.monitor.specs.Promises.{told, toldBy, Tree, Ran}
 use Rattle.monitor.specs.Starting.{outcomeOf, Loading, VariablesLoaded, Begun, asLent, Left}
-use Rattle.monitor.proofs.Board.{no-lines, lines-many, as-written}
-use Rattle.monitor.proofs.Stepping.{stop-below}
+use Rattle.actions.proofs.Board.{no-lines, lines-many, as-written}
+use Rattle.actions.proofs.Stepping.{stop-below}
 
 -- one variable more
 module _ (b : List ℕ) (i : ℕ) (levels₀ levels : List ℕ) (values₀ values : List ℤ) (l : ℕ) (v : ℤ) (h : VariablesLoaded b i levels₀ levels values₀ values)
@@ -130,7 +131,7 @@ module _ (b jumps : List ℕ) (budget : ℕ) (x : Slices) (places : ℕ) (ok : c
       e : Ended
       e = run lent (script b) budget (begin b)
 
-      ran : Rattle.monitor.specs.Stands.Ran (held b jumps (frame (layoutOf b) places)) x₂ a (run lent (script b) budget (begin b))
+      ran : Rattle.monitor.specs.Steps.Ran (held b jumps (frame (layoutOf b) places)) x₂ a (run lent (script b) budget (begin b))
       unfolding layoutOf script
       ran = rs .runs lent (begin b) (record { places = lp; board = lb ∙ ap capacity (sym board) }) (begin-valid b (loads b ok)) begins
 

@@ -1,9 +1,5 @@
--- How the monitor's own state stands for a state of the rules, and what its functions promise of that.
-pub mod Guards
-pub mod Board
-pub mod Shows
-pub mod Acts
-pub mod Stands
+-- What a step, a run, and the run over a job's bytes promise.
+pub mod Steps
 pub mod Promises
 pub mod Starting
 pub mod Secrecy

@@ -13,8 +13,8 @@ use Rattle.table.specs.Cells.{cells}
 use Rattle.table.specs.Holds.{Holds}
 use Rattle.monitor.specs.declared.entry.Outcome.{Outcome}
 use Rattle.monitor.specs.declared.entry.Outcome.the-variants.{Refused, Finished, Stopped}
-use Rattle.monitor.specs.Board.{capacity, written}
-use Rattle.monitor.specs.Shows.{Variables}
+use Rattle.actions.specs.Board.{capacity, written}
+use Rattle.actions.specs.Shows.{Variables}
 
 -- the paper's answer of each outcome: ending, record index, steps, line count
 unfoldable pub answerOf : Outcome → Answer

@@ -18,12 +18,12 @@ use Rattle.rules.specs.Outcome as Rules
 use Rattle.rules.specs.Outcome.{begin}
 use Rattle.job.specs.declared.sections.Layout.{Layout}
 use Rattle.job.specs.Layout.{layoutOf}
-use Rattle.monitor.specs.declared.control.Stepped.{Stepped}
+use Rattle.actions.specs.declared.control.Stepped.{Stepped}
 use Rattle.monitor.specs.declared.entry.Outcome.{Outcome}
 use Rattle.monitor.specs.declared.entry.Outcome.the-variants.{Finished, Stopped}
-use Rattle.monitor.specs.Board.{capacity}
-use Rattle.monitor.specs.Shows.{Slices}
-use Rattle.monitor.specs.Stands.{ended}
+use Rattle.actions.specs.Board.{capacity}
+use Rattle.actions.specs.Shows.{Slices}
+use Rattle.actions.specs.Stands.{ended}
 use Rattle.monitor.specs.Promises.{told, Lent, lent, Tree, Ran}
 
 -- the outcome of a run that has ended

@@ -1,11 +1,11 @@
 // The run over a job's bytes: the checks 1 to 10, then the job is loaded and run.
-use super::control::FINISHED;
-use super::control::Running;
-use super::control::Stepped;
-use super::guards;
-use super::memory::Memory;
 use super::run::run_from;
 use super::step::Frame;
+use actions::control::FINISHED;
+use actions::control::Running;
+use actions::control::Stepped;
+use actions::guards;
+use actions::memory::Memory;
 use job::Checked;
 use job::prepare;
 use job::sections::Layout;
@@ -21,7 +21,7 @@ ghost use Prim.Native.Nat.{_*_, _≤_, min};
 ghost use lib.ListN.{length};
 ghost use Rattle.rules.specs.Limits.{maxNodes};
 ghost use Rattle.rules.specs.Outcome.{budgetRule};
-ghost use Rattle.monitor.specs.Shows.{slices};
+ghost use Rattle.actions.specs.Shows.{slices};
 ghost use Rattle.monitor.specs.Promises.{lent, placesIn, Tree, Promises};
 ghost use Rattle.monitor.specs.Starting.{outcomeOf, bufferTest, Loading, VariablesLoaded, Begun, Left};
 

@@ -1,14 +1,15 @@
 // A run: step after step, until it ends. The running record is lent to each step, which updates it.
-use super::control::FINISHED;
-use super::control::Running;
-use super::control::Stepped;
 use super::step::Frame;
 use super::step::carry_out;
+use actions::control::FINISHED;
+use actions::control::Running;
+use actions::control::Stepped;
 use rules::limits::SPENT;
 ghost use mathlib.Core.Path.{_≡_};
 ghost use Prim.Native.Nat.{_-_};
-ghost use Rattle.monitor.specs.Shows.{slices};
-ghost use Rattle.monitor.specs.Stands.{held, Startable, stepped, Turns, Runs};
+ghost use Rattle.actions.specs.Shows.{slices};
+ghost use Rattle.actions.specs.Stands.{stepped};
+ghost use Rattle.monitor.specs.Steps.{held, Startable, Turns, Runs};
 
 // What comes next in a run that may make `limit` steps: the script's end, the budget's, a stop, or one step more.
 fn turn(

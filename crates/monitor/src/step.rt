@@ -1,23 +1,23 @@
 // The record that comes next, carried out.
-use super::control::Running;
-use super::control::Stepped;
-use super::control::enter_if;
-use super::control::enter_while;
-use super::control::jump;
-use super::control::leave;
-use super::control::onward;
-use super::evaluate::expression;
-use super::guards;
-use super::memory::Effect;
-use super::moves;
-use super::nodes;
-use super::variables;
+use actions::control::Running;
+use actions::control::Stepped;
+use actions::control::enter_if;
+use actions::control::enter_while;
+use actions::control::jump;
+use actions::control::leave;
+use actions::control::onward;
+use actions::evaluate::expression;
+use actions::guards;
+use actions::memory::Effect;
+use actions::moves;
+use actions::nodes;
+use actions::variables;
 use job::records::fields_at;
 ghost use mathlib.Core.Path.{_≡_};
 ghost use Prim.Native.Nat.{_-_, _≤_, _<_};
 ghost use Rattle.rules.specs.Limits.{maxBudget};
-ghost use Rattle.monitor.specs.Shows.{slices};
-ghost use Rattle.monitor.specs.Stands.{held, Script, Safe, Steps};
+ghost use Rattle.actions.specs.Shows.{slices};
+ghost use Rattle.monitor.specs.Steps.{held, Script, Safe, Steps};
 
 // Where the script starts in the job's bytes and how many records it has, how many variables there are, and how many places.
 pub struct Frame {

@@ -10,7 +10,7 @@ use Rattle.rules.specs.Bytes.{variableCount}
 use Rattle.rules.specs.Outcome as Rules
 use Rattle.rules.specs.Outcome.{answer, runJob, boardLines}
 use Rattle.monitor.specs.declared.entry.Outcome.{Outcome}
-use Rattle.monitor.specs.Board.{spell, written}
+use Rattle.actions.specs.Board.{spell, written}
 use Rattle.monitor.specs.Promises.{answerOf, Lent, lent, lentBy, placesIn, Tree, Leaves, Promises}
 use Rattle.portal.specs.Portal.{buffersFor, numberOf, handed, handBack, portal}
 use Rattle.portal.proofs.Counted.{few-lines}

@@ -15,8 +15,8 @@ use Rattle.rules.specs.Run.{Ended, finished, run}
 use Rattle.rules.specs.Outcome.{Outcome, rejected, ran, answer, checkJob, begin, runJob, boardLines}
 use Rattle.rules.specs.Public.{Alike, Secret, Indistinguishable, Noninterference}
 use Rattle.rules.proofs.Noninterference.{runs, noninterference}
-use Rattle.monitor.specs.Board.{spell, written}
-use Rattle.monitor.proofs.Board.{written-lines, spell-prefix}
+use Rattle.actions.specs.Board.{spell, written}
+use Rattle.actions.proofs.Board.{written-lines, spell-prefix}
 use Rattle.monitor.proofs.Secret.{ends}
 use Rattle.portal.specs.Portal.{buffersFor, numberOf, Handed, handBack, portal}
 use Rattle.portal.specs.Secrecy.{endingIn, linesIn, Unseen, SecretPortal}

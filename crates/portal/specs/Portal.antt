@@ -5,7 +5,7 @@ use Rattle.rules.specs.Limits.{maxNodes, maxVariables}
 use Rattle.rules.specs.Number.{range}
 use Rattle.rules.specs.Run.{Buffers}
 use Rattle.rules.specs.Outcome.{Outcome, Answer, answer, runJob, boardLines}
-use Rattle.monitor.specs.Board.{capacity, written}
+use Rattle.actions.specs.Board.{capacity, written}
 
 -- "It has 512 places", and room for as many variables as a job may have; the lines go into the caller's area
 unfoldable pub buffersFor : List ℕ → Buffers

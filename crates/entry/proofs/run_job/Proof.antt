@@ -1,17 +1,17 @@
 -- `entry::run_job` meets its contract: a walk of its MIR, by hand. A local array of words is lent to the run for a lifetime of that call, and then,
 -- for a lifetime of the second call, to `store`, which fills the lent records; the other slices are passed on as they came. Assumes nothing.
-use Rattle.monitor.proofs.Walk.{_≡_, refl, sym, ap, _∙_, subst, ℕ, _<_, _≤_, _^_, _*_, [], _∷_, List, length, replicate, lit<, URA, fullShare, named}
-use Rattle.monitor.proofs.Walk.{w32, w64, tyInt, tyUnit, tyArray, Ty, Val, WT, hasTy, vint, SProp, ent, emp, via, fst∗, snd∗, exE, id⊢, Lft, Share}
-use Rattle.monitor.proofs.Walk.{GName, Fml, ftrue, fat, flft, flent, Memory, Routine, Heap, WpFn, Tables, Atoms, sem, Fun, fact, givenOf, tables}
-use Rattle.monitor.proofs.Walk.{tablesOf, Given, Item, ‵, raw, given, _⊛_, some, later, ⋆, _$_, _∵_, !, qed, by, move, keep, drop, use0, use1, use2}
-use Rattle.monitor.proofs.Walk.{use3, split, join, pick, learn, rewrite, fsplit, fjoin, feqL, feqI, suffices, frame, await, done, look, init, forget}
-use Rattle.monitor.proofs.Walk.{stop, hop, fld, from, load, lit, of-opd, addr, agg, and-then, no-more, returns, enter, alloc1, alloc0, params1, pass1}
-use Rattle.monitor.proofs.Walk.{pass0, free1, free0, lft-new, lft-end, lent-back, whole, sub, look-in, arr-parts, shares, fmOf, WpFn-mono, RattleType}
-use Rattle.monitor.proofs.Walk.{owns, Is, shows, uint-makes, uint-vals, uint-tells, uint-lawful, u32, usize, unit, Array, array-lawful, RefT, plain}
-use Rattle.monitor.proofs.Walk.{sliceVal, MutSlice, ShrSlice, Room, finally, slice-vals, mut-slice-tells, shr-slice-tells, shr-slice-copy, row, Held}
-use Rattle.monitor.proofs.Walk.{lends-shr-slice, only, owned, peeks, heard, nothing, Contract, Triple, calls-at, onEntry, Meets, tripleOf, entered}
-use Rattle.monitor.proofs.Walk.{cited, says, Stays, stay-none, gave-slice, stay-none-slice, walkOf, goes-none, goes-gave-slice, goes-none-slice}
-use Rattle.monitor.proofs.Walk.{Walks, ends-at, walked, walk-meets, ensured, lasts, yes}
+use Rattle.walks.proofs.Walk.{_≡_, refl, sym, ap, _∙_, subst, ℕ, _<_, _≤_, _^_, _*_, [], _∷_, List, length, replicate, lit<, URA, fullShare, named}
+use Rattle.walks.proofs.Walk.{w32, w64, tyInt, tyUnit, tyArray, Ty, Val, WT, hasTy, vint, SProp, ent, emp, via, fst∗, snd∗, exE, id⊢, Lft, Share}
+use Rattle.walks.proofs.Walk.{GName, Fml, ftrue, fat, flft, flent, Memory, Routine, Heap, WpFn, Tables, Atoms, sem, Fun, fact, givenOf, tables}
+use Rattle.walks.proofs.Walk.{tablesOf, Given, Item, ‵, raw, given, _⊛_, some, later, ⋆, _$_, _∵_, !, qed, by, move, keep, drop, use0, use1, use2}
+use Rattle.walks.proofs.Walk.{use3, split, join, pick, learn, rewrite, fsplit, fjoin, feqL, feqI, suffices, frame, await, done, look, init, forget}
+use Rattle.walks.proofs.Walk.{stop, hop, fld, from, load, lit, of-opd, addr, agg, and-then, no-more, returns, enter, alloc1, alloc0, params1, pass1}
+use Rattle.walks.proofs.Walk.{pass0, free1, free0, lft-new, lft-end, lent-back, whole, sub, look-in, arr-parts, shares, fmOf, WpFn-mono, RattleType}
+use Rattle.walks.proofs.Walk.{owns, Is, shows, uint-makes, uint-vals, uint-tells, uint-lawful, u32, usize, unit, Array, array-lawful, RefT, plain}
+use Rattle.walks.proofs.Walk.{sliceVal, MutSlice, ShrSlice, Room, finally, slice-vals, mut-slice-tells, shr-slice-tells, shr-slice-copy, row, Held}
+use Rattle.walks.proofs.Walk.{lends-shr-slice, only, owned, peeks, heard, nothing, Contract, Triple, calls-at, onEntry, Meets, tripleOf, entered}
+use Rattle.walks.proofs.Walk.{cited, says, Stays, stay-none, gave-slice, stay-none-slice, walkOf, goes-none, goes-gave-slice, goes-none-slice}
+use Rattle.walks.proofs.Walk.{Walks, ends-at, walked, walk-meets, ensured, lasts, yes}
 use Prim.Native.Nat.{min}
 use native.Mathlib.Omega.{arith}
 use lib.Dec.{T as Holds}
@@ -31,9 +31,9 @@ use Rattle.monitor.proofs.entry.Outcome.Laws as O′
 use Rattle.monitor.specs.Promises as Words
 use Rattle.monitor.specs.Promises.{lent, Promises}
 use Rattle.entry.specs.Promises.{Tree, keptOf}
-use Rattle.monitor.proofs.Locals.{sized, var, sets, result}
-use Rattle.entry.proofs.Slots.{spread, gather, lends-row, row-back}
-use Rattle.entry.proofs.Big.{big}
+use Rattle.walks.proofs.Locals.{sized, var, sets, result}
+use Rattle.walks.proofs.Slots.{spread, gather, lends-row, row-back}
+use Rattle.walks.proofs.Big.{big}
 use Rattle.entry.proofs.Runs.{store-asks, promised}
 use Rattle.entry.proofs.Numbers.{span}
 use Rattle.monitor.proofs.run_places as co

@@ -1,17 +1,17 @@
 -- `entry::run_own` meets its contract: a walk of its MIR, by hand. The first part of a local array of records is lent to `run_job` for a lifetime of
 -- that call; then the whole array is lent to `load`, for a lifetime of that call. Assumes nothing.
-use Rattle.monitor.proofs.Walk.{_≡_, refl, sym, ap, subst, ℕ, _<_, _≤_, _^_, _*_, _-_, [], _∷_, List, length, replicate, lit<, URA, fullShare, named}
-use Rattle.monitor.proofs.Walk.{w64, tyInt, tyUnit, tyArray, Ty, Val, WT, hasTy, vint, SProp, ent, emp, snd∗, exE, id⊢, Lft, Share, GName, Fml, ftrue}
-use Rattle.monitor.proofs.Walk.{fat, flft, flent, Memory, Routine, Heap, WpFn, Tables, Atoms, sem, Fun, fact, givenOf, tables, tablesOf, Given, Item}
-use Rattle.monitor.proofs.Walk.{‵, raw, given, _⊛_, some, later, ⋆, _$_, _∵_, !, qed, by, move, keep, drop, use0, use1, use2, use3, split, join, pick}
-use Rattle.monitor.proofs.Walk.{learn, rewrite, fsplit, fjoin, feqL, feqI, suffices, frame, await, done, look, init, forget, stop, hop, fld, from}
-use Rattle.monitor.proofs.Walk.{load, lit, of-opd, addr, agg, and-then, no-more, returns, enter, alloc1, alloc0, params1, pass1, pass0, free1, free0}
-use Rattle.monitor.proofs.Walk.{lft-new, lft-end, lent-back, whole, sub, look-in, arr-parts, shares, fmOf, WpFn-mono, RattleType, owns, Is, shows}
-use Rattle.monitor.proofs.Walk.{uint-makes, uint-vals, uint-tells, uint-lawful, u32, usize, unit, Array, array-lawful, RefT, plain, sliceVal}
-use Rattle.monitor.proofs.Walk.{MutSlice, ShrSlice, Room, finally, slice-vals, mut-slice-tells, shr-slice-tells, shr-slice-copy, row, Held}
-use Rattle.monitor.proofs.Walk.{lends-shr-slice, only, owned as owns-plain, peeks, heard, nothing, Contract, Triple, calls-at, onEntry, Meets}
-use Rattle.monitor.proofs.Walk.{tripleOf, entered, cited, says, needs, Stays, stay-none, gave-slice, stay-none-slice, walkOf, goes-none}
-use Rattle.monitor.proofs.Walk.{goes-gave-slice, goes-none-slice, Walks, ends-at, walked, walk-meets, ensured, lasts, yes}
+use Rattle.walks.proofs.Walk.{_≡_, refl, sym, ap, subst, ℕ, _<_, _≤_, _^_, _*_, _-_, [], _∷_, List, length, replicate, lit<, URA, fullShare, named}
+use Rattle.walks.proofs.Walk.{w64, tyInt, tyUnit, tyArray, Ty, Val, WT, hasTy, vint, SProp, ent, emp, snd∗, exE, id⊢, Lft, Share, GName, Fml, ftrue}
+use Rattle.walks.proofs.Walk.{fat, flft, flent, Memory, Routine, Heap, WpFn, Tables, Atoms, sem, Fun, fact, givenOf, tables, tablesOf, Given, Item}
+use Rattle.walks.proofs.Walk.{‵, raw, given, _⊛_, some, later, ⋆, _$_, _∵_, !, qed, by, move, keep, drop, use0, use1, use2, use3, split, join, pick}
+use Rattle.walks.proofs.Walk.{learn, rewrite, fsplit, fjoin, feqL, feqI, suffices, frame, await, done, look, init, forget, stop, hop, fld, from}
+use Rattle.walks.proofs.Walk.{load, lit, of-opd, addr, agg, and-then, no-more, returns, enter, alloc1, alloc0, params1, pass1, pass0, free1, free0}
+use Rattle.walks.proofs.Walk.{lft-new, lft-end, lent-back, whole, sub, look-in, arr-parts, shares, fmOf, WpFn-mono, RattleType, owns, Is, shows}
+use Rattle.walks.proofs.Walk.{uint-makes, uint-vals, uint-tells, uint-lawful, u32, usize, unit, Array, array-lawful, RefT, plain, sliceVal}
+use Rattle.walks.proofs.Walk.{MutSlice, ShrSlice, Room, finally, slice-vals, mut-slice-tells, shr-slice-tells, shr-slice-copy, row, Held}
+use Rattle.walks.proofs.Walk.{lends-shr-slice, only, owned as owns-plain, peeks, heard, nothing, Contract, Triple, calls-at, onEntry, Meets}
+use Rattle.walks.proofs.Walk.{tripleOf, entered, cited, says, needs, Stays, stay-none, gave-slice, stay-none-slice, walkOf, goes-none}
+use Rattle.walks.proofs.Walk.{goes-gave-slice, goes-none-slice, Walks, ends-at, walked, walk-meets, ensured, lasts, yes}
 use Prim.Native.Nat.{min}
 use mathlib.Core.List.{_++_}
 use lib.Dec.{T as Holds}
@@ -38,8 +38,8 @@ use Rattle.monitor.specs.Promises.{lent, Promises}
 use Rattle.monitor.proofs.entry.Outcome as O
 use Rattle.monitor.proofs.entry.Outcome.Laws as O′
 use Rattle.entry.specs.Promises.{Tree, ownPlaces, Owned}
-use Rattle.monitor.proofs.Locals.{sized, var, sets, result}
-use Rattle.entry.proofs.Slots.{spread, gather, lends-row, row-back, apart, together}
+use Rattle.walks.proofs.Locals.{sized, var, sets, result}
+use Rattle.walks.proofs.Slots.{spread, gather, lends-row, row-back, apart, together}
 use Rattle.entry.proofs.Numbers.{span}
 use Rattle.entry.proofs.Own.{two-parts, lent-fits, all-length, owned}
 use Rattle.entry.proofs.lending as ln

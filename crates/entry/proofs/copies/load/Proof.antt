@@ -1,26 +1,26 @@
 -- `copies::load` meets its contract: a walk of its MIR, by hand, with a loop. The borrow of the records is looked into once and that of the words is
 -- opened once, before the loop; they are shut and closed after it. In each turn a record is copied, and the row of words is lent to `put` for a
 -- lifetime of the call. Assumes nothing.
-use Rattle.monitor.proofs.Walk.{_≡_, refl, sym, ap, subst, ℕ, suc, _<_, _≤_, _^_, _*_, _+_, zero-le, le-antisymm, [], _∷_, List, length, getD, ltb→lt}
-use Rattle.monitor.proofs.Walk.{nltb→le, lit<, URA, fullShare, named, erased, imm, mut, w32, w64, tyInt, tyBool, tyPtr, tyUnit, tyRef, Ty, Val, WT}
-use Rattle.monitor.proofs.Walk.{hasTy, vunit, vint, vptr, SProp, ent, sep, id⊢, Lft, Share, GName, Fml, ftrue, fat, froom, fdies, flft, flent, fres}
-use Rattle.monitor.proofs.Walk.{fobs, fauth, fbor, fobor, fshr-bor, Memory, Routine, Heap, WpFn, Tables, Atoms, sem, Fun, fact, givenOf, tables}
-use Rattle.monitor.proofs.Walk.{tablesOf, Given, Item, ‵, raw, _⊛_, some, later, ⋆, _$_, _∵_, !, qed, by, move, keep, drop, use1, use2, use3, split}
-use Rattle.monitor.proofs.Walk.{join, pick, rewrite, fsplit, fjoin, feqL, feqI, suffices, frame, await, done, look, look-raw, init, store, forget}
-use Rattle.monitor.proofs.Walk.{stop, hop, fld, from, load, lit, unit-lit, of-opd, bin, addr, agg, and-then, no-more, assigns-last, returns, enter}
-use Rattle.monitor.proofs.Walk.{alloc1, alloc0, params1, pass1, pass0, free1, free0, again, whole, sub, look-in, lft-new, lft-end, arr-parts, shares}
-use Rattle.monitor.proofs.Walk.{fmOf, WpFn-mono, owns, pureI, Is, shows, pointee, uint-makes, u32, usize, unit, RefT, plain, sliceTy, sliceVal}
-use Rattle.monitor.proofs.Walk.{MutSlice, ShrSlice, Room, heres, codedHoleys, at-slice, slice-vals, mut-slice-tells, shr-slice-tells, Held, place-is}
-use Rattle.monitor.proofs.Walk.{row, elem-out, elem-back, opens-slice, closes-slice, looks-slice, shuts-slice, only, owned, heard, nothing, Contract}
-use Rattle.monitor.proofs.Walk.{Triple, calls-at, onEntry, Meets, tripleOf, entered, cited, says, needs, Stays, stay-none-slice, stay-slice, walkOf}
-use Rattle.monitor.proofs.Walk.{goes-none-slice, goes-slice, Walks, ends-at, walked, walk-meets, ensured, lasts, yes}
+use Rattle.walks.proofs.Walk.{_≡_, refl, sym, ap, subst, ℕ, suc, _<_, _≤_, _^_, _*_, _+_, zero-le, le-antisymm, [], _∷_, List, length, getD, ltb→lt}
+use Rattle.walks.proofs.Walk.{nltb→le, lit<, URA, fullShare, named, erased, imm, mut, w32, w64, tyInt, tyBool, tyPtr, tyUnit, tyRef, Ty, Val, WT}
+use Rattle.walks.proofs.Walk.{hasTy, vunit, vint, vptr, SProp, ent, sep, id⊢, Lft, Share, GName, Fml, ftrue, fat, froom, fdies, flft, flent, fres}
+use Rattle.walks.proofs.Walk.{fobs, fauth, fbor, fobor, fshr-bor, Memory, Routine, Heap, WpFn, Tables, Atoms, sem, Fun, fact, givenOf, tables}
+use Rattle.walks.proofs.Walk.{tablesOf, Given, Item, ‵, raw, _⊛_, some, later, ⋆, _$_, _∵_, !, qed, by, move, keep, drop, use1, use2, use3, split}
+use Rattle.walks.proofs.Walk.{join, pick, rewrite, fsplit, fjoin, feqL, feqI, suffices, frame, await, done, look, look-raw, init, store, forget}
+use Rattle.walks.proofs.Walk.{stop, hop, fld, from, load, lit, unit-lit, of-opd, bin, addr, agg, and-then, no-more, assigns-last, returns, enter}
+use Rattle.walks.proofs.Walk.{alloc1, alloc0, params1, pass1, pass0, free1, free0, again, whole, sub, look-in, lft-new, lft-end, arr-parts, shares}
+use Rattle.walks.proofs.Walk.{fmOf, WpFn-mono, owns, pureI, Is, shows, pointee, uint-makes, u32, usize, unit, RefT, plain, sliceTy, sliceVal}
+use Rattle.walks.proofs.Walk.{MutSlice, ShrSlice, Room, heres, codedHoleys, at-slice, slice-vals, mut-slice-tells, shr-slice-tells, Held, place-is}
+use Rattle.walks.proofs.Walk.{row, elem-out, elem-back, opens-slice, closes-slice, looks-slice, shuts-slice, only, owned, heard, nothing, Contract}
+use Rattle.walks.proofs.Walk.{Triple, calls-at, onEntry, Meets, tripleOf, entered, cited, says, needs, Stays, stay-none-slice, stay-slice, walkOf}
+use Rattle.walks.proofs.Walk.{goes-none-slice, goes-slice, Walks, ends-at, walked, walk-meets, ensured, lasts, yes}
 use lib.Dec.{T as Holds}
 use denote.Struct.Laws as LL
 use Rattle.table.specs.declared.lent.Node.{Node}
 use Rattle.table.specs.Lent.{blank, putNode, loaded}
-use Rattle.monitor.proofs.While.{Upto, Nearer, nearer-wf, tests, whiles}
-use Rattle.monitor.proofs.Locals.{sized, var, sets, result}
-use Rattle.entry.proofs.Slots.{lends-row, row-back}
+use Rattle.walks.proofs.While.{Upto, Nearer, nearer-wf, tests, whiles}
+use Rattle.walks.proofs.Locals.{sized, var, sets, result}
+use Rattle.walks.proofs.Slots.{lends-row, row-back}
 use Rattle.table.proofs.Copies.{length-loaded}
 use Rattle.entry.proofs.Numbers.{start-fits, next-fits, fits-below, nearer, cell-in, one-more}
 use Rattle.table.proofs.lent.Node as T

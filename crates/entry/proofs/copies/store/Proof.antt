@@ -1,26 +1,26 @@
 -- `copies::store` meets its contract: a walk of its MIR, by hand, with a loop. The borrow of the records is opened once, before the loop, and closed
 -- once, after it, at what is filled. In each turn a copy of the slice of words is passed to `node_of`, and the record that comes back is stored.
 -- Assumes nothing.
-use Rattle.monitor.proofs.Walk.{stay-none, goes-none, uint-vals, uint-tells, _≡_, refl, sym, ap, subst, ℕ, suc, _<_, _≤_, _^_, _*_, _+_, zero-le}
-use Rattle.monitor.proofs.Walk.{le-antisymm, [], _∷_, List, length, set, ltb→lt, nltb→le, lit<, URA, fullShare, named, imm, mut, w32, w64, tyInt}
-use Rattle.monitor.proofs.Walk.{tyBool, tyPtr, tyUnit, tyRef, Ty, Val, vunit, vint, vptr, SProp, ent, sep, exE, snd∗, id⊢, Lft, Share, GName, Fml}
-use Rattle.monitor.proofs.Walk.{ftrue, fat, froom, fdies, flft, fobs, fauth, fbor, fobor, Memory, Routine, Heap, WpFn, Tables, Atoms, sem, Fun, fact}
-use Rattle.monitor.proofs.Walk.{givenOf, tables, tablesOf, Given, Item, ‵, raw, _⊛_, some, later, ⋆, _$_, _∵_, !, qed, by, move, keep, drop, use1}
-use Rattle.monitor.proofs.Walk.{use2, split, join, pick, rewrite, fsplit, fjoin, feqI, suffices, frame, await, done, look, init, store, store-raw}
-use Rattle.monitor.proofs.Walk.{forget, stop, hop, fld, from, load, lit, unit-lit, of-opd, bin, and-then, no-more, assigns, assigns-last, returns}
-use Rattle.monitor.proofs.Walk.{enter, alloc1, alloc0, params1, pass1, pass0, free1, free0, again, whole, sub, look-in, fmOf, WpFn-mono, owns, pureI}
-use Rattle.monitor.proofs.Walk.{Is, shows, pointee, uint-makes, usize, u32, RefT, plain, sliceTy, sliceVal, MutSlice, ShrSlice, Room, heres}
-use Rattle.monitor.proofs.Walk.{codedHoleys, at-slice, slice-vals, mut-slice-tells, shr-slice-tells, shr-slice-copy, Held, place-is, row, elem-out}
-use Rattle.monitor.proofs.Walk.{elem-put, opens-slice, closes-slice, owned, peeks, heard, nothing, Contract, Triple, calls-at, onEntry, Meets}
-use Rattle.monitor.proofs.Walk.{tripleOf, entered, cited, says, needs, Stays, stay-none-slice, stay-slice, walkOf, goes-none-slice, goes-slice, Walks}
-use Rattle.monitor.proofs.Walk.{ends-at, walked, walk-meets, ensured, lasts, yes}
+use Rattle.walks.proofs.Walk.{stay-none, goes-none, uint-vals, uint-tells, _≡_, refl, sym, ap, subst, ℕ, suc, _<_, _≤_, _^_, _*_, _+_, zero-le}
+use Rattle.walks.proofs.Walk.{le-antisymm, [], _∷_, List, length, set, ltb→lt, nltb→le, lit<, URA, fullShare, named, imm, mut, w32, w64, tyInt}
+use Rattle.walks.proofs.Walk.{tyBool, tyPtr, tyUnit, tyRef, Ty, Val, vunit, vint, vptr, SProp, ent, sep, exE, snd∗, id⊢, Lft, Share, GName, Fml}
+use Rattle.walks.proofs.Walk.{ftrue, fat, froom, fdies, flft, fobs, fauth, fbor, fobor, Memory, Routine, Heap, WpFn, Tables, Atoms, sem, Fun, fact}
+use Rattle.walks.proofs.Walk.{givenOf, tables, tablesOf, Given, Item, ‵, raw, _⊛_, some, later, ⋆, _$_, _∵_, !, qed, by, move, keep, drop, use1}
+use Rattle.walks.proofs.Walk.{use2, split, join, pick, rewrite, fsplit, fjoin, feqI, suffices, frame, await, done, look, init, store, store-raw}
+use Rattle.walks.proofs.Walk.{forget, stop, hop, fld, from, load, lit, unit-lit, of-opd, bin, and-then, no-more, assigns, assigns-last, returns}
+use Rattle.walks.proofs.Walk.{enter, alloc1, alloc0, params1, pass1, pass0, free1, free0, again, whole, sub, look-in, fmOf, WpFn-mono, owns, pureI}
+use Rattle.walks.proofs.Walk.{Is, shows, pointee, uint-makes, usize, u32, RefT, plain, sliceTy, sliceVal, MutSlice, ShrSlice, Room, heres}
+use Rattle.walks.proofs.Walk.{codedHoleys, at-slice, slice-vals, mut-slice-tells, shr-slice-tells, shr-slice-copy, Held, place-is, row, elem-out}
+use Rattle.walks.proofs.Walk.{elem-put, opens-slice, closes-slice, owned, peeks, heard, nothing, Contract, Triple, calls-at, onEntry, Meets}
+use Rattle.walks.proofs.Walk.{tripleOf, entered, cited, says, needs, Stays, stay-none-slice, stay-slice, walkOf, goes-none-slice, goes-slice, Walks}
+use Rattle.walks.proofs.Walk.{ends-at, walked, walk-meets, ensured, lasts, yes}
 use denote.Struct.Laws as LL
 use Rattle.table.specs.declared.lent.Node.{Node}
 use Rattle.table.specs.Cells.{cells}
 use Rattle.table.specs.Lent.{blank, nodeOf, stored}
-use Rattle.monitor.proofs.While.{Upto, Nearer, nearer-wf, tests, whiles}
+use Rattle.walks.proofs.While.{Upto, Nearer, nearer-wf, tests, whiles}
 use Rattle.table.proofs.Copies.{length-stored}
-use Rattle.monitor.proofs.Locals.{sized, var, sets, result}
+use Rattle.walks.proofs.Locals.{sized, var, sets, result}
 use Rattle.entry.proofs.Numbers.{start-fits, next-fits, fits-below, nearer, within, cell-in, one-more}
 use Rattle.table.proofs.lent.Node as T
 use Rattle.table.proofs.lent.Node.Laws as T′

@@ -1,7 +1,7 @@
 -- `entry::run_accepted` meets its contract: what is loaded stands for the state that the rules begin with. Assumes nothing.
 use mathlib.Core.Path.{refl, sym, subst, _∙_}
 use native.Mathlib.Omega.{arith}
-use Rattle.monitor.specs.Shows.{slices}
+use Rattle.actions.specs.Shows.{slices}
 use Rattle.monitor.specs.Starting.{Left}
 use Rattle.monitor.proofs.Started.{loading, loadable, ready, safe, left-of}
 use borrow.Author.Needs.{needs}

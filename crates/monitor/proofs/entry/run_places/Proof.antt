@@ -3,8 +3,8 @@ use mathlib.Core.Path.{_≡_, sym, _∙_}
 use Rattle.rules.specs.Check.{accepted, checkBytes}
 use Rattle.job.specs.Layout.{layoutOf}
 use Rattle.job.proofs.Answers.{is-accepted, is-refused}
-use Rattle.monitor.specs.Shows.{Slices, slices}
-use Rattle.monitor.proofs.Doing.{refused, allowed}
+use Rattle.actions.specs.Shows.{Slices, slices}
+use Rattle.actions.proofs.Doing.{refused, allowed}
 use Rattle.monitor.proofs.Answered.{turned-back, bad-budget, bad-buffers, within, few, begun, is-run}
 use borrow.Author.Needs.{needs}
 use Rattle.monitor.proofs.entry.run_places.Statement.{statement}

@@ -3,7 +3,7 @@ use mathlib.Core.Path.{refl, ap}
 use Prim.Native.Nat.{ℕ}
 use native.Mathlib.Omega.{arith}
 use Rattle.rules.specs.Script.{rows, rowOf}
-use Rattle.monitor.proofs.Doing.{does-next, stays}
+use Rattle.actions.proofs.Doing.{does-next, stays}
 use Rattle.monitor.proofs.Commands.{timely, readable, at-cursor, reads-of, insert-row, target-by, from-seven, no-rest, skips, assigns, ifs, elses, whiles, ends, outputs, goes, inserts, removes, writes, raises}
 use borrow.Author.Needs.{needs}
 use Rattle.monitor.proofs.step.carry_out.Statement.{statement}

@@ -1,0 +1,112 @@
+-- Variables after a store, and what commands 1 and 6 do: the rules' tests come out as those of the levels found, and a store at one index leaves the
+-- other indices alone. Assumes nothing.
+use mathlib.Core.Path.{_≡_, refl, sym, ap, _∙_}
+use mathlib.Core.Bool.{true, false}
+use mathlib.Core.List.{List}
+use Prim.Native.Nat.{ℕ, _+_, _*_, _<_, _≤_}
+use native.Mathlib.Omega.{arith}
+use native.Mathlib.Decide.{ℕ-discrete}
+use borrow.Author.Tests.{lt-ltb, le-ltb}
+use lib.ListN.{length, getD, set, length-set}
+use lib.Seq.{getD-set-same, getD-set-other}
+use lib.IntN.{ℤ, pos}
+use Rattle.rules.specs.Level.{join, notAbove, public}
+use Rattle.rules.specs.Script.{Expression}
+use Rattle.rules.specs.Job.{Variable}
+use Rattle.rules.specs.Run as Run
+use Rattle.rules.specs.Run.{flow, boardFull, noVariable, variableAt, withVariables, withLine}
+use Rattle.actions.specs.declared.memory.Memory.{Memory}
+use Rattle.actions.specs.declared.evaluate.Valued.{Valued}
+use Rattle.actions.specs.Board.{capacity, replaced}
+use Rattle.actions.specs.Shows.{Shows, Variables, slices}
+use Rattle.actions.specs.Acts.{Evaluates, Acts, effect}
+use Rattle.actions.proofs.Board.{lines-many, replaced-long, replaced-rest, lines-on}
+use Rattle.actions.proofs.Doing.{flow-number, board-full-number, does-next, passes, refuses, stays}
+use Rattle.actions.proofs.Evaluation.{flow-test}
+
+-- a new value for the variable of index i, stored at j
+variables-set : {levels : List ℕ} {values : List ℤ} {n i j : ℕ} {vs : List Variable} (u z : ℤ) → Variables levels values n vs → i < n → j ≡ i
+    → n ≤ length values → z ≡ u → Variables levels (set values j u) n (set vs i (record { level = (variableAt vs i) .level; value = z }))
+unfolding variableAt
+variables-set {levels} {values} {n} {i} {j} {vs} u z h lt at long e =
+    record { many = length-set vs i new ∙ h .many; level = λ k b. level-at k b (ℕ-discrete k i); value = λ k b. value-at k b (ℕ-discrete k i) }
+  where
+    new : Variable
+    new = record { level = (getD vs i noVariable) .level; value = z }
+
+    here : getD (set vs i new) i noVariable ≡ new
+    here = getD-set-same vs i new noVariable (omega (arith, h .many))
+
+    level-at : (k : ℕ) → k < n → Dec (k ≡ i) → (getD (set vs i new) k noVariable) .level ≡ getD levels k 0
+    level-at k b (yes p) = rw p (ap (λ x. x .level) here ∙ h .level i lt)
+    level-at k b (no p) = ap (λ x. x .level) (getD-set-other vs i k new noVariable p) ∙ h .level k b
+
+    value-at : (k : ℕ) → k < n → Dec (k ≡ i) → (getD (set vs i new) k noVariable) .value ≡ getD (set values j u) k (pos 0)
+    value-at k b (yes p) = rw (p, at) (ap (λ x. x .value) here ∙ e ∙ sym (getD-set-same values i u (pos 0) (omega arith)))
+    value-at k b (no p) =
+        ap (λ x. x .value) (getD-set-other vs i k new noVariable p) ∙ h .value k b ∙ sym (getD-set-other values j k u (pos 0) (λ q. p (q ∙ at)))
+
+-- the memory with another number of lines
+abbrev withLines : Memory → ℕ → Memory
+withLines m n = record { cursor = m .cursor; level = m .level; lines = n; free = m .free; used = m .used }
+
+-- r is the value and the level of the expression e, and l is L
+module _ {words levels : List ℕ} {values : List ℤ} {places vars l : ℕ} {m : Memory} {e : Expression} {r : Valued} (pc : ℕ)
+    (x : Evaluates words levels values places vars m e r) (inside : m .cursor < places) (flows : l ≡ join (r .level) (join pc (m .level))) (b : List ℕ) where
+  -- command 1, at the index i
+  module _ {i j : ℕ} (lt : i < vars) (at : j ≡ i) where
+    level-at : {μ : Run.Memory} → Shows places vars (slices words levels values b) m μ → (variableAt (μ .variables) i) .level ≡ getD levels j 0
+    level-at s = s .variables .level i lt ∙ ap (λ k. getD levels k 0) (sym at)
+
+    pub no-assign : notAbove l (getD levels j 0) ≡ false
+        → Acts places vars (slices words levels values b) (slices words levels values b) m (effect 21 m)
+        (λ μ. Run.assign pc μ i (variableAt (μ .variables) i) e)
+    unfolding Run.assign
+    no-assign h = stays inside (λ μ s. refuses flow _ (flow-test pc x flows (level-at s) h b μ s) flow-number s)
+
+    pub did-assign : (u : ℤ) → r .value ≡ u → vars ≤ length values → notAbove l (getD levels j 0) ≡ true
+        → Acts places vars (slices words levels values b) (slices words levels (set values j u) b) m (effect 0 m)
+        (λ μ. Run.assign pc μ i (variableAt (μ .variables) i) e)
+    unfolding Run.assign withVariables
+    did-assign u is long h =
+        record {
+          cursor = inside;
+          room = λ fits. fits;
+          kept = record { grown = omega arith; values = λ n k. getD-set-other values j n u (pos 0) (λ p. omega arith); board = refl };
+          acts = λ μ s.
+              passes flow (flow-test pc x flows (level-at s) h b μ s)
+              (does-next _ refl
+              (record { tree = s .tree; level = s .level; variables = variables-set u _ (s .variables) lt at long (x .value b μ s ∙ is); lines = s .lines }));
+        }
+
+  -- command 6
+  pub no-output : notAbove l 0 ≡ false
+      → Acts places vars (slices words levels values b) (slices words levels values b) m (effect 21 m) (λ μ. Run.output pc μ (capacity b) e)
+  unfolding Run.output public
+  no-output h = stays inside (λ μ s. refuses flow _ (flow-test pc x flows refl h b μ s) flow-number s)
+
+  pub full-output : notAbove l 0 ≡ true → capacity b ≤ m .lines
+      → Acts places vars (slices words levels values b) (slices words levels values b) m (effect 24 m) (λ μ. Run.output pc μ (capacity b) e)
+  unfolding Run.output public
+  full-output h full =
+      stays inside (λ μ s.
+      passes flow (flow-test pc x flows refl h b μ s)
+      (refuses boardFull _ (le-ltb (length (μ .lines)) (capacity b) (omega (arith, lines-many (s .lines)))) board-full-number s))
+
+  pub did-output : (u : ℤ) → r .value ≡ u → notAbove l 0 ≡ true → m .lines < capacity b → (b′ : List ℕ) → b′ ≡ replaced b (m .lines) u
+      → Acts places vars (slices words levels values b) (slices words levels values b′) m (effect 0 (withLines m (m .lines + 1)))
+      (λ μ. Run.output pc μ (capacity b) e)
+  unfolding Run.output withLine public
+  did-output u is h lt b′ put =
+      let room : 4 * m .lines + 4 ≤ length b = omega arith in
+      rw put
+      (record {
+        cursor = inside;
+        room = λ fits. omega (arith, replaced-long b (m .lines) u room);
+        kept = record { grown = omega arith; values = λ j k. refl; board = replaced-rest b (m .lines) u room };
+        acts = λ μ s.
+            passes flow (flow-test pc x flows refl h b μ s)
+            (passes boardFull (lt-ltb (length (μ .lines)) (capacity b) (omega (arith, lines-many (s .lines))))
+            (does-next _ refl
+            (record { tree = s .tree; level = s .level; variables = s .variables; lines = rw (x .value b μ s ∙ is) (lines-on b (m .lines) u room _ (s .lines)) })));
+      })

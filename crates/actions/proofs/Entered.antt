@@ -1,0 +1,95 @@
+-- What an if and a while do, from the guard's value and level: the block stack with one context more, and the record that comes next by whether the
+-- value is zero. The machine reads the value back from its bits, which leaves one that fits as it is. Assumes nothing.
+use mathlib.Core.Path.{_≡_, refl, sym, _∙_, ap, ap₂, subst}
+use mathlib.Core.Bool.{Bool, true, false, cond}
+use mathlib.Core.List.{List, _∷_}
+use Prim.Native.Nat.{ℕ, suc, _+_, _<_, _≤_}
+use native.Mathlib.Numerals.{add-one}
+use native.Mathlib.Omega.{arith}
+use lib.ListN.{length}
+use mir.Syntax.{w32}
+use mir.Val.{toZ, ofZ, SFits}
+use mir.Facts.{toZ-ofZ}
+use Rattle.rules.specs.Limits.{maxDepth}
+use Rattle.rules.specs.Level.{join}
+use Rattle.rules.specs.Number.{isZero}
+use Rattle.rules.specs.Script.{Expression}
+use Rattle.rules.specs.Run.{State, Block, context, value, levelOf, stepped, pushed, enterIf, enterWhile}
+use Rattle.actions.specs.declared.evaluate.Valued.{Valued}
+use Rattle.actions.specs.declared.guards.Guards.{Guards}
+use Rattle.actions.specs.declared.control.Running.{Running}
+use Rattle.actions.specs.declared.control.Stepped.{Stepped}
+use Rattle.actions.specs.Guards.{Holds}
+use Rattle.actions.specs.Shows.{Slices}
+use Rattle.actions.specs.Acts.{Fits}
+use Rattle.actions.specs.Stands.{Stands, Passes, Enters}
+
+-- one step more, with the guards g, at the record i
+abbrev after : Running → Guards → ℕ → Stepped
+after r g i = record { stop = 0; running = record { memory = r .memory; guards = g; at = i; steps = r .steps + 1 } }
+
+passes : (r : Running) (g : Guards) (i : ℕ) → Passes r (after r g i)
+passes r g i = record { stop = refl; memory = refl; steps = add-one (r .steps) }
+
+-- the guard's value, which z says to be zero or not
+module _ (r : Running) (v : Valued) (j : ℕ) (z : Bool) (zero : isZero (toZ w32 (ofZ w32 (v .value))) ≡ z) where
+  within : (n : ℕ) → j ≤ n → r .at < n → cond z j (r .at + 1) ≤ n
+  within n h k = pick z
+    where
+      pick : (b : Bool) → cond b j (r .at + 1) ≤ n
+      pick true = h
+      pick false = omega arith
+
+  is-zero : (s : State) (e : Expression) → Fits (v .value) → value (s .memory) e ≡ v .value → isZero (value (s .memory) e) ≡ z
+  is-zero s e fits is = ap isZero (is ∙ sym (toZ-ofZ {w = w32} (record { sfits = fits }))) ∙ zero
+
+  next-at : (s : State) (e : Expression) → isZero (value (s .memory) e) ≡ z → s .at ≡ r .at
+      → cond (isZero (value (s .memory) e)) j (suc (s .at)) ≡ cond z j (r .at + 1)
+  next-at s e h k = rw (h, k, add-one)
+
+  -- a while, with the guards g that it has then
+  pub enters-while : (g : Guards)
+      → ((s : State) (e : Expression) → levelOf (s .memory) e ≡ v .level → length (s .blocks) < maxDepth → Holds (r .guards) (s .blocks)
+      → Holds g (cond z (s .blocks) (pushed s e)))
+      → Enters enterWhile r v j (after r g (cond z j (r .at + 1)))
+  unfolding enterWhile stepped
+  enters-while g held =
+      record {
+        passes = passes r _ _;
+        within = within;
+        enters = λ places vars x s e fits is level deep st.
+            let k = is-zero s e fits is in
+            record {
+              memory = st .memory;
+              guards = subst (λ (b : Bool). Holds g (cond b (s .blocks) (pushed s e))) (sym k) (held s e level deep (st .guards));
+              at = next-at s e k (st .at);
+              steps = rw (st .steps, add-one);
+            };
+      }
+
+  -- an if
+  pub enters-if : (g : Guards)
+      → ((s : State) (e : Expression) → levelOf (s .memory) e ≡ v .level → length (s .blocks) < maxDepth → Holds (r .guards) (s .blocks)
+      → Holds g (pushed s e))
+      → Enters enterIf r v j (after r g (cond z j (r .at + 1)))
+  unfolding enterIf stepped
+  enters-if g held =
+      record {
+        passes = passes r _ _;
+        within = within;
+        enters = λ places vars x s e fits is level deep st.
+            record {
+              memory = st .memory;
+              guards = held s e level deep (st .guards);
+              at = next-at s e (is-zero s e fits is) (st .at);
+              steps = rw (st .steps, add-one);
+            };
+      }
+
+-- one block more, by the top of the stack, the joined level and the push
+pub pushed-held : (r : Running) (v : Valued) (g : Guards) (t l : ℕ) → ((bs : List Block) → Holds (r .guards) bs → t ≡ context bs) → l ≡ join (v .level) t
+    → ((b : Block) (bs : List Block) → Holds (r .guards) bs → length bs < maxDepth → l ≡ context (b ∷ bs) → Holds g (b ∷ bs))
+    → (s : State) (e : Expression) → levelOf (s .memory) e ≡ v .level → length (s .blocks) < maxDepth → Holds (r .guards) (s .blocks) → Holds g (pushed s e)
+unfolding pushed context
+pushed-held r v g t l top joined pushes s e level deep held =
+    pushes _ (s .blocks) held deep (joined ∙ rw (level, top (s .blocks) held))

@@ -1,0 +1,217 @@
+-- Insertions, removals and writes as the rules give them: an action that changes the words and what leads to the free places shows the memory with the
+-- tree changed, once the tests before it, read from the table, are those of the rules. Assumes nothing.
+use mathlib.Core.Path.{_≡_, refl, sym, ap, ap₂, subst, _∙_}
+use mathlib.Core.Bool.{Bool, true, false}
+use mathlib.Core.Option.{some}
+use mathlib.Core.List.{List}
+use Prim.Native.Nat.{ℕ, _%_, _<_, _≤_}
+use native.Mathlib.Omega.{arith}
+use lib.IntN.{ℤ}
+use lib.Dec.{ltb, leb, eqb}
+use mir.Syntax.{w32}
+use Rattle.rules.specs.Number.{bits, signed}
+use Rattle.rules.specs.Level.{join, notAbove}
+use Rattle.rules.specs.Tree as Tree
+use Rattle.rules.specs.Tree.{Label, Forest, Place, to, up, sub, label, size, change, setValue}
+use Rattle.rules.specs.Script.{Expression}
+use Rattle.rules.specs.Run as Run
+use Rattle.rules.specs.Run.{Result, flow, absent, tableFull, low, need, withTree, current, value, secretIf, position, flowOf, mayTouch, newLabel, insertAt, removeAt}
+use Rattle.rules.proofs.Machine.{kept}
+use Rattle.rules.proofs.Number.{signed-bits}
+use Rattle.table.specs.Cells.{cells, sideOf, labelWith}
+use Rattle.table.specs.Holds.{Holds}
+use Rattle.table.specs.Promises.{Whenever, Leads, canAdd, Added}
+use Rattle.table.proofs.Moves.{stands}
+use Rattle.actions.specs.declared.memory.Memory.{Memory}
+use Rattle.actions.specs.declared.evaluate.Valued.{Valued}
+use Rattle.actions.specs.Shows.{slices, Shows}
+use Rattle.actions.specs.Acts.{Does, Acts, effect, Evaluates, ParentOn, MayTouch, MayAdd, gate}
+use Rattle.actions.proofs.Doing.{flow-number, absent-number, table-full-number, low-number, does-next, does-stop, passes, refuses, does-as, stays}
+use Rattle.actions.proofs.Evaluation.{read, flow-shown}
+use Rattle.actions.proofs.Touched.{there, nowhere, Under, under, no-parent, position-is}
+
+-- the memory with other places that lead to the free ones
+abbrev pub withSpace : Memory → ℕ → ℕ → Memory
+withSpace m free used = record { cursor = m .cursor; level = m .level; lines = m .lines; free = free; used = used }
+
+module _ {places vars : ℕ} {w w′ l b : List ℕ} {v : List ℤ} {m : Memory} {free used : ℕ} where
+  -- the words hold the same tree in another way, or another tree
+  pub with-space : {μ : Run.Memory} → Shows places vars (slices w l v b) m μ → Holds (cells w′) places used free (m .cursor) (μ .tree) (μ .cursor)
+      → Shows places vars (slices w′ l v b) (withSpace m free used) μ
+  with-space s h = record { tree = h; level = s .level; variables = s .variables; lines = s .lines }
+
+  pub with-tree : {μ : Run.Memory} {t : Forest} → Shows places vars (slices w l v b) m μ → Holds (cells w′) places used free (m .cursor) t (μ .cursor)
+      → Shows places vars (slices w′ l v b) (withSpace m free used) (withTree μ t)
+  unfolding withTree
+  with-tree s h = record { tree = h; level = s .level; variables = s .variables; lines = s .lines }
+
+  -- an action that changes no more
+  pub changes : {n : ℕ} {action : Run.Memory → Result Run.Memory} → m .cursor < places
+      → ((μ : Run.Memory) → Shows places vars (slices w l v b) m μ → Does (Shows places vars (slices w′ l v b) (withSpace m free used)) n μ (action μ))
+      → Acts places vars (slices w l v b) (slices w′ l v b) m (effect n (withSpace m free used)) action
+  changes inside f =
+      record { cursor = inside; room = λ h. h; kept = record { grown = omega arith; values = λ j h. refl; board = refl }; acts = f }
+
+-- the place on a side of the cursor
+abbrev pub Beside : List ℕ → ℕ → Memory → ℕ → ℕ → Type 0
+Beside w places m side old =
+    (used free : ℕ) (t : Forest) (p : Place) → Holds (cells w) places used free (m .cursor) t p
+    → Leads (cells w) places used free t (some (to (sideOf side) p)) old
+
+-- removals
+module _ (pc side : ℕ) {places vars old : ℕ} {w l b : List ℕ} {v : List ℤ} {m : Memory} (inside : m .cursor < places)
+    (beside : Beside w places m side old) where
+  pub remove-absent : places ≤ old
+      → Acts places vars (slices w l v b) (slices w l v b) m (effect 22 m) (λ μ. removeAt pc μ (to (sideOf side) (μ .cursor)))
+  unfolding removeAt
+  remove-absent ge = stays inside (λ μ s. refuses absent _ (nowhere (beside _ _ _ _ (s .tree)) ge) absent-number s)
+
+  module _ {c : ℕ} {ok : Bool} (at : c ≡ join pc (m .level)) (lt : old < places) (may : MayTouch w places m c old ok) where
+    touched : {μ : Run.Memory} → Shows places vars (slices w l v b) m μ → mayTouch pc μ (sub (to (sideOf side) (μ .cursor)) (μ .tree)) ≡ ok
+    touched {μ} s = sym (may .touch pc μ _ (position-is pc at s) (beside _ _ _ _ (s .tree)))
+
+    pub remove-refused : ok ≡ false
+        → Acts places vars (slices w l v b) (slices w l v b) m (effect 21 m) (λ μ. removeAt pc μ (to (sideOf side) (μ .cursor)))
+    unfolding removeAt
+    remove-refused e =
+        stays inside (λ μ s. passes absent (stands (there (beside _ _ _ _ (s .tree)) lt)) (refuses flow _ (touched s ∙ e) flow-number s))
+
+    pub removed : {w′ : List ℕ} {free : ℕ} → ok ≡ true
+        → ((used : ℕ) (t : Forest) (p : Place) → Holds (cells w) places used (m .free) (m .cursor) t p
+        → Holds (cells w′) places used free (m .cursor) (change (to (sideOf side) p) Tree.remove t) p)
+        → Acts places vars (slices w l v b) (slices w′ l v b) m (effect 0 (withSpace m free (m .used))) (λ μ. removeAt pc μ (to (sideOf side) (μ .cursor)))
+    unfolding removeAt
+    removed e gone =
+        changes inside
+        (λ μ s.
+        passes absent (stands (there (beside _ _ _ _ (s .tree)) lt))
+        (passes flow (touched s ∙ e) (does-next _ refl (with-tree s (gone _ _ _ (s .tree))))))
+
+-- the three tests in front of an insertion
+module _ {P : Run.Memory → Type 0} {k : ℕ} {μ : Run.Memory} where
+  gate-shut : (p q r : Bool) (x : Result Run.Memory) → k ≡ gate p q r → (k ≡ 0 → ⊥) → P μ → Does P k μ (need flow p (need flow q (need low r x)))
+  unfolding gate need
+  gate-shut true true true x i ne h = absurd (ne i)
+  gate-shut true true false x i ne h = does-stop low (i ∙ low-number) h
+  gate-shut true false r x i ne h = does-stop flow (i ∙ flow-number) h
+  gate-shut false q r x i ne h = does-stop flow (i ∙ flow-number) h
+
+  gate-open : {n : ℕ} (p q r : Bool) (x : Result Run.Memory) → k ≡ gate p q r → k ≡ 0 → Does P n μ x → Does P n μ (need flow p (need flow q (need low r x)))
+  unfolding gate need
+  gate-open true true true x i z d = d
+  gate-open true true false x i z d = absurd (omega arith)
+  gate-open true false r x i z d = absurd (omega arith)
+  gate-open false q r x i z d = absurd (omega arith)
+
+-- insertions
+abbrev pub Inserts : ℕ → ℕ → ℕ → ℕ → Expression → Run.Memory → Result Run.Memory
+Inserts pc side mark places e μ = insertAt pc μ places (to (sideOf side) (μ .cursor)) (up (to (sideOf side) (μ .cursor))) mark e
+
+module _ (pc side mark : ℕ) (e : Expression) {places vars above : ℕ} {w l b : List ℕ} {v : List ℤ} {m : Memory} (inside : m .cursor < places)
+    (on : ParentOn w places m side above) where
+  pub insert-absent : places ≤ above → Acts places vars (slices w l v b) (slices w l v b) m (effect 22 m) (Inserts pc side mark places e)
+  unfolding insertAt
+  insert-absent ge =
+      stays inside
+      (λ μ s.
+      does-as (ap (λ o. insertAt pc μ places (to (sideOf side) (μ .cursor)) o mark e) (no-parent (sideOf side) (s .tree) (on .leads _ _ (s .tree)) ge))
+      (does-stop absent absent-number s))
+
+  module _ {old c k : ℕ} (beside : Beside w places m side old) (at : c ≡ join pc (m .level)) (lt : above < places) (may : MayAdd w places m above old c k) where
+    -- the parent's place
+    parent : {μ : Run.Memory} → Shows places vars (slices w l v b) m μ
+        → Under (cells w) places (m .used) (m .free) above (μ .tree) (up (to (sideOf side) (μ .cursor)))
+    parent s = under (on .leads _ _ (s .tree)) lt
+
+    gated : {μ : Run.Memory} (s : Shows places vars (slices w l v b) m μ)
+        → k ≡ gate (notAbove (position pc μ) ((label (sub (parent s .place) (μ .tree))) .structure))
+        (mayTouch pc μ (sub (to (sideOf side) (μ .cursor)) (μ .tree))) (notAbove ((label (current μ)) .existence) (position pc μ))
+    unfolding current
+    gated {μ} s =
+        let i = position-is pc at s in
+        may .add pc μ _ _ i (s .tree) (parent s .holds) (beside _ _ _ _ (s .tree))
+        ∙ ap (λ z. gate (notAbove z ((label (sub (parent s .place) (μ .tree))) .structure)) (mayTouch pc μ (sub (to (sideOf side) (μ .cursor)) (μ .tree)))
+        (notAbove ((label (sub (μ .cursor) (μ .tree))) .existence) z)) i
+
+    -- the insertion under that parent
+    as-under : {μ : Run.Memory} (s : Shows places vars (slices w l v b) m μ)
+        → Inserts pc side mark places e μ ≡ insertAt pc μ places (to (sideOf side) (μ .cursor)) (some (parent s .place)) mark e
+    as-under {μ} s = ap (λ o. insertAt pc μ places (to (sideOf side) (μ .cursor)) o mark e) (parent s .is)
+
+    pub insert-refused : (k ≡ 0 → ⊥) → Acts places vars (slices w l v b) (slices w l v b) m (effect k m) (Inserts pc side mark places e)
+    unfolding insertAt
+    insert-refused ne = stays inside (λ μ s. does-as (as-under s) (gate-shut _ _ _ _ (gated s) ne s))
+
+    module _ (w′ : List ℕ) {ok : Bool} {x free used : ℕ} {new : Label} (zero : k ≡ 0)
+        (added : (t : Forest) (p : Place) → Holds (cells w) places (m .used) (m .free) (m .cursor) t p
+        → Added (sideOf side) new (cells w) (cells w′) places (m .used) (m .free) (m .cursor) ok x free used t p) where
+      room : {μ : Run.Memory} → Shows places vars (slices w l v b) m μ → ok ≡ ltb (size (μ .tree)) places
+      unfolding canAdd
+      room {μ} s = added _ _ (s .tree) .when ∙ ap (canAdd places (μ .tree)) (parent s .is)
+
+      pub insert-full : ok ≡ false → Acts places vars (slices w l v b) (slices w′ l v b) m (effect 23 (withSpace m free used)) (Inserts pc side mark places e)
+      unfolding insertAt
+      insert-full i =
+          changes inside
+          (λ μ s.
+          does-as (as-under s)
+          (gate-open _ _ _ _ (gated s) zero (refuses tableFull _ (sym (room s) ∙ i) table-full-number (with-space s (added _ _ (s .tree) .kept i)))))
+
+      pub inserted : ((μ : Run.Memory) → Shows places vars (slices w l v b) m μ → new ≡ newLabel pc μ mark e) → ok ≡ true
+          → Acts places vars (slices w l v b) (slices w′ l v b) m (effect 0 (withSpace m free used)) (Inserts pc side mark places e)
+      unfolding insertAt
+      inserted labels i =
+          changes inside
+          (λ μ s.
+          does-as (as-under s)
+          (gate-open _ _ _ _ (gated s) zero
+          (passes tableFull (sym (room s) ∙ i)
+          (does-next _ refl
+          (with-tree s
+          (subst (λ n. Holds (cells w′) places used free (m .cursor) (change (to (sideOf side) (μ .cursor)) (Tree.insert n) (μ .tree)) (μ .cursor)) (labels μ s)
+          (added _ _ (s .tree) .done i)))))))
+
+-- r is the value and the level of the expression e, and k is L
+module _ {w l : List ℕ} {v : List ℤ} {places vars k : ℕ} {m : Memory} {e : Expression} {r : Valued} (pc : ℕ) (x : Evaluates w l v places vars m e r)
+    (flows : k ≡ join (r .level) (join pc (m .level))) (b : List ℕ) where
+  -- the value, by its bits
+  told : {n : ℕ} → n ≡ bits (kept w32 (r .value)) → (μ : Run.Memory) → Shows places vars (slices w l v b) m μ → signed n ≡ value μ e
+  told i μ s = ap signed i ∙ ap (λ z. signed (bits z)) (read (x .fits)) ∙ signed-bits (record { sfits = x .fits }) ∙ sym (x .value b μ s)
+
+  -- the label of a new node at the level c
+  pub new-label : {n c p q : ℕ} (mark : ℕ) → n ≡ bits (kept w32 (r .value)) → c ≡ join pc (m .level) → p ≡ join k (secretIf (eqb (mark % 2) 1))
+      → q ≡ join c (secretIf (leb 2 mark)) → (μ : Run.Memory) → Shows places vars (slices w l v b) m μ → labelWith n c p q ≡ newLabel pc μ mark e
+  unfolding newLabel
+  new-label mark i at ip iq μ s =
+      λ j.
+      record {
+        value = told i μ s j;
+        existence = position-is pc at s j;
+        content = (ip ∙ ap (λ z. join z (secretIf (eqb (mark % 2) 1))) (flows ∙ sym (flow-shown pc x b μ s))) j;
+        structure = (iq ∙ ap (λ z. join z (secretIf (leb 2 mark))) (position-is pc at s)) j;
+      }
+
+  -- writes to a node of the content c
+  module _ {c : ℕ} (inside : m .cursor < places) (contents : Whenever (cells w) places (m .cursor) (λ t p. label (sub p t) .content ≡ c)) where
+    content-test : {t : Bool} → notAbove k c ≡ t → (μ : Run.Memory) → Shows places vars (slices w l v b) m μ
+        → notAbove (flowOf pc μ e) ((label (current μ)) .content) ≡ t
+    unfolding current
+    content-test h μ s = ap₂ notAbove (flow-shown pc x b μ s ∙ sym flows) (contents _ _ _ _ (s .tree)) ∙ h
+
+    pub write-refused : notAbove k c ≡ false → Acts places vars (slices w l v b) (slices w l v b) m (effect 21 m) (λ μ. Run.write pc μ e)
+    unfolding Run.write
+    write-refused h = stays inside (λ μ s. refuses flow _ (content-test h μ s) flow-number s)
+
+    pub written : (w′ : List ℕ) {n : ℕ} → notAbove k c ≡ true → n ≡ bits (kept w32 (r .value))
+        → ((used free : ℕ) (t : Forest) (p : Place) → Holds (cells w) places used free (m .cursor) t p
+        → Holds (cells w′) places used free (m .cursor) (change p (setValue (signed n)) t) p)
+        → Acts places vars (slices w l v b) (slices w′ l v b) m (effect 0 m) (λ μ. Run.write pc μ e)
+    unfolding Run.write
+    written w′ h i set =
+        changes inside
+        (λ μ s.
+        passes flow (content-test h μ s)
+        (does-next _ refl
+        (with-tree s
+        (subst (λ z. Holds (cells w′) places (m .used) (m .free) (m .cursor) (change (μ .cursor) (setValue z) (μ .tree)) (μ .cursor)) (told i μ s)
+        (set _ _ _ _ (s .tree))))))

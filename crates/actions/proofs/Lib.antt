@@ -1,0 +1,11 @@
+-- Laws of what one record does; those that callers cite come first.
+pub mod Board
+pub mod Doing
+pub mod Contexts
+pub mod Stepping
+mod Evaluation
+mod Assigned
+mod Moved
+mod Touched
+mod Inserted
+mod Entered

@@ -1,0 +1,22 @@
+-- The flow found is the rules' L and the content read is the node's, so the test is the rules'; the bits stored spell the expression's value.
+-- Assumes nothing.
+use Rattle.actions.proofs.Doing.{refused, allowed}
+use Rattle.actions.proofs.Inserted.{write-refused, written}
+use borrow.Author.Needs.{needs}
+use Rattle.actions.proofs.nodes.write.Statement.{statement}
+use Rattle.actions.proofs.nodes.write.Tie as tie
+
+returns : tie.Need-returns
+returns c = λ l b v vars x e.
+    let s = c .before .before .before .before .before .before in
+    write-refused (s .args .pc) e (c .before .before .before .before .flow .ensures) b (s .pre .inside) (c .before .before .content .ensures) (refused (c .before .not-above .ensures) (c .if1 .taken))
+
+returns-2 : tie.Need-returns-2
+returns-2 c = λ l b v vars x e.
+    let s = c .before .before .before .before .before .before .before .before .before .before .before .before in
+    written (s .args .pc) e (c .before .before .before .before .before .before .before .before .before .before .flow .ensures) b (s .pre .inside) (c .before .before .before .before .before .before .before .before .content .ensures) _
+    (allowed (c .before .before .before .before .before .before .before .not-above .ensures) (c .before .before .before .before .before .before .if1 .left)) (c .before .before .before .bits .ensures) (c .before .before .set-value .ensures)
+
+pub write-spec : {M : Type 1} → statement M
+write-spec =
+    tie.close (tie.spec (λ c κs. search needs) (λ c κs. search needs) (λ c κs. search needs) (λ c. search needs) returns (λ c κs. search needs) (λ c κs. search needs) (λ c. search needs) returns-2)

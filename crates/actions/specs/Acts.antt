@@ -1,0 +1,112 @@
+-- What the monitor's functions promise: for every memory that the slices show, what the rules give. Assumes nothing.
+use mathlib.Core.Path.{_≡_}
+use mathlib.Core.Bool.{Bool, true, false, cond}
+use mathlib.Core.Option.{Option, none, some}
+use Prim.Native.Nat.{ℕ, zero, suc, _*_, _<_, _≤_}
+use mathlib.Core.List.{List}
+use lib.ListN.{length, getD, drop}
+use lib.IntN.{ℤ, pos}
+use lib.Signed.{mag}
+use Rattle.rules.specs.Number.{half-range}
+use Rattle.rules.specs.Level.{notAbove}
+use Rattle.rules.specs.Tree.{Forest, Place, root, to, up, sub, label, child, sibling}
+use Rattle.rules.specs.Script.{Operand, Expression}
+use Rattle.rules.specs.Run as Run
+use Rattle.rules.specs.Job.{expression}
+use Rattle.rules.specs.Run.{Result, next, stop, stopNumber, operandValue, operandLevel, value, levelOf, position, mayTouch, moveTo, goTo}
+use Rattle.table.specs.Cells.{cells, sideOf}
+use Rattle.table.specs.Holds.{Holds}
+use Rattle.table.specs.Promises.{Leads}
+use Rattle.actions.specs.declared.memory.Memory.{Memory}
+use Rattle.actions.specs.declared.memory.Effect.{Effect}
+use Rattle.actions.specs.declared.evaluate.Valued.{Valued}
+use Rattle.actions.specs.Shows.{Slices, slices, Shows}
+
+-- a 32-bit number
+abbrev pub Fits : ℤ → Type 0
+Fits z = mag z < half-range
+
+-- r is the operand's value and level
+pub record Operates (words levels : List ℕ) (values : List ℤ) (places vars : ℕ) (m : Memory) (a : Operand) (r : Valued) : Type 0 where
+  pub fits : Fits (r .value)
+  pub value : (b : List ℕ) (μ : Run.Memory) → Shows places vars (slices words levels values b) m μ → operandValue μ a ≡ r .value
+  pub level : (b : List ℕ) (μ : Run.Memory) → Shows places vars (slices words levels values b) m μ → operandLevel μ a ≡ r .level
+
+-- r is what the operator of a number above 0 makes of two values
+pub record Applies (operator : ℕ) (a b r : ℤ) : Type 0 where
+  pub fits : Fits a → Fits b → Fits r
+  pub is : (x y : Operand) (μ : Run.Memory) → operandValue μ x ≡ a → operandValue μ y ≡ b → value μ (expression operator x y) ≡ r
+
+-- r is the expression's value and level
+pub record Evaluates (words levels : List ℕ) (values : List ℤ) (places vars : ℕ) (m : Memory) (e : Expression) (r : Valued) : Type 0 where
+  pub fits : Fits (r .value)
+  pub value : (b : List ℕ) (μ : Run.Memory) → Shows places vars (slices words levels values b) m μ → value μ e ≡ r .value
+  pub level : (b : List ℕ) (μ : Run.Memory) → Shows places vars (slices words levels values b) m μ → levelOf μ e ≡ r .level
+
+-- the number k and what comes after it are as a result of the rules says: 0 and what it goes on with, or the stop's number and what was before
+abbrev pub Follows : {A : Type 0} → (A → Type 0) → ℕ → A → Result A → Type 0
+Follows P k a (next a′) = (k ≡ 0) × P a′
+Follows P k a (stop j) = (k ≡ stopNumber j) × P a
+
+-- a record, so that the result can be read off
+pub record Does {A : Type 0} (P : A → Type 0) (k : ℕ) (a : A) (x : Result A) : Type 0 where
+  pub does : Follows P k a x
+
+-- what no action touches: values beyond the variables, the board's bytes behind the last line
+pub record Kept (vars : ℕ) (x x′ : Slices) (n n′ : ℕ) : Type 0 where
+  pub grown : n ≤ n′
+  pub values : (j : ℕ) → vars ≤ j → getD (x′ .values) j (pos 0) ≡ getD (x .values) j (pos 0)
+  pub board : drop (4 * n′) (x′ .board) ≡ drop (4 * n′) (x .board)
+
+-- an action: from the slices x and the numbers m to x′ and the effect r, as the rules' action does
+pub record Acts (places vars : ℕ) (x x′ : Slices) (m : Memory) (r : Effect) (action : Run.Memory → Result Run.Memory) : Type 0 where
+  pub cursor : r .memory .cursor < places
+  pub room : 4 * m .lines ≤ length (x .board) → 4 * r .memory .lines ≤ length (x′ .board)
+  pub kept : Kept vars x x′ (m .lines) (r .memory .lines)
+  pub acts : (μ : Run.Memory) → Shows places vars x m μ → Does (Shows places vars x′ (r .memory)) (r .stop) μ (action μ)
+
+-- an effect by its parts
+abbrev pub effect : ℕ → Memory → Effect
+effect k m = record { stop = k; memory = m }
+
+-- the memory with the cursor at another place or level
+abbrev pub withCursor : Memory → ℕ → ℕ → Memory
+withCursor m place level = record { cursor = place; level = level; lines = m .lines; free = m .free; used = m .used }
+
+-- the cursor at another place or level, or 21 where the context pc is above its level
+unfoldable pub movedTo : ℕ → Memory → ℕ → ℕ → Effect
+movedTo pc m place level = cond (notAbove pc (m .level)) (effect 0 (withCursor m place level)) (effect 21 m)
+
+-- the move of a command's number: 7 root, 8 up, 9 first child, 10 right sibling
+unfoldable pub moveOf : ℕ → ℕ → Run.Memory → Result Run.Memory
+moveOf k pc μ =
+    cond (lib.Dec.eqb k 7) (moveTo pc μ root pc)
+    (cond (lib.Dec.eqb k 8) (goTo pc μ (up (μ .cursor)))
+    (cond (lib.Dec.eqb k 9) (goTo pc μ (some (to child (μ .cursor)))) (goTo pc μ (some (to sibling (μ .cursor))))))
+
+-- a place of the table where a move from the cursor leads
+pub record Target (words : List ℕ) (places : ℕ) (m : Memory) (place : ℕ) (o : Place → Option Place) : Type 0 where
+  pub leads : (t : Forest) (p : Place) → Holds (cells words) places (m .used) (m .free) (m .cursor) t p
+      → Leads (cells words) places (m .used) (m .free) t (o p) place
+
+-- the place of the parent that a node on a side of the cursor's has, or no place of the table
+pub record ParentOn (words : List ℕ) (places : ℕ) (m : Memory) (side r : ℕ) : Type 0 where
+  pub leads : (t : Forest) (p : Place) → Holds (cells words) places (m .used) (m .free) (m .cursor) t p
+      → Leads (cells words) places (m .used) (m .free) t (up (to (sideOf side) p)) r
+
+-- whether C is not above the existence of the node at a place, if it is one
+pub record MayTouch (words : List ℕ) (places : ℕ) (m : Memory) (c place : ℕ) (r : Bool) : Type 0 where
+  pub touch : (pc : ℕ) (μ : Run.Memory) (q : Place) → c ≡ position pc μ
+      → Leads (cells words) places (m .used) (m .free) (μ .tree) (some q) place → r ≡ mayTouch pc μ (sub q (μ .tree))
+
+-- 21, 26 or 0, by the three tests of an insertion
+unfoldable pub gate : Bool → Bool → Bool → ℕ
+gate a b c = cond a (cond b (cond c 0 26) 21) 21
+
+-- the rules of an insertion under the node at `above`, in front of what is at `old`
+pub record MayAdd (words : List ℕ) (places : ℕ) (m : Memory) (above old c r : ℕ) : Type 0 where
+  pub add : (pc : ℕ) (μ : Run.Memory) (q p : Place) → c ≡ position pc μ
+      → Holds (cells words) places (m .used) (m .free) (m .cursor) (μ .tree) (μ .cursor)
+      → Holds (cells words) places (m .used) (m .free) above (μ .tree) q → Leads (cells words) places (m .used) (m .free) (μ .tree) (some p) old
+      → r ≡ gate (notAbove c ((label (sub q (μ .tree))) .structure)) (mayTouch pc μ (sub p (μ .tree)))
+      (notAbove ((label (sub (μ .cursor) (μ .tree))) .existence) c)

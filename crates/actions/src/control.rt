@@ -1,0 +1,121 @@
+// Where a run stands between two steps, and what the commands do that say which record comes next: 2 to 5.
+use super::evaluate::Valued;
+use super::guards;
+use super::guards::Guards;
+use super::memory::Effect;
+use super::memory::Memory;
+use rules::levels::join;
+use rules::numbers;
+ghost use Prim.Native.Nat.{_<_, _≤_};
+ghost use Rattle.rules.specs.Limits.{maxBudget};
+ghost use Rattle.rules.specs.Run.{enterIf, enterWhile};
+ghost use Rattle.actions.specs.Stands.{Timely, Onward, Jumps, Leaves, Enters};
+
+// The memory, the open blocks, the record that comes next, and the steps so far.
+pub struct Running {
+    pub memory: Memory,
+    pub guards: Guards,
+    pub at: usize,
+    pub steps: u32,
+}
+
+// Stands for the script's end where the number of a stop would stand.
+pub const FINISHED: u8 = 255;
+
+// How the run has ended, or 0 where it goes on, and where it stands then.
+pub struct Stepped {
+    pub stop: u8,
+    pub running: Running,
+}
+
+// After an action: on to the next record, or stopped where it was.
+pub fn onward(r: Running, e: Effect) -> Stepped
+    requires { ⌜ Timely r ⌝ }
+    ensures { λ a. ⌜ Onward r e a ⌝ }
+{
+    let mut next = r;
+    let m = e.memory;
+    next.memory = m;
+    if e.stop != 0 {
+        return Stepped {
+            stop: e.stop,
+            running: next,
+        };
+    }
+    next.at = r.at + 1;
+    next.steps = r.steps + 1;
+    Stepped {
+        stop: 0,
+        running: next,
+    }
+}
+
+// Command 3, else: on to the end of its block.
+pub fn jump(r: Running, to: usize) -> Stepped
+    requires { ⌜ Timely r ⌝ }
+    ensures { λ a. ⌜ Jumps r to a ⌝ }
+{
+    let mut next = r;
+    next.at = to;
+    next.steps = r.steps + 1;
+    Stepped {
+        stop: 0,
+        running: next,
+    }
+}
+
+// Command 5, end: one block less, and back to its while or on.
+pub fn leave(r: Running, to: usize) -> Stepped
+    requires { ⌜ Timely r ⌝ }
+    ensures { λ a. ⌜ Leaves r to a ⌝ }
+{
+    let mut next = r;
+    let g = guards::pop(r.guards);
+    next.guards = g;
+    next.at = to;
+    next.steps = r.steps + 1;
+    Stepped {
+        stop: 0,
+        running: next,
+    }
+}
+
+// Command 2, if: one block more; with a zero guard past its else, or to its end.
+pub fn enter_if(r: Running, e: Valued, to: usize) -> Stepped
+    requires { ⌜ Timely r ⌝ }
+    ensures { λ a. ⌜ Enters enterIf r e to a ⌝ }
+{
+    let mut next = r;
+    let g = guards::push(r.guards, join(e.level, guards::top(r.guards)));
+    next.guards = g;
+    next.steps = r.steps + 1;
+    if numbers::is_zero(e.value) {
+        next.at = to;
+    } else {
+        next.at = r.at + 1;
+    }
+    Stepped {
+        stop: 0,
+        running: next,
+    }
+}
+
+// Command 4, while: with a zero guard past its end; else one block more.
+pub fn enter_while(r: Running, e: Valued, to: usize) -> Stepped
+    requires { ⌜ Timely r ⌝ }
+    ensures { λ a. ⌜ Enters enterWhile r e to a ⌝ }
+{
+    let mut next = r;
+    next.steps = r.steps + 1;
+    if numbers::is_zero(e.value) {
+        next.at = to;
+    } else {
+        let g = guards::push(r.guards, join(e.level, guards::top(r.guards)));
+        next.guards = g;
+        next.at = r.at + 1;
+    }
+    Stepped {
+        stop: 0,
+        running: next,
+    }
+}

@@ -1,0 +1,175 @@
+// The actions on nodes: commands 11 to 15.
+use super::evaluate::Valued;
+use super::memory::Effect;
+use super::memory::Memory;
+use super::memory::flow;
+use super::memory::position;
+use rules::levels::join;
+use rules::levels::not_above;
+use rules::limits::ABSENT;
+use rules::limits::FLOW;
+use rules::limits::LOW;
+use rules::limits::TABLE_FULL;
+use rules::numbers;
+use table::node;
+use table::shape;
+use table::walk;
+ghost use mathlib.Core.Path.{_≡_};
+ghost use mathlib.Core.List.{List};
+ghost use Prim.Native.Nat.{ℕ, _*_, _≤_, _<_};
+ghost use lib.IntN.{ℤ};
+ghost use lib.ListN.{length};
+ghost use Rattle.rules.specs.Limits.{maxNodes};
+ghost use Rattle.rules.specs.Tree.{to, up};
+ghost use Rattle.rules.specs.Run as Run;
+ghost use Rattle.rules.specs.Run.{secretIf};
+ghost use Rattle.rules.specs.Script.{Expression};
+ghost use Rattle.table.specs.Cells.{Within, sideOf};
+ghost use Rattle.actions.specs.Shows.{slices};
+ghost use Rattle.actions.specs.Acts.{Acts, Evaluates, ParentOn, MayTouch, MayAdd};
+
+// The place of the parent that a node on a side of the cursor's has, or no place.
+fn parent_on(words: &[u32], places: u32, m: Memory, side: u32) -> u32
+    requires { ⌜ Within (now words) places (m .cursor) × (side < 2) ⌝ }
+    ensures { λ r. ⌜ ParentOn (now (words .entry)) places m side r ⌝ }
+{
+    if side == table::FIRST {
+        return m.cursor;
+    }
+    walk::parent(words, places, m.cursor)
+}
+
+// Whether C is not above the existence of the node at a place, if it is one.
+fn may_touch(words: &[u32], places: u32, m: Memory, c: u8, place: u32) -> bool
+    requires { ⌜ (8 * places ≤ length (now words)) × (places ≤ maxNodes) ⌝ }
+    ensures { λ r. ⌜ MayTouch (now (words .entry)) places m c place r ⌝ }
+{
+    if place >= places {
+        return true;
+    }
+    not_above(c, node::existence(words, places, place))
+}
+
+// The rules of an insertion at the level c: under the node at `above`, in front of what is at `old`.
+fn may_add(words: &[u32], places: u32, m: Memory, above: u32, old: u32, c: u8) -> u8
+    requires { ⌜ Within (now words) places (m .cursor) × (above < places) ⌝ }
+    ensures { λ r. ⌜ MayAdd (now (words .entry)) places m above old c r ⌝ }
+{
+    if !not_above(c, node::structure(words, places, above)) {
+        return FLOW;
+    }
+    if !may_touch(words, places, m, c, old) {
+        return FLOW;
+    }
+    if !not_above(node::existence(words, places, m.cursor), c) {
+        return LOW;
+    }
+    0
+}
+
+// A mark adds 1 to the content where it is odd, and to the structure level where it is 2 or 3.
+fn secret_if(t: bool) -> u8
+    ensures { λ r. ⌜ r ≡ secretIf t ⌝ }
+{
+    if t {
+        rules::levels::SECRET
+    } else {
+        rules::levels::PUBLIC
+    }
+}
+
+// Commands 11 and 12, by the side: a new node in front of what stands there, with the expression whose value and level are e.
+pub fn insert(
+    side: u32,
+    mark: u8,
+    e: Valued,
+    words: &mut [u32],
+    places: u32,
+    pc: u8,
+    m: Memory,
+) -> Effect
+    requires { ⌜ Within (now words) places (m .cursor) × (side < 2) ⌝ }
+    ensures { λ r. ⌜ ((l b : List ℕ) (v : List ℤ) (vars : ℕ) (x : Expression) → Evaluates (now (words .entry)) l v places vars m x e
+        → Acts places vars (slices (now (words .entry)) l v b) (slices (now (words .exit)) l v b) m r
+        (λ μ. Run.insertAt pc μ places (to (sideOf side) (μ .cursor)) (up (to (sideOf side) (μ .cursor))) mark x)) ⌝ }
+{
+    let above = parent_on(words, places, m, side);
+    if above >= places {
+        return Effect {
+            stop: ABSENT,
+            memory: m,
+        };
+    }
+    let c = position(pc, m);
+    let old = walk::beside(words, places, m.cursor, side);
+    let refused = may_add(words, places, m, above, old, c);
+    if refused != 0 {
+        return Effect {
+            stop: refused,
+            memory: m,
+        };
+    }
+    let new = shape::NewNode {
+        value: numbers::bits(e.value),
+        existence: c,
+        content: join(flow(e.level, pc, m), secret_if(mark % 2 == 1)),
+        structure: join(c, secret_if(2 <= mark)),
+    };
+    let got = shape::add(words, places, m.used, m.free, m.cursor, side, new);
+    let mut next = m;
+    next.free = got.free;
+    next.used = got.used;
+    if !got.ok {
+        return Effect {
+            stop: TABLE_FULL,
+            memory: next,
+        };
+    }
+    Effect {
+        stop: 0,
+        memory: next,
+    }
+}
+
+// Commands 13 and 14, by the side: the first node there goes, with its subtree.
+pub fn remove(side: u32, words: &mut [u32], places: u32, pc: u8, m: Memory) -> Effect
+    requires { ⌜ Within (now words) places (m .cursor) × (side < 2) ⌝ }
+    ensures { λ r. ⌜ ((l : List ℕ) (v : List ℤ) (b : List ℕ) (vars : ℕ) → Acts places vars (slices (now (words .entry)) l v b)
+        (slices (now (words .exit)) l v b) m r (λ μ. Run.removeAt pc μ (to (sideOf side) (μ .cursor)))) ⌝ }
+{
+    let old = walk::beside(words, places, m.cursor, side);
+    if old >= places {
+        return Effect {
+            stop: ABSENT,
+            memory: m,
+        };
+    }
+    if !may_touch(words, places, m, position(pc, m), old) {
+        return Effect {
+            stop: FLOW,
+            memory: m,
+        };
+    }
+    let mut next = m;
+    next.free = shape::remove(words, places, m.free, m.cursor, side);
+    Effect {
+        stop: 0,
+        memory: next,
+    }
+}
+
+// Command 15: the value of the cursor's node becomes the expression, whose value and level are e.
+pub fn write(e: Valued, words: &mut [u32], places: u32, pc: u8, m: Memory) -> Effect
+    requires { ⌜ Within (now words) places (m .cursor) ⌝ }
+    ensures { λ r. ⌜ ((l b : List ℕ) (v : List ℤ) (vars : ℕ) (x : Expression) → Evaluates (now (words .entry)) l v places vars m x e
+        → Acts places vars (slices (now (words .entry)) l v b) (slices (now (words .exit)) l v b) m r (λ μ. Run.write pc μ x)) ⌝ }
+{
+    if !not_above(flow(e.level, pc, m), node::content(words, places, m.cursor)) {
+        return Effect {
+            stop: FLOW,
+            memory: m,
+        };
+    }
+    node::set_value(words, places, m.cursor, numbers::bits(e.value));
+    Effect { stop: 0, memory: m }
+}

@@ -1,0 +1,94 @@
+// The actions on variables and the board: commands 1 and 6.
+use super::evaluate::Valued;
+use super::memory::Effect;
+use super::memory::Memory;
+use super::memory::flow;
+use rules::levels::PUBLIC;
+use rules::levels::not_above;
+use rules::limits::BOARD_FULL;
+use rules::limits::FLOW;
+use rules::numbers::bits;
+ghost use mathlib.Core.Path.{_≡_};
+ghost use mathlib.Core.List.{List};
+ghost use Prim.Native.Nat.{ℕ, _+_, _*_, _%_, _<_, _≤_};
+ghost use lib.IntN.{ℤ};
+ghost use lib.ListN.{length};
+ghost use Rattle.rules.specs.Run as Run;
+ghost use Rattle.rules.specs.Script.{Expression};
+ghost use Rattle.actions.specs.Board.{capacity, replaced};
+ghost use Rattle.actions.specs.Shows.{slices};
+ghost use Rattle.actions.specs.Acts.{Acts, Evaluates};
+
+fn index(x: u8) -> usize
+    ensures { λ r. ⌜ r ≡ x ⌝ }
+{
+    x as usize
+}
+
+// Command 1: the target becomes the expression, whose value and level are e.
+pub fn assign(target: u8, e: Valued, levels: &[u8], values: &mut [i32], pc: u8, m: Memory) -> Effect
+    requires { ⌜ (target < length (now levels)) × (target < length (now values)) ⌝ }
+    ensures { λ r. ⌜ ((w b : List ℕ) (places vars : ℕ) (x : Expression) → m .cursor < places → target < vars → vars ≤ length (now (values .entry))
+        → Evaluates w (now (levels .entry)) (now (values .entry)) places vars m x e
+        → Acts places vars (slices w (now (levels .entry)) (now (values .entry)) b) (slices w (now (levels .entry)) (now (values .exit)) b) m r
+        (λ μ. Run.assign pc μ target (Run.variableAt (μ .variables) target) x)) ⌝ }
+{
+    let i = index(target);
+    if !not_above(flow(e.level, pc, m), levels[i]) {
+        return Effect {
+            stop: FLOW,
+            memory: m,
+        };
+    }
+    let v = e.value;
+    values[i] = v;
+    Effect { stop: 0, memory: m }
+}
+
+fn low_byte(w: u32) -> u8
+    ensures { λ r. ⌜ r ≡ w % 256 ⌝ }
+{
+    (w % 256) as u8
+}
+
+// Line n: four bytes, the lowest first.
+fn put_line(lines: &mut [u8], n: usize, v: i32)
+    requires { ⌜ 4 * n + 4 ≤ length (now lines) ⌝ }
+    ensures { λ _. ⌜ now (lines .exit) ≡ replaced (now (lines .entry)) n v ⌝ }
+{
+    let w = bits(v);
+    let at = 4 * n;
+    lines[at] = low_byte(w);
+    lines[at + 1] = low_byte(w / 256);
+    lines[at + 2] = low_byte(w / 65536);
+    lines[at + 3] = low_byte(w / 16777216);
+}
+
+// Command 6: a board line, the expression whose value and level are e.
+pub fn output(e: Valued, lines: &mut [u8], pc: u8, m: Memory) -> Effect
+    requires { ⌜ 4 * m .lines ≤ length (now lines) ⌝ }
+    ensures { λ r. ⌜ ((w l : List ℕ) (v : List ℤ) (places vars : ℕ) (x : Expression) → m .cursor < places → Evaluates w l v places vars m x e
+        → Acts places vars (slices w l v (now (lines .entry))) (slices w l v (now (lines .exit))) m r
+        (λ μ. Run.output pc μ (capacity (now (lines .entry))) x)) ⌝ }
+{
+    if !not_above(flow(e.level, pc, m), PUBLIC) {
+        return Effect {
+            stop: FLOW,
+            memory: m,
+        };
+    }
+    let n = m.lines;
+    if n >= lines.len() / 4 {
+        return Effect {
+            stop: BOARD_FULL,
+            memory: m,
+        };
+    }
+    put_line(lines, n, e.value);
+    let mut next = m;
+    next.lines = n + 1;
+    Effect {
+        stop: 0,
+        memory: next,
+    }
+}

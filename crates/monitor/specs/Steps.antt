@@ -1,0 +1,123 @@
+-- What a step and a run promise. Assumes nothing.
+use mathlib.Core.Path.{_≡_}
+use mathlib.Core.Bool.{true}
+use Prim.Native.Nat.{ℕ, suc, _-_, _*_, _<_, _≤_}
+use mathlib.Core.List.{List}
+use lib.ListN.{length, getD}
+use Rattle.rules.specs.Limits.{maxNodes, maxRecords, maxBudget}
+use Rattle.rules.specs.Bytes.{recordPlace}
+use Rattle.rules.specs.Blocks.{blockRule, goesTo}
+use Rattle.rules.specs.Check.{recordRule}
+use Rattle.rules.specs.Job.{scriptOf}
+use Rattle.rules.specs.Script.{Command, numberAt}
+use Rattle.rules.specs.Run as Run
+use Rattle.rules.specs.Run.{State, Buffers, stop, stopNumber, step, Ending, finished, stopped, Ended, run}
+use Rattle.rules.proofs.Control.{Valid}
+use Rattle.job.specs.declared.records.Fields.{Fields}
+use Rattle.job.specs.Fields.{fieldsOf}
+use Rattle.actions.specs.declared.control.Running.{Running}
+use Rattle.actions.specs.declared.control.Stepped.{Stepped}
+use Rattle.monitor.specs.declared.step.Frame.{Frame}
+use Rattle.actions.specs.Board.{capacity}
+use Rattle.actions.specs.Shows.{Slices}
+use Rattle.actions.specs.Stands.{Stands, ended}
+use Rattle.actions.specs.Acts.{Does, Kept}
+
+-- what a run reads only: a job's bytes, where the script starts in them and how many records it has, where each record jumps to, and how many
+-- variables and places there are
+pub record Held : Type 0 where
+  pub bytes : List ℕ
+  pub base : ℕ
+  pub records : ℕ
+  pub jumps : List ℕ
+  pub vars : ℕ
+  pub places : ℕ
+
+-- the same by a job's bytes, the jumps and a frame
+abbrev pub held : List ℕ → List ℕ → Frame → Held
+held b js f = record { bytes = b; base = f .script; records = f .records; jumps = js; vars = f .vars; places = f .places }
+
+-- the script that it holds
+abbrev pub scriptIn : Held → List Command
+scriptIn h = scriptOf (h .bytes) (h .base) (h .records)
+
+-- the fields of record i
+abbrev pub fieldsAt : Held → ℕ → Fields
+fieldsAt h i = fieldsOf (h .bytes) (recordPlace (h .base) i)
+
+-- a script that has passed the checks 7 and 8, with its jumps
+pub record Script (h : Held) : Type 0 where
+  pub inside : recordPlace (h .base) (h .records) ≤ length (h .bytes)
+  pub few : h .records ≤ maxRecords
+  pub fields : (i : ℕ) → i < h .records → recordRule (h .bytes) (h .vars) (recordPlace (h .base) i) ≡ true
+  pub blocks : (i : ℕ) → i < suc (h .records) → blockRule (numberAt (scriptIn h)) (h .records) i ≡ true
+  pub long : h .records ≤ length (h .jumps)
+  pub jumps : (i : ℕ) → i < h .records → getD (h .jumps) i 0 ≡ goesTo (numberAt (scriptIn h)) (h .records) i
+
+-- a running record that a step can go on from, over the slices x
+pub record Safe (h : Held) (x : Slices) (r : Running) : Type 0 where
+  pub long : 8 * h .places ≤ length (x .words)
+  pub few : h .places ≤ maxNodes
+  pub levelled : h .vars ≤ length (x .levels)
+  pub valued : h .vars ≤ length (x .values)
+  pub cursor : r .memory .cursor < h .places
+  pub room : 4 * r .memory .lines ≤ length (x .board)
+  pub within : r .at ≤ h .records
+
+-- the caller's buffers as the rules count them
+pub record Lent (h : Held) (x : Slices) (lent : Buffers) : Type 0 where
+  pub places : lent .places ≡ h .places
+  pub board : lent .lines ≡ capacity (x .board)
+
+-- one step, from the slices x and the record r to x′ and the answer a, is the rules' step of every state that they stand for
+pub record Steps (h : Held) (x x′ : Slices) (r : Running) (a : Stepped) : Type 0 where
+  pub safe : Safe h x′ (a .running)
+  pub kept : Kept (h .vars) x x′ (r .memory .lines) (a .running .memory .lines)
+  pub counted : a .stop ≡ 0 → a .running .steps ≡ suc (r .steps)
+  pub board : length (x′ .board) ≡ length (x .board)
+  pub steps : (lent : Buffers) (s : State) → Lent h x lent → Valid (scriptIn h) s → Stands (h .places) (h .vars) x r s
+      → Does (Stands (h .places) (h .vars) x′ (a .running)) (a .stop) s (step lent (scriptIn h) s)
+
+-- the number that a step hands back for an ending
+unfoldable pub codeOf : Ending → ℕ
+codeOf finished = ended
+codeOf (stopped k) = stopNumber k
+
+-- how a run has ended, in the rules' words
+pub record Ran (h : Held) (x′ : Slices) (a : Stepped) (e : Ended) : Type 0 where
+  pub ending : a .stop ≡ codeOf (e .ending)
+  pub last : Stands (h .places) (h .vars) x′ (a .running) (e .last)
+
+-- a whole run with a budget
+pub record Runs (h : Held) (x x′ : Slices) (r : Running) (budget : ℕ) (a : Stepped) : Type 0 where
+  pub kept : Kept (h .vars) x x′ (r .memory .lines) (a .running .memory .lines)
+  pub runs : (lent : Buffers) (s : State) → Lent h x lent → Valid (scriptIn h) s → Stands (h .places) (h .vars) x r s
+      → Ran h x′ a (run lent (scriptIn h) budget s)
+
+-- a state that x and r stand for, from which the rest of the run goes on
+pub record Comes (h : Held) (lent : Buffers) (e : Ended) (x : Slices) (r : Running) (left : ℕ) : Type 0 where
+  pub s : State
+  pub valid : Valid (scriptIn h) s
+  pub stands : Stands (h .places) (h .vars) x r s
+  pub rest : e ≡ run lent (scriptIn h) left s
+
+-- how far a run has come that began with x₀, r₀ and a budget
+pub record Reached (h : Held) (x₀ : Slices) (r₀ : Running) (budget : ℕ) (x : Slices) (r : Running) (left : ℕ) : Type 0 where
+  pub safe : Safe h x r
+  pub kept : Kept (h .vars) x₀ x (r₀ .memory .lines) (r .memory .lines)
+  pub board : length (x .board) ≡ length (x₀ .board)
+  pub comes : (lent : Buffers) (s : State) → Lent h x₀ lent → Valid (scriptIn h) s → Stands (h .places) (h .vars) x₀ r₀ s
+      → Comes h lent (run lent (scriptIn h) budget s) x r left
+
+-- a running record from which a script can go on, over the slices x, until it has made `limit` steps
+pub record Startable (h : Held) (x : Slices) (r : Running) (limit : ℕ) : Type 0 where
+  pub script : Script h
+  pub safe : Safe h x r
+  pub early : r .steps ≤ limit
+  pub limited : limit ≤ maxBudget
+
+-- one step of a run that may make `limit` steps: it goes on with one step more, or has ended
+pub record Turns (h : Held) (x x′ : Slices) (r : Running) (limit : ℕ) (a : Stepped) : Type 0 where
+  pub goes : a .stop ≡ 0 → Reached h x r (limit - r .steps) x′ (a .running) (limit - a .running .steps)
+  pub later : a .stop ≡ 0 → (a .running .steps ≡ suc (r .steps)) × (a .running .steps ≤ limit)
+  pub ends : (a .stop ≡ 0 → ⊥) → Runs h x x′ r (limit - r .steps) a

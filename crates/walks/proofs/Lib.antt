@@ -1,0 +1,7 @@
+-- Laws for walks by hand.
+pub mod Walk
+pub mod While
+pub mod Relend
+pub mod Locals
+pub mod Slots
+pub mod Big
