@@ -1,16 +1,19 @@
--- The chain of checks, one link at a time: a test that fails ends it, one that passes leaves the rest. Then what the first three tests give.
+-- The chain of checks, one link at a time: a test that fails ends it, one that passes leaves the rest. Then what the first three tests give, and the numbers with
+-- which a job is turned back.
 -- Assumes nothing.
 use mathlib.Core.Path.{_≡_, refl}
-use mathlib.Core.Bool.{Bool, true, false}
+use mathlib.Core.Bool.{Bool, true, false, cond}
 use mathlib.Core.List.{List}
 use Prim.Native.Nat.{ℕ, _+_, _-_, _*_, _%_, _≤_, _<_}
 use native.Mathlib.Omega.{arith}
 use lib.Dec.{leb, ltb, eqb}
 use lib.ListN.{length}
 use borrow.Author.Tests.{lt-ltb, le-ltb, ltb-false, leb-true, eqb-true}
-use Rattle.rules.specs.Limits.{maxVariables, maxNodes, maxRecords, maxBytes, trailerSize, variableSize, nodeSize, recordSize}
+use Rattle.rules.specs.Limits.{maxVariables, maxNodes, maxRecords, maxBytes, trailerSize, variableSize, nodeSize, recordSize, badBuffers}
 use Rattle.rules.specs.Bytes.{variablesAt, nodesAt, scriptAt, trailerAt, variableCount, nodeCount, recordCount}
-use Rattle.rules.specs.Check.{Checked, accepted, refused, firstFault, require, requireEach, lengthRule, whole, offsetRule, countRule}
+use Rattle.rules.specs.Check.{Checked, accepted, refused, firstFault, require, requireEach, lengthRule, whole, offsetRule, countRule, checkRecords, checkBytes}
+use Rattle.rules.specs.Run.{Buffers}
+use Rattle.rules.specs.Outcome.{andThen, checkJob}
 use Rattle.rules.proofs.Tests.{Test, holds, fails, test, both}
 use Rattle.rules.proofs.Search.{all-pass}
 
@@ -93,3 +96,47 @@ counts vs ns rs e =
     let w2 = both _ (leb ns maxNodes) (w1 .0) in
     let w3 = both (leb vs maxVariables) (leb 1 ns) (w2 .0) in
     record { variables = leb-true _ _ (w3 .0); some = leb-true _ _ (w3 .1); nodes = leb-true _ _ (w2 .1); records = leb-true _ _ (w1 .1) }
+
+-- the numbers with which a job is turned back
+abbrev pub Refuses : (ℕ → Type 0) → Checked → Type 0
+Refuses P accepted = Unit {0}
+Refuses P (refused k i) = P k
+
+pub refuses-with : (P : ℕ → Type 0) (c : Checked) (k i : ℕ) → c ≡ refused k i → Refuses P c → P k
+refuses-with P c k i e h = rw e at h
+
+module _ (P : ℕ → Type 0) (k : ℕ) (h : P k) where
+  refuses-one : (t : Bool) (c : Checked) → Refuses P c → Refuses P (require k t c)
+  unfolding require
+  refuses-one true c g = g
+  refuses-one false c g = h
+
+  refuses-each : (good : ℕ → Bool) (n : ℕ) (c : Checked) → Refuses P c → Refuses P (requireEach k good n c)
+  unfolding requireEach
+  refuses-each good n c g = pick (ltb (firstFault good n 0) n)
+    where
+      pick : (t : Bool) → Refuses P (cond t (refused k (firstFault good n 0)) c)
+      pick true = h
+      pick false = g
+
+refuses-then : (P : ℕ → Type 0) (c d : Checked) → Refuses P c → Refuses P d → Refuses P (andThen c d)
+unfolding andThen
+refuses-then P accepted d h g = g
+refuses-then P (refused k i) d h g = h
+
+-- 1 to 10
+abbrev pub Numbered : ℕ → Type 0
+Numbered k = (1 ≤ k) × (k ≤ badBuffers)
+
+pub job-numbered : (b : List ℕ) (budget : ℕ) (lent : Buffers) → Refuses Numbered (checkJob b budget lent)
+unfolding checkJob checkBytes checkRecords
+job-numbered b budget lent =
+    refuses-then Numbered _ _
+    (refuses-one Numbered _ (omega arith, omega arith) _ _
+    (refuses-one Numbered _ (omega arith, omega arith) _ _
+    (refuses-one Numbered _ (omega arith, omega arith) _ _
+    (refuses-each Numbered _ (omega arith, omega arith) _ _ _
+    (refuses-each Numbered _ (omega arith, omega arith) _ _ _
+    (refuses-each Numbered _ (omega arith, omega arith) _ _ _
+    (refuses-each Numbered _ (omega arith, omega arith) _ _ _ (refuses-each Numbered _ (omega arith, omega arith) _ _ _ tt))))))))
+    (refuses-one Numbered _ (omega arith, omega arith) _ _ (refuses-one Numbered _ (omega arith, omega arith) _ _ tt))

@@ -19,9 +19,9 @@ use Rattle.rules.proofs.Lattice.{na-right, level-below, level-join}
 use Rattle.rules.proofs.Parts.{Plain, if-opens, while-opens}
 use Rattle.rules.proofs.Nests.{nest, nest-open, nest-plain}
 use Rattle.rules.proofs.Exits.{if-exit, while-exit, else-exit, end-exit, goes-within}
-use Rattle.rules.proofs.Results.{Good, good-map, good-onward}
+use Rattle.rules.proofs.Results.{Good, good-map, good-onward, Stops, stops-onward}
 use Rattle.rules.proofs.Runs.{more}
-use Rattle.rules.proofs.Sound.{Sound, effect-sound, expression-level}
+use Rattle.rules.proofs.Sound.{Sound, effect-sound, expression-level, High, effect-high}
 
 -- what check 8 gives of a script
 pub record Closed (cs : List Command) : Type 0 where
@@ -152,3 +152,16 @@ module _ (lent : Buffers) (cs : List Command) (closed : Closed cs) (s : State) (
 
   pub step-valid : Good (Valid cs) (step lent cs s)
   step-valid = good-map Lands (Valid cs) landed (step lent cs s) step-lands
+
+  high : (c : Command) → Stops High (carried s lent jump c)
+  unfolding carried jump
+  high (act a) = stops-onward High s _ (effect-high (s .memory) (valid .memory) _ (valid .guards) lent a)
+  high (Command.if e) = tt
+  high (Command.while e) = tt
+  high Command.else = tt
+  high Command.end = tt
+
+  -- the step is not stopped by 26
+  pub step-high : Stops High (step lent cs s)
+  unfolding step jump
+  step-high = high (fetch cs (s .at))

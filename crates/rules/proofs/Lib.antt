@@ -34,4 +34,8 @@ pub mod Region
 pub mod Secrecy
 pub mod Noninterference
 pub mod Invariants
+pub mod Endings
 pub mod Witness
+pub mod Distinct
+pub mod Boards
+pub mod Reached

@@ -1,6 +1,6 @@
 -- A run only adds to its lines. Assumes nothing.
 use mathlib.Core.Path.{_≡_, refl, sym, _∙_, ap}
-use Prim.Native.Nat.{ℕ, zero, suc}
+use Prim.Native.Nat.{ℕ}
 use mathlib.Core.Bool.{Bool, true, false, cond}
 use mathlib.Core.Option.{Option, none, some}
 use mathlib.Core.List.{List, [], _∷_, _++_, IsPrefix, append-nil, append-assoc}
@@ -9,10 +9,9 @@ use Rattle.rules.specs.Level.{Level}
 use Rattle.rules.specs.Number.{isZero}
 use Rattle.rules.specs.Tree.{Place}
 use Rattle.rules.specs.Script.{Expression, Action, Command, act, fetch}
-use Rattle.rules.specs.Run.{Memory, State, Buffers, Result, value, withVariables, withTree, withCursor, withLine, assign, output, moveTo, goTo, insertAt, removeAt, write, effect, stepped, onward, enterIf, enterWhile, carried, step, Ended, run}
-use Rattle.rules.proofs.Tests.{Test, holds, fails, test}
-use Rattle.rules.proofs.Results.{Good, good-need, good-onward, good-next}
-use Rattle.rules.proofs.Runs.{more, run-spent, run-over, Turn, stops, goes, turn}
+use Rattle.rules.specs.Run.{Memory, State, Buffers, Result, value, withVariables, withTree, withCursor, withLine, assign, output, moveTo, goTo, insertAt, removeAt, write, effect, stepped, onward, enterIf, enterWhile, carried, step, run}
+use Rattle.rules.proofs.Results.{Good, good-need, good-map, good-onward}
+use Rattle.rules.proofs.Runs.{run-keeps}
 
 -- a record, so that the lists can be read off
 pub record Extends (xs ys : List ℤ) : Type 0 where
@@ -72,25 +71,8 @@ module _ (lent : Buffers) (cs : List Command) where
   unfolding step
   step-lines s = carried-lines s _ (fetch cs (s .at))
 
-  one-lines : (n : ℕ) (s : State) → ((s′ : State) → Later s′ ((run lent cs n s′) .last)) → Test (more lent cs s) → Later s ((run lent cs (suc n) s) .last)
-  unfolding Later
-  one-lines n s r (fails e) = rw (run-over lent cs (suc n) s e) (extends-refl refl)
-  one-lines n s r (holds e) = pick (turn lent cs n s e)
-    where
-      pick : Turn lent cs n s → Later s ((run lent cs (suc n) s) .last)
-      pick (stops k h) = rw h (extends-refl refl)
-      pick (goes s′ f h) = rw h (extends-trans (good-next (Later s) _ s′ f (step-lines s)) (r s′))
-
-  none-lines : (s : State) → Test (more lent cs s) → Later s ((run lent cs zero s) .last)
-  unfolding Later
-  none-lines s (fails e) = rw (run-over lent cs zero s e) (extends-refl refl)
-  none-lines s (holds e) = rw (run-spent lent cs s e) (extends-refl refl)
-
-  later : (n : ℕ) (s : State) → Later s ((run lent cs n s) .last)
-  later zero s = none-lines s (test _)
-  later (suc n) s = one-lines n s (later n) (test _)
-
   -- the lines so far begin those of the whole run
   pub run-lines : (n : ℕ) (s : State) → Extends (s .memory .lines) ((run lent cs n s) .last .memory .lines)
   unfolding Later
-  run-lines n s = later n s
+  run-lines n s =
+      run-keeps lent cs (Later s) (λ s′ e h. good-map (Later s′) (Later s) (λ t k. extends-trans h k) (step lent cs s′) (step-lines s′)) n s (extends-refl refl)

@@ -1,6 +1,7 @@
 -- Demand 3, from job bytes to ending: an accepted job starts in a valid state, two jobs that are alike start as twins, and twins stay
--- indistinguishable. Assumes nothing.
-use mathlib.Core.Path.{_≡_, refl, sym, _∙_, ap, subst}
+-- indistinguishable. A job that 9 or 10 turns back has no lines. Assumes nothing.
+use mathlib.Core.Path.{_≡_, refl, sym, subst}
+use mathlib.Core.Logic.{inl, inr}
 use Prim.Native.Nat.{ℕ, suc, _+_, _≤_, _<_}
 use native.Mathlib.Omega.{arith}
 use mathlib.Core.Bool.{Bool, true, false, _&&_}
@@ -13,8 +14,9 @@ use Rattle.rules.specs.Bytes.{variablePlace, nodesAt, scriptAt, variable
 use Rattle.rules.specs.Check.{Checked, accepted, refused, checkBytes, countRule, variableRule}
 use Rattle.rules.specs.Job.{Variable, variables, variableOf, treeOf, jobTree, script}
 use Rattle.rules.specs.Run.{State, Buffers, context, current, start, run}
-use Rattle.rules.specs.Outcome.{andThen, checkJob, ran, runJob, begin}
-use Rattle.rules.specs.Public.{AgreeVariables, Alike, Agree, Secret, Indistinguishable, Noninterference, Demand3}
+use Rattle.rules.specs.Outcome.{andThen, checkJob, Outcome, rejected, ran, runJob, begin, boardLines}
+use Rattle.rules.specs.Public.{AgreeVariables, Alike, Finishes, Indistinguishable, Noninterference, Demand3}
+use Rattle.rules.proofs.Tests.{clash}
 use Rattle.rules.proofs.Lattice.{na-public, level-public, vis-public}
 use Rattle.rules.proofs.Nests.{nest}
 use Rattle.rules.proofs.Sound.{Sound, AllLevels}
@@ -80,20 +82,50 @@ pub bytes-accepted : (b : List ℕ) (n : ℕ) (lent : Buffers) → checkJob b n 
 unfolding checkJob
 bytes-accepted b n lent e = accepted-bytes _ _ e
 
+pub turned-back : (b : List ℕ) (n : ℕ) (lent : Buffers) {k i : ℕ} → checkJob b n lent ≡ refused k i → runJob b n lent ≡ rejected k i
+unfolding runJob
+turned-back b n lent e = rw (e, runJob)
+
 pub runs : (b : List ℕ) (n : ℕ) (lent : Buffers) → checkJob b n lent ≡ accepted → runJob b n lent ≡ ran (run lent (script b) n (begin b))
 unfolding runJob
 runs b n lent e = rw (e, runJob)
 
+-- a job that is turned back has no lines, and does not finish
+not-run : (k i : ℕ) (s : State) → Finishes (rejected k i) s → ⊥
+not-run k i s e = let z : true ≡ false = cc in clash refl z
+
+module _ (o : Level) where
+  pub back-left : (k i : ℕ) (w : Outcome) → Indistinguishable o (rejected k i) w
+  unfolding boardLines
+  back-left k i w = record { lines = inl (boardLines w, refl); finish = λ s t a b. absurd (not-run k i s a) }
+
+  pub back-right : (k i : ℕ) (w : Outcome) → Indistinguishable o w (rejected k i)
+  unfolding boardLines
+  back-right k i w = record { lines = inr (boardLines w, refl); finish = λ s t a b. absurd (not-run k i t b) }
+
+  module _ (a b : List ℕ) (n m : ℕ) (lent lent′ : Buffers) (ha : checkBytes a ≡ accepted) (hb : checkBytes b ≡ accepted) (alike : Alike o a b) where
+    -- both are run
+    both-run : Indistinguishable o (ran (run lent (script a) n (begin a))) (ran (run lent′ (script b) m (begin b)))
+    both-run =
+        let la = loads a ha in
+        let lb = loads b hb in
+        subst (λ cs. Indistinguishable o (ran (run lent (script a) n (begin a))) (ran (run lent′ cs m (begin b)))) (alike .script)
+        (indistinguishable o lent lent′ (script a) (la .script) n m (begin a) (begin b) (begin-valid a la)
+        (subst (λ cs. Valid cs (begin b)) (sym (alike .script)) (begin-valid b lb)) (begin-twins o a b la lb alike))
+
+    told : Indistinguishable o (runJob a n lent) (runJob b m lent′)
+    unfolding runJob
+    told = pick (checkJob a n lent) (checkJob b m lent′) refl refl
+      where
+        pick : (c d : Checked) → checkJob a n lent ≡ c → checkJob b m lent′ ≡ d → Indistinguishable o (runJob a n lent) (runJob b m lent′)
+        pick (refused k i) d p q = rw (turned-back a n lent p) (back-left k i _)
+        pick accepted (refused k i) p q = rw (turned-back b m lent′ q) (back-right k i _)
+        pick accepted accepted p q = rw (runs a n lent p, runs b m lent′ q) both-run
+
 -- demand 3 for every reader
 pub noninterference : (o : Level) → Noninterference o
 unfolding Noninterference
-noninterference o a b n m lent lent′ ha hb s =
-    let la = loads a (bytes-accepted a n lent ha) in
-    let lb = loads b (bytes-accepted b m lent′ hb) in
-    rw (runs a n lent ha, runs b m lent′ hb)
-    (subst (λ cs. Indistinguishable o (run lent (script a) n (begin a)) (run lent′ cs m (begin b))) (s .script)
-    (indistinguishable o lent lent′ (script a) (la .script) n m (begin a) (begin b) (begin-valid a la)
-    (subst (λ cs. Valid cs (begin b)) (sym (s .script)) (begin-valid b lb)) (begin-twins o a b la lb s)))
+noninterference o = told o
 
 -- and as the paper has it
 pub demand3 : Demand3

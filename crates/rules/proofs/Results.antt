@@ -1,4 +1,4 @@
--- What holds of the results of steps: of one, wherever it goes on, and of two, wherever both go on. Assumes nothing.
+-- What holds of the results of steps: of one, wherever it goes on or stops, and of two, wherever both go on. Assumes nothing.
 use mathlib.Core.Path.{_≡_, refl}
 use mathlib.Core.Bool.{Bool, true, false, cond}
 use Rattle.rules.specs.Run.{Memory, State, Stop, Result, next, stop, need, stepped, onward}
@@ -20,6 +20,19 @@ module _ {A : Type 0} where
 
   pub good-next : (P : A → Type 0) (r : Result A) (a : A) → r ≡ next a → Good P r → P a
   good-next P r a e h = rw e at h
+
+  -- K holds of what a result stops with
+  abbrev pub Stops : (Stop → Type 0) → Result A → Type 0
+  Stops K (next a) = Unit {0}
+  Stops K (stop k) = K k
+
+  pub stops-need : (K : Stop → Type 0) (k : Stop) (b : Bool) (r : Result A) → (b ≡ false → K k) → Stops K r → Stops K (need k b r)
+  unfolding need
+  stops-need K k true r h g = g
+  stops-need K k false r h g = h refl
+
+  pub stops-with : (K : Stop → Type 0) (r : Result A) (k : Stop) → r ≡ stop k → Stops K r → K k
+  stops-with K r k e h = rw e at h
 
   -- R holds of what two results go on with
   abbrev pub Good₂ : (A → A → Type 0) → Result A → Result A → Type 0
@@ -52,6 +65,11 @@ pub good-onward : (P : Memory → Type 0) (Q : State → Type 0) (s : State)
 unfolding onward
 good-onward P Q s f (next m) h = f m h
 good-onward P Q s f (stop k) h = tt
+
+pub stops-onward : (K : Stop → Type 0) (s : State) (r : Result Memory) → Stops K r → Stops K (onward s r)
+unfolding onward
+stops-onward K s (next m) h = tt
+stops-onward K s (stop k) h = h
 
 pub good₂-onward : (P : Memory → Memory → Type 0) (Q : State → State → Type 0) (s t : State)
     → ((m n : Memory) → P m n → Q (stepped s m (s .blocks) (Prim.Native.Nat.suc (s .at))) (stepped t n (t .blocks) (Prim.Native.Nat.suc (t .at))))

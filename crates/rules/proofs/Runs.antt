@@ -1,5 +1,6 @@
--- The four laws of a run: its budget is used up, its script is over, it goes on, it stops; and the law that a run with a larger budget goes
--- on where one with a smaller budget was spent, and is the same otherwise. Nothing else opens `run`. Assumes nothing.
+-- The four laws of a run: its budget is used up, its script is over, it goes on, it stops. Nothing else opens `run`. From them by induction on the
+-- budget: a run with a larger budget goes on where one with a smaller budget was spent, and is the same otherwise; what every step keeps, a run
+-- keeps; and how a run ends. Assumes nothing.
 use mathlib.Core.Path.{_≡_, refl, sym, _∙_, ap}
 use Prim.Native.Nat.{ℕ, zero, suc, _+_}
 use native.Mathlib.Nat.{zero-add, suc-add}
@@ -10,6 +11,7 @@ use lib.Dec.{ltb}
 use Rattle.rules.specs.Script.{Command}
 use Rattle.rules.specs.Run.{State, Buffers, Stop, spent, Result, next, stop, finished, stopped, Ended, step, run}
 use Rattle.rules.proofs.Tests.{Test, holds, fails, test}
+use Rattle.rules.proofs.Results.{Good, good-next}
 
 -- a run that a number ends, in a state
 abbrev pub halted : Stop → State → Ended
@@ -76,3 +78,45 @@ module _ (lent : Buffers) (cs : List Command) where
   pub longer : (n k : ℕ) (s : State) → Longer n k s
   longer zero k s = longer-zero k s (test _)
   longer (suc n) k s = longer-suc n k s (λ s′. longer n k s′) (test _)
+
+-- what every step keeps, a run keeps
+module _ (lent : Buffers) (cs : List Command) (P : State → Type 0) (keep : (s : State) → more lent cs s ≡ true → P s → Good P (step lent cs s)) where
+  keeps-zero : (s : State) → P s → Test (more lent cs s) → P ((run lent cs zero s) .last)
+  keeps-zero s h (holds e) = rw (run-spent lent cs s e) h
+  keeps-zero s h (fails e) = rw (run-over lent cs zero s e) h
+
+  keeps-suc : (n : ℕ) → ((s : State) → P s → P ((run lent cs n s) .last)) → (s : State) → P s → Test (more lent cs s)
+      → P ((run lent cs (suc n) s) .last)
+  keeps-suc n r s h (fails e) = rw (run-over lent cs (suc n) s e) h
+  keeps-suc n r s h (holds e) = pick (turn lent cs n s e)
+    where
+      pick : Turn lent cs n s → P ((run lent cs (suc n) s) .last)
+      pick (stops k q) = rw q h
+      pick (goes s′ f q) = rw q (r s′ (good-next P _ s′ f (keep s e h)))
+
+  pub run-keeps : (n : ℕ) (s : State) → P s → P ((run lent cs n s) .last)
+  run-keeps zero s h = keeps-zero s h (test _)
+  run-keeps (suc n) s h = keeps-suc n (run-keeps n) s h (test _)
+
+-- how a run ends: its script is over, its budget is used up, or the record that comes next stops it
+module _ (lent : Buffers) (cs : List Command) where
+  pub data EndedBy (e : Ended) : Type 0 where
+    by-script : e .ending ≡ finished → EndedBy e
+    by-budget : e .ending ≡ stopped spent → EndedBy e
+    by-record : (k : Stop) → more lent cs (e .last) ≡ true → step lent cs (e .last) ≡ stop k → e .ending ≡ stopped k → EndedBy e
+
+  ended-zero : (s : State) → Test (more lent cs s) → EndedBy (run lent cs zero s)
+  ended-zero s (holds e) = rw (run-spent lent cs s e) (by-budget refl)
+  ended-zero s (fails e) = rw (run-over lent cs zero s e) (by-script refl)
+
+  ended-suc : (n : ℕ) → ((s : State) → EndedBy (run lent cs n s)) → (s : State) → Test (more lent cs s) → EndedBy (run lent cs (suc n) s)
+  ended-suc n r s (fails e) = rw (run-over lent cs (suc n) s e) (by-script refl)
+  ended-suc n r s (holds e) = pick (step lent cs s) refl
+    where
+      pick : (x : Result State) → step lent cs s ≡ x → EndedBy (run lent cs (suc n) s)
+      pick (next s′) q = rw (run-next lent cs n s s′ e q) (r s′)
+      pick (stop k) q = rw (run-stop lent cs n s k e q) (by-record k e q refl)
+
+  pub ended-by : (n : ℕ) (s : State) → EndedBy (run lent cs n s)
+  ended-by zero s = ended-zero s (test _)
+  ended-by (suc n) s = ended-suc n (ended-by n) s (test _)

@@ -15,7 +15,8 @@ use Rattle.rules.specs.Number.{isZero}
 use Rattle.rules.specs.Script.{Expression, Command, act, fetch, numberAt}
 use Rattle.rules.specs.Blocks.{goesTo}
 use Rattle.rules.specs.Run.{Memory, Block, State, Buffers, Stop, spent, Result, next, context, value, levelOf, effect, stepped, onward, pushed, enterIf, enterWhile, carried, step, Ending, finished, stopped, Ended, run}
-use Rattle.rules.specs.Public.{AgreeVariables, Agree, Same, Indistinguishable}
+use Rattle.rules.specs.Outcome.{Outcome, rejected, ran, boardLines}
+use Rattle.rules.specs.Public.{AgreeVariables, Agree, Finishes, Same, Indistinguishable}
 use Rattle.rules.proofs.Tests.{Test, holds, fails, test, clash}
 use Rattle.rules.proofs.Lattice.{vis-both, vis-right, vis-public}
 use Rattle.rules.proofs.ByPlace.{places-agree}
@@ -29,15 +30,42 @@ use Rattle.rules.proofs.Control.{Closed, Valid, step-valid}
 use Rattle.rules.proofs.Region.{Leaves, ends, leaves, IsGuard, isIf, isWhile, skips}
 
 module _ (o : Level) where
-  never-finished : (k : Stop) → stopped k ≡ finished → ⊥
-  never-finished k e = let z : true ≡ false = cc in clash refl z
+  -- two runs that have ended
+  abbrev Unseen : Ended → Ended → Type 0
+  Unseen e f = Indistinguishable o (ran e) (ran f)
+
+  ended : Ended → Outcome → Ended
+  ended d (ran e) = e
+  ended d (rejected k i) = d
+
+  same-end : (e f : Ended) → ran e ≡ ran f → e ≡ f
+  unfolding ended
+  same-end e f p = ap (ended e) p
+
+  not-stopped : (e : Ended) (k : Stop) (s : State) → e .ending ≡ stopped k → Finishes (ran e) s → ⊥
+  not-stopped e k s h p =
+      let q : stopped k ≡ finished = sym h ∙ ap (λ d. d .ending) (same-end e _ p) in
+      let z : true ≡ false = cc in
+      clash refl z
 
   -- a run that has stopped, with lines that begin the other's
-  stopped-left : (e f : Ended) (k : Stop) → e .ending ≡ stopped k → Extends (e .last .memory .lines) (f .last .memory .lines) → Indistinguishable o e f
-  stopped-left e f k h x = record { lines = inl (x .prefix); finish = λ a b. absurd (never-finished k (sym h ∙ a)) }
+  stopped-left : (e f : Ended) (k : Stop) → e .ending ≡ stopped k → Extends (e .last .memory .lines) (f .last .memory .lines) → Unseen e f
+  unfolding boardLines
+  stopped-left e f k h x = record { lines = inl (x .prefix); finish = λ s t a b. absurd (not-stopped e k s h a) }
 
-  stopped-right : (e f : Ended) (k : Stop) → f .ending ≡ stopped k → Extends (f .last .memory .lines) (e .last .memory .lines) → Indistinguishable o e f
-  stopped-right e f k h x = record { lines = inr (x .prefix); finish = λ a b. absurd (never-finished k (sym h ∙ b)) }
+  stopped-right : (e f : Ended) (k : Stop) → f .ending ≡ stopped k → Extends (f .last .memory .lines) (e .last .memory .lines) → Unseen e f
+  unfolding boardLines
+  stopped-right e f k h x = record { lines = inr (x .prefix); finish = λ s t a b. absurd (not-stopped f k t h b) }
+
+  -- two runs that have finished
+  both-finished : (s t : State) → Same o s t → Unseen (record { ending = finished; last = s }) (record { ending = finished; last = t })
+  unfolding boardLines
+  both-finished s t h =
+      record {
+        lines = inl ((extends-refl (h .lines)) .prefix);
+        finish = λ s′ t′ a b.
+            subst (λ u. Same o s′ u) (ap (λ e. e .last) (same-end _ _ b)) (subst (λ u. Same o u t) (ap (λ e. e .last) (same-end _ _ a)) h);
+      }
 
   -- two states at one record, with the same blocks and the same view, in a context that is seen
   pub record Twins (s t : State) : Type 0 where
@@ -135,7 +163,7 @@ module _ (o : Level) where
   -- whole runs
   module _ (lent₁ lent₂ : Buffers) (cs : List Command) (closed : Closed cs) where
     Claim : ℕ → ℕ → Type 0
-    Claim n₁ n₂ = (s t : State) → Valid cs s → Valid cs t → Twins s t → Indistinguishable o (run lent₁ cs n₁ s) (run lent₂ cs n₂ t)
+    Claim n₁ n₂ = (s t : State) → Valid cs s → Valid cs t → Twins s t → Unseen (run lent₁ cs n₁ s) (run lent₂ cs n₂ t)
 
     -- the claim for budgets that sum to less
     Smaller : ℕ → Type 0
@@ -143,7 +171,7 @@ module _ (o : Level) where
 
     module _ (n₁ n₂ : ℕ) (s t : State) (hs : Valid cs s) (ht : Valid cs t) (w : Twins s t) where
       Told : Type 0
-      Told = Indistinguishable o (run lent₁ cs n₁ s) (run lent₂ cs n₂ t)
+      Told = Unseen (run lent₁ cs n₁ s) (run lent₂ cs n₂ t)
 
       -- one run has stopped without a line more
       left-stops : (k : Stop) (s′ : State) → run lent₁ cs n₁ s ≡ halted k s′ → s′ .memory .lines ≡ s .memory .lines → Told
@@ -164,19 +192,16 @@ module _ (o : Level) where
       both-over e =
           let f : more lent₂ cs t ≡ false = rw (w .at) at e in
           rw (run-over lent₁ cs n₁ s e, run-over lent₂ cs n₂ t f)
+          (both-finished s t
           (record {
-            lines = inl ((extends-refl (lines-same s t w)) .prefix);
-            finish = λ _ _.
+            lines = lines-same s t w;
+            parts =
                 record {
-                  lines = lines-same s t w;
-                  parts =
-                      record {
-                        variables = variables-eq o (s .memory) (t .memory) (hs .memory) (ht .memory) (w .seen);
-                        trees = places-agree o (s .memory .tree) (t .memory .tree) (hs .memory .rules) (ht .memory .rules)
-                            (tree-eq o (s .memory) (t .memory) (hs .memory) (ht .memory) (w .seen));
-                      };
+                  variables = variables-eq o (s .memory) (t .memory) (hs .memory) (ht .memory) (w .seen);
+                  trees = places-agree o (s .memory .tree) (t .memory .tree) (hs .memory .rules) (ht .memory .rules)
+                      (tree-eq o (s .memory) (t .memory) (hs .memory) (ht .memory) (w .seen));
                 };
-          })
+          }))
 
       -- a guard that is not seen
       at-guard : Smaller (n₁ + n₂) → (e : Expression) → IsGuard (fetch cs (s .at)) e → more lent₁ cs s ≡ true → visible o (levelOf (s .memory) e) ≡ false → Told
@@ -189,7 +214,7 @@ module _ (o : Level) where
           inside : s .at < length cs
           inside = ltb-true (s .at) (length cs) h
 
-          pick : {i : ℕ} → Leaves o lent₁ cs closed n₁ s (s .blocks) i → Leaves o lent₂ cs closed n₂ t (t .blocks) i → Indistinguishable o (run lent₁ cs n₁ s) (run lent₂ cs n₂ t)
+          pick : {i : ℕ} → Leaves o lent₁ cs closed n₁ s (s .blocks) i → Leaves o lent₂ cs closed n₂ t (t .blocks) i → Unseen (run lent₁ cs n₁ s) (run lent₂ cs n₂ t)
           pick (ends k s′ q l) y = left-stops k s′ q l
           pick (leaves j₁ s′ a q v b c x) (ends k t′ p l) = right-stops k t′ p l
           pick (leaves j₁ s′ a q v b c x) (leaves j₂ t′ a′ q′ v′ b′ c′ x′) =
@@ -199,14 +224,14 @@ module _ (o : Level) where
 
     -- one record in both runs, in lockstep
     both-step : (n₁ n₂ : ℕ) → Smaller (suc n₁ + suc n₂) → (s t : State) → Valid cs s → Valid cs t → Twins s t → more lent₁ cs s ≡ true
-        → Light (s .memory) (fetch cs (s .at)) → Indistinguishable o (run lent₁ cs (suc n₁) s) (run lent₂ cs (suc n₂) t)
+        → Light (s .memory) (fetch cs (s .at)) → Unseen (run lent₁ cs (suc n₁) s) (run lent₂ cs (suc n₂) t)
     unfolding Told Smaller Claim
     both-step n₁ n₂ r s t hs ht w h l = pick (turn lent₁ cs n₁ s h) (turn lent₂ cs n₂ t h′)
       where
         h′ : more lent₂ cs t ≡ true
         h′ = rw (w .at) at h
 
-        pick : Turn lent₁ cs n₁ s → Turn lent₂ cs n₂ t → Indistinguishable o (run lent₁ cs (suc n₁) s) (run lent₂ cs (suc n₂) t)
+        pick : Turn lent₁ cs n₁ s → Turn lent₂ cs n₂ t → Unseen (run lent₁ cs (suc n₁) s) (run lent₂ cs (suc n₂) t)
         pick (stops k q) y = left-stops (suc n₁) (suc n₂) s t hs ht w k s q refl
         pick (goes s′ f q) (stops k p) = right-stops (suc n₁) (suc n₂) s t hs ht w k t p refl
         pick (goes s′ f q) (goes t′ g p) =
@@ -219,16 +244,16 @@ module _ (o : Level) where
     one n₁ n₂ r s t hs ht w = pick (test (more lent₁ cs s))
       where
         lit : (m₁ m₂ : ℕ) → Smaller (m₁ + m₂) → more lent₁ cs s ≡ true → Light (s .memory) (fetch cs (s .at))
-            → Indistinguishable o (run lent₁ cs m₁ s) (run lent₂ cs m₂ t)
+            → Unseen (run lent₁ cs m₁ s) (run lent₂ cs m₂ t)
         lit zero m₂ r h l = left-stops zero m₂ s t hs ht w spent s (run-spent lent₁ cs s h) refl
         lit (suc m₁) zero r h l = right-stops (suc m₁) zero s t hs ht w spent t (run-spent lent₂ cs t (rw (w .at) at h)) refl
         lit (suc m₁) (suc m₂) r h l = both-step m₁ m₂ r s t hs ht w h l
 
-        by : more lent₁ cs s ≡ true → Sort (s .memory) (fetch cs (s .at)) → Indistinguishable o (run lent₁ cs n₁ s) (run lent₂ cs n₂ t)
+        by : more lent₁ cs s ≡ true → Sort (s .memory) (fetch cs (s .at)) → Unseen (run lent₁ cs n₁ s) (run lent₂ cs n₂ t)
         by h (dark e g d) = at-guard n₁ n₂ s t hs ht w r e g h d
         by h (light l) = lit n₁ n₂ r h l
 
-        pick : Test (more lent₁ cs s) → Indistinguishable o (run lent₁ cs n₁ s) (run lent₂ cs n₂ t)
+        pick : Test (more lent₁ cs s) → Unseen (run lent₁ cs n₁ s) (run lent₂ cs n₂ t)
         pick (holds h) = by h (sort (s .memory) (fetch cs (s .at)))
         pick (fails h) = both-over n₁ n₂ s t hs ht w h
 
@@ -238,6 +263,6 @@ module _ (o : Level) where
     below (suc k) n₁ n₂ h = one n₁ n₂ (λ m₁ m₂ l. below k m₁ m₂ (omega arith))
 
     pub indistinguishable : (n₁ n₂ : ℕ) (s t : State) → Valid cs s → Valid cs t → Twins s t
-        → Indistinguishable o (run lent₁ cs n₁ s) (run lent₂ cs n₂ t)
+        → Indistinguishable o (ran (run lent₁ cs n₁ s)) (ran (run lent₂ cs n₂ t))
     unfolding Claim Smaller
     indistinguishable n₁ n₂ = below (suc (n₁ + n₂)) n₁ n₂ (omega arith)

@@ -12,11 +12,20 @@ use Rattle.rules.specs.Tree as Tree
 use Rattle.rules.specs.Tree.{Label, Forest, nil, tree, Side, Place, root, to, up, sub, label, exists, change, onSide, remove, setValue, withValue, Levels, Fit, Fits, TreeRules}
 use Rattle.rules.specs.Script.{Operand, Expression, alone, both, Action}
 use Rattle.rules.specs.Job.{Variable}
-use Rattle.rules.specs.Run.{Memory, Buffers, Stop, Result, need, noVariable, variableAt, current, operandLevel, levelOf, value, withVariables, withTree, withCursor, withLine, secretIf, position, flowOf, assign, output, moveTo, goTo, mayTouch, newLabel, insertAt, removeAt, write, effect}
+use Rattle.rules.specs.Run.{Memory, Buffers, Stop, flow, absent, tableFull, boardFull, spent, low, noVariable, variableAt, current, operandLevel, levelOf, value, withVariables, withTree, withCursor, withLine, secretIf, position, flowOf, assign, output, moveTo, goTo, mayTouch, newLabel, insertAt, removeAt, write, effect}
 use Rattle.rules.proofs.Tests.{clash}
 use Rattle.rules.proofs.Lattice.{na-public, na-refl, na-trans, na-left, na-right, level-secret, level-public, secret-level, level-below, level-join}
 use Rattle.rules.proofs.Trees.{loAt, hiAt, hiOf, fits-sub, fits-change, fit-first, hi-parent, fits-remove, fits-value, sub-change, exists-sub, on-exists, on-label}
-use Rattle.rules.proofs.Results.{Good, good-need}
+use Rattle.rules.proofs.Results.{Good, good-need, Stops, stops-need}
+
+-- every stop but 26
+abbrev pub High : Stop → Type 0
+High flow = Unit {0}
+High absent = Unit {0}
+High tableFull = Unit {0}
+High boardFull = Unit {0}
+High spent = Unit {0}
+High low = ⊥
 
 -- the levels of variables are levels
 abbrev pub AllLevels : List Variable → Type 0
@@ -150,13 +159,18 @@ module _ (m : Memory) (sound : Sound m) where
       behind lo hi x h k,
     )
 
+    -- the test of stop 26 never fails
+    pub never-low : notAbove ((label (current m)) .existence) (position pc m) ≡ true
+    unfolding position
+    never-low = na-trans _ _ _ (sound .covered) (na-right _ _)
+
     insert-sound : (d : Side) (places mark : ℕ) (e : Expression) (q : Option Place) → up (to d (m .cursor)) ≡ q
         → Good Sound (insertAt pc m places (to d (m .cursor)) q mark e)
     unfolding insertAt
     insert-sound d places mark e none w = tt
     insert-sound d places mark e (some q) w =
-        good-need Sound _ _ _ λ u. good-need Sound _ _ _ λ h. good-need Sound _ _ _ λ a. good-need Sound _ _ _ λ _.
-        beside d _ (new-fits _ _ mark e _ a (rw (hi-parent (to d (m .cursor)) q (m .tree) public w) u) h (fits-beside d))
+        good-need Sound _ _ _ λ u. good-need Sound _ _ _ λ h. good-need Sound _ _ _ λ _. good-need Sound _ _ _ λ _.
+        beside d _ (new-fits _ _ mark e _ never-low (rw (hi-parent (to d (m .cursor)) q (m .tree) public w) u) h (fits-beside d))
 
     remove-sound : (d : Side) → Good Sound (removeAt pc m (to d (m .cursor)))
     unfolding removeAt
@@ -219,7 +233,27 @@ module _ (m : Memory) (sound : Sound m) where
     effect-sound lent (Action.write e) = write-sound e
     effect-sound lent Action.raise = raise-sound
 
-    -- the test of stop 26 never fails
-    pub never-low : notAbove ((label (current m)) .existence) (position pc m) ≡ true
-    unfolding position
-    never-low = na-trans _ _ _ (sound .covered) (na-right _ _)
+    insert-high : (places : ℕ) (p : Place) (q : Option Place) (mark : ℕ) (e : Expression) → Stops High (insertAt pc m places p q mark e)
+    unfolding insertAt
+    insert-high places p none mark e = tt
+    insert-high places p (some q) mark e =
+        stops-need High _ _ _ (λ _. tt)
+        (stops-need High _ _ _ (λ _. tt) (stops-need High _ _ _ (λ f. clash never-low f) (stops-need High _ _ _ (λ _. tt) tt)))
+
+    go-high : (q : Option Place) → Stops High (goTo pc m q)
+    unfolding goTo moveTo
+    go-high none = tt
+    go-high (some p) = stops-need High _ _ _ (λ _. tt) (stops-need High _ _ _ (λ _. tt) tt)
+
+    pub effect-high : (lent : Buffers) (a : Action) → Stops High (effect lent pc m a)
+    unfolding effect assign output moveTo removeAt write
+    effect-high lent Action.skip = tt
+    effect-high lent (Action.assign i e) = stops-need High _ _ _ (λ _. tt) tt
+    effect-high lent (Action.output e) = stops-need High _ _ _ (λ _. tt) (stops-need High _ _ _ (λ _. tt) tt)
+    effect-high lent Action.goRoot = stops-need High _ _ _ (λ _. tt) tt
+    effect-high lent Action.goParent = go-high _
+    effect-high lent (Action.go d) = go-high _
+    effect-high lent (Action.insert d mark e) = insert-high _ _ _ mark e
+    effect-high lent (Action.remove d) = stops-need High _ _ _ (λ _. tt) (stops-need High _ _ _ (λ _. tt) tt)
+    effect-high lent (Action.write e) = stops-need High _ _ _ (λ _. tt) tt
+    effect-high lent Action.raise = stops-need High _ _ _ (λ _. tt) tt

@@ -11,4 +11,5 @@ pub mod Job
 pub mod Run
 pub mod Outcome
 pub mod Public
+pub mod Board
 pub mod Trials

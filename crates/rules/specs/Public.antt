@@ -8,10 +8,18 @@ use mathlib.Core.Option.{Option, none, some}
 use lib.IntN.{ℤ}
 use Rattle.rules.specs.Level.{Level, public, visible}
 use Rattle.rules.specs.Tree.{Label, Forest, nil, tree, Place, sub}
-use Rattle.rules.specs.Check.{accepted}
+use Rattle.rules.specs.Check.{accepted, checkBytes}
 use Rattle.rules.specs.Job.{Variable, variables, jobTree, script}
-use Rattle.rules.specs.Run.{State, Buffers, finished, Ended}
-use Rattle.rules.specs.Outcome.{checkJob, Outcome, rejected, ran, runJob}
+use Rattle.rules.specs.Run.{State, Buffers, finished}
+use Rattle.rules.specs.Outcome.{Outcome, ran, runJob, boardLines}
+
+-- one list is the beginning of the other
+abbrev pub Comparable : {A : Type 0} → List A → List A → Type 0
+Comparable xs ys = IsPrefix xs ys ⊎ IsPrefix ys xs
+
+-- a job is run and finishes, in the state s
+abbrev pub Finishes : Outcome → State → Type 0
+Finishes w s = w ≡ ran (record { ending = finished; last = s })
 
 -- what a reader sees of a variable: its level, and its value where the level is visible
 pub record SeenVariable : Type 0 where
@@ -67,23 +75,16 @@ module _ (o : Level) where
     pub lines : s .memory .lines ≡ t .memory .lines
     pub parts : Agree (s .memory .variables) (t .memory .variables) (s .memory .tree) (t .memory .tree)
 
-  -- "the board lines of one run are the beginning of the other's; if both finish," the last states are the same
-  pub record Indistinguishable (e f : Ended) : Type 0 where
-    pub lines : IsPrefix (e .last .memory .lines) (f .last .memory .lines) ⊎ IsPrefix (f .last .memory .lines) (e .last .memory .lines)
-    pub finish : e .ending ≡ finished → f .ending ≡ finished → Same (e .last) (f .last)
+  -- two outcomes: "the board lines of one run are the beginning of the other's; if both finish," the last states are the same. A job that is turned back has no lines
+  pub record Indistinguishable (w x : Outcome) : Type 0 where
+    pub lines : Comparable (boardLines w) (boardLines x)
+    pub finish : (s t : State) → Finishes w s → Finishes x t → Same s t
 
-  -- both jobs are run, and o cannot tell the runs apart
-  abbrev pub Secret : Outcome → Outcome → Type 0
-  Secret (rejected k i) w = ⊥
-  Secret (ran e) (rejected k i) = ⊥
-  Secret (ran e) (ran f) = Indistinguishable e f
-
-  -- demand 3: "Any two accepted jobs with the same script that agree on their public parts, whatever their house values and house nodes, budgets, buffers"
+  -- demand 3: "Any two accepted jobs with the same script that agree on their public parts, whatever their house values and house nodes, budgets, buffers"; accepted is what the checks 1 to 8 say, and a call that 9 or 10 turns back counts too
   unfoldable pub Noninterference : Type 0
   Noninterference =
-      (a b : List ℕ) (n m : ℕ) (lent lent′ : Buffers)
-      → checkJob a n lent ≡ accepted → checkJob b m lent′ ≡ accepted → Alike a b
-      → Secret (runJob a n lent) (runJob b m lent′)
+      (a b : List ℕ) (n m : ℕ) (lent lent′ : Buffers) → checkBytes a ≡ accepted → checkBytes b ≡ accepted → Alike a b
+      → Indistinguishable (runJob a n lent) (runJob b m lent′)
 
 -- demand 3 as the paper has it, for the reader who sees what is public
 unfoldable pub Demand3 : Type 0
