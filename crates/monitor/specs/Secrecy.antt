@@ -1,19 +1,17 @@
 -- Demand 3 of the public run: what two calls leave in what they were lent. Assumes nothing.
 use mathlib.Core.Path.{_≡_}
-use mathlib.Core.Logic.{_⊎_}
-use mathlib.Core.List.{List, IsPrefix}
+use mathlib.Core.List.{List}
 use Prim.Native.Nat.{ℕ, _*_, _<_}
 use lib.ListN.{getD, take}
 use lib.IntN.{pos}
 use Rattle.rules.specs.Level.{Level}
 use Rattle.rules.specs.Tree.{Forest, Place}
 use Rattle.rules.specs.Bytes.{variableCount}
-use Rattle.rules.specs.Check.{accepted}
+use Rattle.rules.specs.Check.{accepted, checkBytes}
 use Rattle.rules.specs.Job.{Variable}
-use Rattle.rules.specs.Outcome.{checkJob}
-use Rattle.rules.specs.Public.{seenVariable, AgreeTrees, Alike}
+use Rattle.rules.specs.Public.{Comparable, seenVariable, AgreeTrees, Alike}
 use Rattle.monitor.specs.declared.entry.Outcome.{Outcome}
-use Rattle.monitor.specs.Promises.{answerOf, Lent, lentBy, Promises}
+use Rattle.monitor.specs.Promises.{answerOf, Lent, Promises}
 
 -- the bytes of a call's board lines: four for each that its outcome counts
 unfoldable pub boardOf : {T : Type 0} → Outcome → Lent T → List ℕ
@@ -33,12 +31,11 @@ module _ {T : Type 0} (places : T → ℕ) (HoldsTree : T → ℕ → Forest →
 
   -- "the board lines of one run are the beginning of the other's; if both finish," the reader o sees the same
   pub record Unseen (n : ℕ) (x y : Lent T) (r s : Outcome) : Type 0 where
-    pub lines : IsPrefix (boardOf r x) (boardOf s y) ⊎ IsPrefix (boardOf s y) (boardOf r x)
+    pub lines : Comparable (boardOf r x) (boardOf s y)
     pub finish : answerOf r .ending ≡ 0 → answerOf s .ending ≡ 0 → SameLeft n x y r s
 
-  -- two calls that keep the public run's promise, with accepted jobs that are alike for o, whatever their budgets and buffers
+  -- two calls that keep the public run's promise, with accepted jobs that are alike for o, whatever their budgets and buffers; a call that 9 or 10 turns back counts too
   unfoldable pub SecretCalls : Type 0
   SecretCalls =
       (a b : List ℕ) (n m : ℕ) (x x′ y y′ : Lent T) (r s : Outcome) → Promises places HoldsTree a n x x′ r → Promises places HoldsTree b m y y′ s
-      → checkJob a n (lentBy places x) ≡ accepted → checkJob b m (lentBy places y) ≡ accepted → Alike o a b
-      → Unseen (variableCount a) x′ y′ r s
+      → checkBytes a ≡ accepted → checkBytes b ≡ accepted → Alike o a b → Unseen (variableCount a) x′ y′ r s

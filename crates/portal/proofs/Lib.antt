@@ -2,3 +2,4 @@
 pub mod Counted
 pub mod Handed
 pub mod Secret
+pub mod Bounds

@@ -1,6 +1,6 @@
 -- Demand 3 of two calls, from their contract alone and demand 3 of the rules' run: a call's two halves and the bytes of its lines are those of the rules'
 -- outcome. Assumes nothing.
-use mathlib.Core.Path.{_≡_, refl, sym, _∙_, ap, subst}
+use mathlib.Core.Path.{_≡_, refl, sym, _∙_, ap}
 use mathlib.Core.Logic.{⊎-map}
 use mathlib.Core.List.{List}
 use Prim.Native.Nat.{ℕ, _+_, _*_, _/_, _%_, _≤_}
@@ -9,17 +9,16 @@ use lib.ListN.{length, take}
 use Rattle.rules.specs.Limits.{maxBudget}
 use Rattle.rules.specs.Level.{Level}
 use Rattle.rules.specs.Number.{range}
-use Rattle.rules.specs.Check.{accepted}
-use Rattle.rules.specs.Job.{script}
-use Rattle.rules.specs.Run.{Ended, finished, run}
-use Rattle.rules.specs.Outcome.{Outcome, rejected, ran, answer, checkJob, begin, runJob, boardLines}
-use Rattle.rules.specs.Public.{Alike, Secret, Indistinguishable, Noninterference}
-use Rattle.rules.proofs.Noninterference.{runs, noninterference}
+use Rattle.rules.specs.Check.{accepted, checkBytes}
+use Rattle.rules.specs.Run.{State}
+use Rattle.rules.specs.Outcome.{Outcome, rejected, ran, answer, runJob, boardLines}
+use Rattle.rules.specs.Public.{Finishes, Alike, Indistinguishable, Noninterference}
+use Rattle.rules.proofs.Noninterference.{noninterference}
+use Rattle.rules.proofs.Endings.{finishes}
 use Rattle.actions.specs.Board.{spell, written}
 use Rattle.actions.proofs.Board.{written-lines, spell-prefix}
-use Rattle.monitor.proofs.Secret.{ends}
 use Rattle.portal.specs.Portal.{buffersFor, numberOf, Handed, handBack, portal}
-use Rattle.portal.specs.Secrecy.{endingIn, linesIn, Unseen, SecretPortal}
+use Rattle.portal.specs.Secrecy.{endingIn, countIn, linesIn, Unseen, SecretPortal}
 use Rattle.portal.proofs.Counted.{few-lines}
 
 -- the halves of a number whose lower one is small
@@ -44,48 +43,36 @@ module _ (b : List ℕ) (n : ℕ) (area : List ℕ) (h : Handed) (is : h ≡ por
   unfolding endingIn portal handBack numberOf
   ending-is = ap endingIn is ∙ upper _ _ (few-lines b n (buffersFor area))
 
+  pub count-is : countIn h ≡ length (boardLines outcome)
+  unfolding countIn portal handBack numberOf
+  count-is = ap countIn is ∙ lower _ _ (few-lines b n (buffersFor area)) ∙ counted outcome
+
   pub lines-are : linesIn h ≡ spell (boardLines outcome)
-  unfolding linesIn portal handBack numberOf
+  unfolding linesIn portal handBack
   lines-are =
-      ap linesIn is ∙ ap (λ (k : ℕ). take (4 * k) (written (boardLines outcome) area)) (lower _ _ (few-lines b n (buffersFor area)) ∙ counted outcome)
+      ap (λ (k : ℕ). take (4 * k) (h .area)) count-is ∙ ap (λ k. take (4 * length (boardLines outcome)) (k .area)) is
       ∙ written-lines (boardLines outcome) area
 
+  pub finish : endingIn h ≡ 0 → (s : State) × Finishes outcome s
+  finish z = finishes b n (buffersFor area) (sym ending-is ∙ z)
+
 module _ (o : Level) (a b : List ℕ) (n m : ℕ) (x y : List ℕ) (h k : Handed) (p : h ≡ portal a n x) (q : k ≡ portal b m y)
-    (ha : checkJob a n (buffersFor x) ≡ accepted) (hb : checkJob b m (buffersFor y) ≡ accepted) (alike : Alike o a b) where
-  abbrev first : Ended
-  first = run (buffersFor x) (script a) n (begin a)
-
-  abbrev second : Ended
-  second = run (buffersFor y) (script b) m (begin b)
-
-  alike-runs : Indistinguishable o first second
+    (ha : checkBytes a ≡ accepted) (hb : checkBytes b ≡ accepted) (alike : Alike o a b) where
+  untold : Indistinguishable o (outcome a n x h p) (outcome b m y k q)
   unfolding Noninterference
-  alike-runs =
-      subst (Secret o (ran first)) (runs b m (buffersFor y) hb)
-      (subst (λ w. Secret o w (runJob b m (buffersFor y))) (runs a n (buffersFor x) ha)
-      (noninterference o a b n m (buffersFor x) (buffersFor y) ha hb alike))
-
-  first-lines : linesIn h ≡ spell (first .last .memory .lines)
-  unfolding boardLines
-  first-lines = lines-are a n x h p ∙ ap (λ w. spell (boardLines w)) (runs a n (buffersFor x) ha)
-
-  second-lines : linesIn k ≡ spell (second .last .memory .lines)
-  unfolding boardLines
-  second-lines = lines-are b m y k q ∙ ap (λ w. spell (boardLines w)) (runs b m (buffersFor y) hb)
-
-  first-ends : endingIn h ≡ 0 → first .ending ≡ finished
-  unfolding answer
-  first-ends z = ends _ (sym (ap (λ w. answer w .ending) (runs a n (buffersFor x) ha)) ∙ sym (ending-is a n x h p) ∙ z)
-
-  second-ends : endingIn k ≡ 0 → second .ending ≡ finished
-  unfolding answer
-  second-ends z = ends _ (sym (ap (λ w. answer w .ending) (runs b m (buffersFor y) hb)) ∙ sym (ending-is b m y k q) ∙ z)
+  untold = noninterference o a b n m (buffersFor x) (buffersFor y) ha hb alike
 
   unseen : Unseen h k
+  unfolding boardLines
   unseen =
       record {
-        lines = rw (first-lines, second-lines) (⊎-map (spell-prefix _ _) (spell-prefix _ _) (alike-runs .lines));
-        finish = λ z w. first-lines ∙ ap spell (alike-runs .finish (first-ends z) (second-ends w) .lines) ∙ sym second-lines;
+        lines = rw (lines-are a n x h p, lines-are b m y k q) (⊎-map (spell-prefix _ _) (spell-prefix _ _) (untold .lines));
+        finish = λ z w.
+            let f = finish a n x h p z in
+            let g = finish b m y k q w in
+            lines-are a n x h p
+            ∙ ap spell (ap boardLines (f .1) ∙ (untold .finish (f .0) (g .0) (f .1) (g .1)) .lines ∙ sym (ap boardLines (g .1)))
+            ∙ sym (lines-are b m y k q);
       }
 
 pub secret-portal : (o : Level) → SecretPortal o
