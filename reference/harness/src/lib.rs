@@ -7,14 +7,18 @@
 //! - [`differential`]: whole outcomes against the reference.
 //! - [`leaks`]: pairs of jobs that agree on their public parts.
 //! - [`quick`]: outcomes of the fast version.
-//! - [`workloads`] and [`clock`]: the jobs that are measured, and how.
+//! - [`workloads`], [`bench`], [`clock`] and [`instructions`]: the jobs that are
+//!   measured, and how; [`lua`]: the same work in Lua.
 //! - [`arguments`] and [`progress`]: the command lines and the progress lines.
 
 pub mod arguments;
+pub mod bench;
 pub mod clock;
 pub mod differential;
 pub mod frame;
+pub mod instructions;
 pub mod leaks;
+pub mod lua;
 pub mod portal;
 pub mod programs;
 pub mod progress;

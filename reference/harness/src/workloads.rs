@@ -66,6 +66,18 @@ pub fn table() -> Vec<Workload> {
             "checking a full job, each node below the last",
             &full(|index| index - 1),
         ),
+        checking(
+            "checking a full job, nodes in level order",
+            &full(level_order),
+        ),
+        checking(
+            "checking a full job, children of 128 parents in turn",
+            &full(in_turn),
+        ),
+        checking(
+            "checking a full job, a child for each of 255 parents, last parent first",
+            &full(last_first),
+        ),
         small_job(),
     ]
 }
@@ -272,6 +284,34 @@ fn full(parent: fn(u16) -> u16) -> Job {
         &nodes,
         &some.repeat(MAX_RECORDS / 4),
     )
+}
+
+/// A whole binary tree, level after level: the parents never fall, and each
+/// first child's parent is far back.
+fn level_order(index: u16) -> u16 {
+    (index - 1) / 2
+}
+
+/// 128 children of the root, then again and again one child for each: the left
+/// sibling stands 128 records back.
+fn in_turn(index: u16) -> u16 {
+    const PARENTS: u16 = 128;
+    match index {
+        0..=PARENTS => 0,
+        _ => 1 + (index - 1) % PARENTS,
+    }
+}
+
+/// 256 children of the root, then a child for each, the last parent first. A
+/// search back to the left sibling or the parent passes 65,281 records in all;
+/// no order makes it pass more than 65,536, since a record is the first such one
+/// for two others at most.
+fn last_first(index: u16) -> u16 {
+    const PARENTS: u16 = 256;
+    match index {
+        0..=PARENTS => 0,
+        _ => 2 * PARENTS + 1 - index,
+    }
 }
 
 /// Twenty nodes below three parents, and a script that counts to eight.

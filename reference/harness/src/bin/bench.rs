@@ -5,30 +5,26 @@
 //! after the other, in turn first. A ratio is the median of the ratios in each
 //! repetition, so that a machine that is slow for a while is slow for both.
 //! Nothing is subtracted. Areas for lines are filled with a pattern before the
-//! time starts.
+//! time starts. Instructions are counted by callgrind in a run of their own.
 
 use std::hint::black_box;
 
-use fast::{Buffers, Limits};
 use harness::arguments::Arguments;
+use harness::bench::{Bench, Side};
 use harness::clock;
 use harness::frame::{self, Frame};
-use harness::portal::Portal;
+use harness::instructions::{self, Counted};
+use harness::lua;
 use harness::replay::Replay;
 use harness::workloads::{self, Growth, Unit, Workload};
 use reference::mistake::Mistake;
 
-const USAGE: &str = "bench [--portal linked|fast] [--replay PATH] [--repetitions N]";
+const USAGE: &str = "bench [--portal linked|fast] [--replay PATH] [--repetitions N] [--rows WORDS] [--instructions]
+    --rows: only the rows whose name has these words in it. --instructions: nothing but counts, in seconds";
 
 /// A sample is made of as many calls as take this long on the fast side.
 const SAMPLE_NANOSECONDS: f64 = 300_000.0;
 const MOST_CALLS: usize = 256;
-
-struct Bench {
-    portal: Portal,
-    repetitions: usize,
-    buffers: Box<Buffers>,
-}
 
 /// Nanoseconds a call, of each repetition, and the steps of a call.
 struct Measured {
@@ -41,29 +37,175 @@ struct Measured {
 type Times = fn(&Measured) -> &[f64];
 
 fn main() {
-    let arguments = Arguments::read(USAGE, &["--portal", "--replay", "--repetitions"]);
-    let mut bench = Bench {
-        portal: arguments.portal(Mistake::None),
-        repetitions: arguments.number("--repetitions", 41) as usize,
-        buffers: Buffers::new(),
-    };
+    let known = [
+        "--portal",
+        "--replay",
+        "--repetitions",
+        "--rows",
+        "--instructions",
+        instructions::MODE,
+    ];
+    let arguments = Arguments::read(USAGE, &known);
+    let mut bench = Bench::new(arguments.portal(Mistake::None));
+    let repetitions = arguments.number("--repetitions", 41) as usize;
+    let rows = arguments.text("--rows").unwrap_or("");
+    let mut table = workloads::table();
+    table.retain(|workload| workload.name.contains(rows));
+    if arguments.has(instructions::MODE) {
+        return instructions::run_counted(&mut bench, &table);
+    }
     println!("ours: {}", bench.portal.name());
     println!("fast: the fast Rust version, with buffers made once");
+    let counts = counts(&arguments, rows, &table);
+    if arguments.has("--instructions") {
+        return only_counts(&table, &counts);
+    }
     println!(
-        "processor time, medians of {} repetitions; reading the clock takes {:.0} ns and is not subtracted\n",
-        bench.repetitions,
+        "processor time, medians of {repetitions} repetitions; reading the clock takes {:.0} ns and is not subtracted\n",
         clock_nanoseconds()
     );
-    println!("| | steps | ours | fast | ours / fast |");
-    println!("|---|---:|---:|---:|---:|");
-    for workload in workloads::table() {
-        let measured = bench.measure(std::slice::from_ref(&workload));
-        println!("{}", row(&workload, &measured[0]));
+    let measured = main_table(&mut bench, repetitions, &table, &counts);
+    others(repetitions, &table, &measured);
+    if !rows.is_empty() {
+        return;
     }
-    bench.growth("nodes", workloads::by_nodes());
-    bench.growth("records", workloads::by_records());
+    growth(&mut bench, repetitions, "nodes", workloads::by_nodes());
+    growth(&mut bench, repetitions, "records", workloads::by_records());
     if let Some(path) = arguments.replay() {
-        through_replay(&Replay { path }, bench.repetitions);
+        through_replay(&Replay { path }, repetitions);
+    }
+}
+
+/// Instructions of each row; none where they could not be counted, with a word.
+fn counts(arguments: &Arguments, rows: &str, table: &[Workload]) -> Vec<Option<Counted>> {
+    let portal = arguments.text("--portal").unwrap_or("linked");
+    match instructions::count(table, &["--portal", portal, "--rows", rows]) {
+        Ok(counts) => {
+            println!("instructions: counted by callgrind; of a step row without its checks");
+            counts.into_iter().map(Some).collect()
+        }
+        Err(reason) => {
+            println!("instructions: not counted ({})", reason.trim());
+            vec![None; table.len()]
+        }
+    }
+}
+
+fn only_counts(table: &[Workload], counts: &[Option<Counted>]) {
+    println!("\n| instructions a step or a call | ours | fast | ours / fast |");
+    println!("|---|---:|---:|---:|");
+    for (workload, counted) in table.iter().zip(counts) {
+        println!("| {} |{}", workload.name, count_cells(workload, *counted));
+    }
+}
+
+/// Ours, fast and their ratio.
+fn count_cells(workload: &Workload, counted: Option<Counted>) -> String {
+    let Some(Counted { ours, fast }) = counted else {
+        return String::from(" | | |");
+    };
+    let ratio = ours / fast;
+    match workload.unit {
+        Unit::Step => format!(" {ours:.1} | {fast:.1} | {ratio:.2} |"),
+        Unit::Call => format!(" {ours:.0} | {fast:.0} | {ratio:.2} |"),
+    }
+}
+
+fn main_table(
+    bench: &mut Bench,
+    repetitions: usize,
+    table: &[Workload],
+    counts: &[Option<Counted>],
+) -> Vec<Measured> {
+    println!("| | steps | ours | fast | ours / fast | instructions: ours | fast | ours / fast |");
+    println!("|---|---:|---:|---:|---:|---:|---:|---:|");
+    let mut all = Vec::new();
+    for (workload, counted) in table.iter().zip(counts) {
+        let measured = measure(bench, repetitions, std::slice::from_ref(workload));
+        let cells = count_cells(workload, *counted);
+        println!("{}{cells}", row(workload, &measured[0]));
+        all.extend(measured);
+    }
+    all
+}
+
+/// One line of the table.
+fn row(workload: &Workload, measured: &Measured) -> String {
+    let time = |nanoseconds: f64| match workload.unit {
+        Unit::Step => format!("{:.2} ns/step", nanoseconds / f64::from(measured.steps)),
+        Unit::Call => format!("{:.3} µs", nanoseconds / 1_000.0),
+    };
+    format!(
+        "| {} | {} | {} | {} | {:.2} |",
+        workload.name,
+        measured.steps,
+        time(median(&measured.ours)),
+        time(median(&measured.fast)),
+        ratio(&measured.ours, &measured.fast)
+    )
+}
+
+/// What a user would pick instead, on the same work; what is not installed is
+/// left out, with a word.
+fn others(repetitions: usize, table: &[Workload], measured: &[Measured]) {
+    let works: Vec<(&str, &Workload, &Measured)> = lua::WORKS
+        .iter()
+        .filter_map(|&(work, name)| {
+            let place = table.iter().position(|row| row.name.starts_with(name))?;
+            Some((work, &table[place], &measured[place]))
+        })
+        .collect();
+    let (installed, missing): (Vec<_>, Vec<_>) = lua::PROGRAMS
+        .into_iter()
+        .partition(|(_, program)| lua::installed(program));
+    println!();
+    for (name, program) in missing {
+        println!("{name}: left out, {program} is not installed");
+    }
+    if installed.is_empty() || works.is_empty() {
+        return;
+    }
+    let names: Vec<&str> = installed.iter().map(|(name, _)| *name).collect();
+    println!(
+        "| ns/step, the same work with no monitor | ours | {} |",
+        names.join(" | ")
+    );
+    println!("|---|---:|{}", "---:|".repeat(installed.len()));
+    for (work, workload, measured) in works {
+        let steps = f64::from(measured.steps);
+        print!(
+            "| {} | {:.2} |",
+            workload.name,
+            median(&measured.ours) / steps
+        );
+        for (_, program) in &installed {
+            let time = lua::nanoseconds(program, work, workload.budget, repetitions);
+            print!(" {time:.2} |");
+        }
+        println!();
+    }
+}
+
+/// Nanoseconds a step as jobs grow; the last column is the time at the
+/// greatest size over that at the smallest.
+fn growth(bench: &mut Bench, repetitions: usize, what: &str, rows: Vec<Growth>) {
+    let [few, some, many] = rows[0].sizes;
+    println!("\n| ns/step with this many {what} | side | {few} | {some} | {many} | growth |");
+    println!("|---|---|---:|---:|---:|---:|");
+    for row in rows {
+        let measured = measure(bench, repetitions, &row.workloads);
+        let sides: [(&str, Times); 2] = [("ours", |m| &m.ours), ("fast", |m| &m.fast)];
+        for (side, times) in sides {
+            print!("| {} | {side} |", row.name);
+            for m in &measured {
+                print!(" {:.2} |", median(times(m)) / f64::from(m.steps));
+            }
+            let [first, .., last] = &measured[..] else {
+                unreachable!("three sizes")
+            };
+            let steps = f64::from(first.steps) / f64::from(last.steps);
+            println!(" {:.2} |", steps * ratio(times(last), times(first)));
+        }
     }
 }
 
@@ -94,129 +236,50 @@ fn through_replay(replay: &Replay, repetitions: usize) {
     );
 }
 
-/// One line of the table.
-fn row(workload: &Workload, measured: &Measured) -> String {
-    let time = |nanoseconds: f64| match workload.unit {
-        Unit::Step => format!("{:.2} ns/step", nanoseconds / f64::from(measured.steps)),
-        Unit::Call => format!("{:.3} µs", nanoseconds / 1_000.0),
-    };
-    format!(
-        "| {} | {} | {} | {} | {:.2} |",
-        workload.name,
-        measured.steps,
-        time(median(&measured.ours)),
-        time(median(&measured.fast)),
-        ratio(&measured.ours, &measured.fast)
-    )
+/// Measures some workloads, in turn in each repetition.
+fn measure(bench: &mut Bench, repetitions: usize, workloads: &[Workload]) -> Vec<Measured> {
+    let mut all = Vec::new();
+    let mut calls = Vec::new();
+    for workload in workloads {
+        bench.compare(workload);
+        all.push(Measured {
+            ours: Vec::new(),
+            fast: Vec::new(),
+            steps: bench.steps(workload),
+        });
+        let once = sample(bench, workload, 1, Side::Fast);
+        calls.push(((SAMPLE_NANOSECONDS / once) as usize).clamp(1, MOST_CALLS));
+    }
+    for repetition in 0..repetitions {
+        let turns = match repetition % 2 {
+            0 => [Side::Ours, Side::Fast],
+            _ => [Side::Fast, Side::Ours],
+        };
+        for (place, workload) in workloads.iter().enumerate() {
+            for side in turns {
+                let time = sample(bench, workload, calls[place], side);
+                match side {
+                    Side::Ours => all[place].ours.push(time),
+                    Side::Fast => all[place].fast.push(time),
+                }
+            }
+        }
+    }
+    all
 }
 
-impl Bench {
-    /// Nanoseconds a step as jobs grow; the last column is the time at the
-    /// greatest size over that at the smallest.
-    fn growth(&mut self, what: &str, rows: Vec<Growth>) {
-        let [few, some, many] = rows[0].sizes;
-        println!("\n| ns/step with this many {what} | side | {few} | {some} | {many} | growth |");
-        println!("|---|---|---:|---:|---:|---:|");
-        for row in rows {
-            let measured = self.measure(&row.workloads);
-            let sides: [(&str, Times); 2] = [("ours", |m| &m.ours), ("fast", |m| &m.fast)];
-            for (side, times) in sides {
-                print!("| {} | {side} |", row.name);
-                for m in &measured {
-                    print!(" {:.2} |", median(times(m)) / f64::from(m.steps));
-                }
-                let [first, .., last] = &measured[..] else {
-                    unreachable!("three sizes")
-                };
-                let steps = f64::from(first.steps) / f64::from(last.steps);
-                println!(" {:.2} |", steps * ratio(times(last), times(first)));
-            }
-        }
+/// Nanoseconds a call, over `calls` calls with an area each.
+fn sample(bench: &mut Bench, workload: &Workload, calls: usize, side: Side) -> f64 {
+    let mut areas = vec![0xa5u8; workload.area * calls];
+    let mut parts: Vec<&mut [u8]> = match workload.area {
+        0 => (0..calls).map(|_| Default::default()).collect(),
+        length => areas.chunks_exact_mut(length).collect(),
+    };
+    let start = clock::nanoseconds();
+    for area in &mut parts {
+        black_box(bench.call(side, &workload.job, workload.budget, area));
     }
-
-    /// Measures some workloads, in turn in each repetition.
-    fn measure(&mut self, workloads: &[Workload]) -> Vec<Measured> {
-        let mut all = Vec::new();
-        let mut calls = Vec::new();
-        for workload in workloads {
-            self.compare(workload);
-            all.push(Measured {
-                ours: Vec::new(),
-                fast: Vec::new(),
-                steps: self.steps(workload),
-            });
-            let once = self.sample(workload, 1, false);
-            calls.push(((SAMPLE_NANOSECONDS / once) as usize).clamp(1, MOST_CALLS));
-        }
-        for repetition in 0..self.repetitions {
-            for (place, workload) in workloads.iter().enumerate() {
-                for ours in [repetition % 2 == 0, repetition % 2 == 1] {
-                    let time = self.sample(workload, calls[place], ours);
-                    let times = match ours {
-                        true => &mut all[place].ours,
-                        false => &mut all[place].fast,
-                    };
-                    times.push(time);
-                }
-            }
-        }
-        all
-    }
-
-    /// Nanoseconds a call, over `calls` calls with an area each.
-    fn sample(&mut self, workload: &Workload, calls: usize, ours: bool) -> f64 {
-        let mut areas = vec![0xa5u8; workload.area * calls];
-        let mut parts: Vec<&mut [u8]> = match workload.area {
-            0 => (0..calls).map(|_| Default::default()).collect(),
-            length => areas.chunks_exact_mut(length).collect(),
-        };
-        let job = &workload.job[..];
-        let start = clock::nanoseconds();
-        for area in &mut parts {
-            let answer = match ours {
-                true => self.portal.call(black_box(job), workload.budget, area),
-                false => self.fast_call(black_box(job), workload.budget, area),
-            };
-            black_box(answer);
-        }
-        (clock::nanoseconds() - start) as f64 / calls as f64
-    }
-
-    fn fast_call(&mut self, job: &[u8], budget: u64, area: &mut [u8]) -> u64 {
-        fast::entry::portal_in(&mut self.buffers, job, budget, area)
-    }
-
-    /// Both sides must give the same answer and the same lines.
-    fn compare(&mut self, workload: &Workload) {
-        let mut ours = vec![0xa5; workload.area];
-        let mut fast = ours.clone();
-        let answers = (
-            self.portal.call(&workload.job, workload.budget, &mut ours),
-            self.fast_call(&workload.job, workload.budget, &mut fast),
-        );
-        assert_eq!(answers.0, answers.1, "{}", workload.name);
-        assert_eq!(ours, fast, "{}", workload.name);
-    }
-
-    fn steps(&mut self, workload: &Workload) -> u32 {
-        let limits = Limits {
-            budget: workload.budget,
-            places: fast::MAX_NODES,
-            variables: fast::MAX_VARIABLES,
-        };
-        let mut area = vec![0; workload.area];
-        let answer = fast::run::run(&mut self.buffers, &workload.job, limits, &mut area);
-        let wanted = match workload.unit {
-            Unit::Step => [0, 25],
-            Unit::Call => [0, 9],
-        };
-        assert!(
-            wanted.contains(&answer.ending),
-            "{}: {answer:?}",
-            workload.name
-        );
-        answer.steps
-    }
+    (clock::nanoseconds() - start) as f64 / calls as f64
 }
 
 fn median(times: &[f64]) -> f64 {
