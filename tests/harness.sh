@@ -1,5 +1,5 @@
-# Sourced by what needs the harness of reference/: builds it with the proved portal linked, and sees that the proved programs are there.
-# After it: $REPLAY, $PORTAL_LIB_DIR and $harness, the folder of the programs.
+# Sourced by what needs reference/: builds all of it once, tests too, with the proved portal linked, and sees that the proved programs are there.
+# After it: $REPLAY, $PORTAL_LIB_DIR and $harness, the folder of the programs. What is built stays for the next test.
 cd "$(dirname "${BASH_SOURCE[0]}")/.."
 export REPLAY=$PWD/target/bin/replay PORTAL_LIB_DIR=$PWD/target/staticlib
 

@@ -19,6 +19,19 @@ pub struct Coverage {
     counts: BTreeMap<String, u64>,
 }
 
+/// What the steps of one case met, by number: a step is counted too often to be
+/// named each time.
+#[derive(Default)]
+struct Steps {
+    /// By command, context and cursor level.
+    levels: [[[u64; 2]; 2]; command::COUNT],
+    /// By operator and kinds.
+    expressions: [[[u64; 4]; 4]; 6],
+    deepest: u64,
+    /// By command and the new node's levels.
+    insertions: BTreeMap<(u8, [Level; 3]), u64>,
+}
+
 /// Lengths of runs, in steps, that are counted.
 const LONG_RUNS: [u64; 4] = [100, 2_000, 100_000, 1_000_000];
 
@@ -30,12 +43,14 @@ impl Coverage {
     /// Runs the reference on `case`, counts what it meets, and hands back the
     /// outcome.
     pub fn add(&mut self, case: &Case) -> Outcome {
+        let mut steps = Steps::default();
         let outcome = run::observed(
             &case.bytes,
             &case.limits,
             Mistake::None,
-            &mut |state, record| self.add_step(state, record),
+            &mut |state, record| steps.add(state, record),
         );
+        self.add_steps(&steps);
         self.count(ending_name(outcome.ending));
         if !outcome.ending.turned_back() {
             self.add_nodes(case);
@@ -63,27 +78,42 @@ impl Coverage {
     }
 
     fn count(&mut self, name: String) {
-        *self.counts.entry(name).or_insert(0) += 1;
+        self.count_all(name, 1);
     }
 
-    fn add_step(&mut self, state: &State, record: &Record) {
-        self.count(command_name(record.command));
-        let context = state.guards.iter().copied().max().unwrap_or(PUBLIC);
-        self.count(levels_name(record.command, context, state.cursor_level));
-        if READS[record.command as usize].expression {
-            self.count(expression_name(record));
+    fn count_all(&mut self, name: String, count: u64) {
+        if count > 0 {
+            *self.counts.entry(name).or_insert(0) += count;
         }
-        if state.guards.len() == MAX_BLOCKS {
-            self.count(String::from(DEEPEST));
-        }
-        let new_node = match (record.command, state.cursor.split_last()) {
-            (command::NEW_FIRST_CHILD, _) => &state.tree.at(&state.cursor).children[0],
-            (command::NEW_RIGHT_SIBLING, Some((place, above))) => {
-                &state.tree.at(above).children[place + 1]
+    }
+
+    fn add_steps(&mut self, steps: &Steps) {
+        for (command, by_context) in (0..).zip(&steps.levels) {
+            let carried_out = by_context.iter().flatten().sum();
+            self.count_all(command_name(command), carried_out);
+            for (context, by_cursor) in (0..).zip(by_context) {
+                for (cursor, &count) in (0..).zip(by_cursor) {
+                    self.count_all(levels_name(command, context, cursor), count);
+                }
             }
-            _ => return,
-        };
-        self.count(insertion_name(record.command, levels(new_node)));
+        }
+        for (operator, by_left) in (0..).zip(&steps.expressions) {
+            for (left_kind, by_right) in (0..).zip(by_left) {
+                for (right_kind, &count) in (0..).zip(by_right) {
+                    let record = Record {
+                        operator,
+                        left_kind,
+                        right_kind,
+                        ..Record::default()
+                    };
+                    self.count_all(expression_name(&record), count);
+                }
+            }
+        }
+        self.count_all(String::from(DEEPEST), steps.deepest);
+        for (&(command, levels), &count) in &steps.insertions {
+            self.count_all(insertion_name(command, levels), count);
+        }
     }
 
     /// The levels of the nodes that an accepted job brings.
@@ -114,6 +144,33 @@ impl Coverage {
             }
             _ => {}
         }
+    }
+}
+
+impl Steps {
+    fn add(&mut self, state: &State, record: &Record) {
+        let command = usize::from(record.command);
+        let context = state.guards.iter().copied().max().unwrap_or(PUBLIC);
+        self.levels[command][usize::from(context)][usize::from(state.cursor_level)] += 1;
+        if READS[command].expression {
+            // The right side of operator 0 is ignored, and may be anything.
+            let right_kind = match record.operator {
+                operator::LEFT => 0,
+                _ => record.right_kind,
+            };
+            let by_kinds = &mut self.expressions[usize::from(record.operator)];
+            by_kinds[usize::from(record.left_kind)][usize::from(right_kind)] += 1;
+        }
+        self.deepest += (state.guards.len() == MAX_BLOCKS) as u64;
+        let new_node = match (record.command, state.cursor.split_last()) {
+            (command::NEW_FIRST_CHILD, _) => &state.tree.at(&state.cursor).children[0],
+            (command::NEW_RIGHT_SIBLING, Some((place, above))) => {
+                &state.tree.at(above).children[place + 1]
+            }
+            _ => return,
+        };
+        let insertion = (record.command, levels(new_node));
+        *self.insertions.entry(insertion).or_insert(0) += 1;
     }
 }
 

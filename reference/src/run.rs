@@ -131,17 +131,18 @@ struct Evaluated {
 }
 
 /// A run: what is fixed, and the state.
-struct Monitor<'a> {
+pub struct Monitor<'a> {
     script: &'a [Record],
     /// For each if, else, while and end, the block that it belongs to.
     blocks: Vec<Option<Block>>,
     limits: &'a Limits,
     mistake: Mistake,
-    state: State,
+    pub state: State,
 }
 
 impl<'a> Monitor<'a> {
-    fn new(job: &'a Job, limits: &'a Limits, mistake: Mistake) -> Monitor<'a> {
+    /// The run of an accepted job, before its first step.
+    pub fn new(job: &'a Job, limits: &'a Limits, mistake: Mistake) -> Monitor<'a> {
         let mut blocks = vec![None; job.script.len()];
         for block in job::pair_blocks(&job.script, mistake).expect("the job is accepted") {
             blocks[block.opening] = Some(block);
@@ -172,7 +173,7 @@ impl<'a> Monitor<'a> {
 
     /// "At the script's end the run has finished, even with the budget used
     /// up. Otherwise, if the steps equal the budget, stop 25."
-    fn run(mut self, observer: Observer) -> Outcome {
+    pub fn run(mut self, observer: Observer) -> Outcome {
         loop {
             let next = self.state.next;
             if next == self.script.len() {
@@ -582,38 +583,5 @@ fn combine(operator: u8, left: i32, right: i32, mistake: Mistake) -> i32 {
         (operator::LESS, _) => (left < right) as i32,
         (operator::MEAN, _) => (i64::from(left) + i64::from(right)).div_euclid(2) as i32,
         (other, _) => unreachable!("operator {other} does not pass check 7"),
-    }
-}
-
-#[cfg(test)]
-mod tests {
-    use super::*;
-    use crate::source::{new_first_child, new_right_sibling, node, root_node};
-
-    /// 26: "none found so far". No accepted job is known to reach it, so the
-    /// state is made by hand: a cursor of level 0 on a node of existence 1.
-    #[test]
-    fn ending_26_context_below_the_node() {
-        let below = [1, 1, 1];
-        let nodes = [root_node([0, 0, 1], 0), node(0, below, 0)];
-        for record in [new_first_child(0, 1), new_right_sibling(0, 1)] {
-            for places in [2, 3] {
-                let job = Job {
-                    nodes: nodes.to_vec(),
-                    script: vec![record],
-                    ..Job::default()
-                };
-                let limits = Limits {
-                    places,
-                    ..Limits::ample(10)
-                };
-                let mut monitor = Monitor::new(&job, &limits, Mistake::None);
-                monitor.state.cursor = vec![0];
-                let outcome = monitor.run(&mut |_, _| {});
-                // Before 23, which two places would give.
-                let answer = (outcome.ending.number(), outcome.index, outcome.steps);
-                assert_eq!(answer, (26, 0, 0));
-            }
-        }
     }
 }

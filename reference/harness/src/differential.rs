@@ -217,15 +217,12 @@ impl Sides {
         Ok(tried)
     }
 
-    /// What `replay` prints for the cases of `seeds`, without the headings.
-    pub fn replayed(&self, seeds: std::ops::Range<u64>) -> Vec<String> {
-        let frames: Vec<Frame> = seeds
-            .map(|seed| Frame::varied(&generate::case(seed), seed))
-            .collect();
+    /// What `replay` prints for each of the frames, without the headings.
+    pub fn replayed(&self, frames: &[Frame]) -> Vec<String> {
         let Some(replay) = &self.replay else {
             return Vec::new();
         };
-        let printed = replay.run(frame::stream(&frames));
+        let printed = replay.run(frame::stream(frames));
         let jobs = split_jobs(&printed.text).into_iter();
         jobs.map(|job| {
             job.split_once('\n')

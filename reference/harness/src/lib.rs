@@ -9,6 +9,7 @@
 //! - [`quick`]: outcomes of the fast version.
 //! - [`workloads`], [`bench`], [`clock`] and [`instructions`]: the jobs that are
 //!   measured, and how; [`lua`]: the same work in Lua.
+//! - [`memory`]: that of a process that runs for long.
 //! - [`arguments`] and [`progress`]: the command lines and the progress lines.
 
 pub mod arguments;
@@ -19,6 +20,7 @@ pub mod frame;
 pub mod instructions;
 pub mod leaks;
 pub mod lua;
+pub mod memory;
 pub mod portal;
 pub mod programs;
 pub mod progress;

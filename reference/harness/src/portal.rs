@@ -14,6 +14,10 @@ extern "C" {
     ) -> u64;
 }
 
+/// Where this is in the environment, a program is as one that was built without
+/// a portal.
+pub const UNLINKED: &str = "PORTAL_UNLINKED";
+
 #[derive(Clone, Copy, Debug, PartialEq, Eq)]
 pub enum Portal {
     /// `portal_run` of `libportal.a`.
@@ -27,7 +31,8 @@ pub enum Portal {
 impl Portal {
     /// The linked portal, if this build has one.
     pub fn linked() -> Option<Portal> {
-        cfg!(portal_linked).then_some(Portal::Linked)
+        let hidden = std::env::var_os(UNLINKED).is_some();
+        (cfg!(portal_linked) && !hidden).then_some(Portal::Linked)
     }
 
     pub fn name(self) -> String {

@@ -5,7 +5,8 @@ use std::process::{Command, Output};
 
 use harness::differential::{portal_unlike, spare, Side, Sides, Unlike};
 use harness::frame::{self, Frame};
-use harness::portal::Portal;
+use harness::memory;
+use harness::portal::{Portal, UNLINKED};
 use harness::programs;
 use harness::replay::Replay;
 use reference::generate::{self, Case};
@@ -101,12 +102,11 @@ fn what_is_missing_is_said() {
         Some(2)
     );
     assert_eq!(started(SOAK, &[]).status.code(), Some(2));
-    if Portal::linked().is_none() {
-        assert_eq!(started(LEAK, &[]).status.code(), Some(2));
-        assert_eq!(
-            started(DIFFERENTIAL, &["--no-replay"]).status.code(),
-            Some(2)
-        );
+    for (program, words) in [(LEAK, &[][..]), (DIFFERENTIAL, &["--no-replay"])] {
+        let mut unlinked = Command::new(program);
+        unlinked.args(words).env(UNLINKED, "1");
+        let output = unlinked.output().expect("the program starts");
+        assert_eq!(output.status.code(), Some(2));
     }
 }
 
@@ -154,16 +154,10 @@ fn outcomes_can_be_read_back() {
 }
 
 #[test]
-fn a_leak_is_found() {
-    let words = ["--portal", "reference", "--mistake", "ElseForgetsGuard"];
-    let text = ended(LEAK, &words, 1);
-    assert!(text.contains("the smallest pair"), "{text}");
-}
-
-#[test]
-fn every_leak_is_found() {
-    let text = ended(LEAK, &["--each-mistake"], 0);
-    assert!(text.contains("each leak was found"), "{text}");
+fn growth_is_told_from_a_few_pages() {
+    assert!(memory::constant(&[(1, 900), (2, 904), (3, 900)]));
+    assert!(!memory::constant(&[(1, 900), (2, 904), (3, 1_100)]));
+    assert!(!memory::constant(&[]));
 }
 
 #[test]

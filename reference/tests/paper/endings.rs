@@ -2,7 +2,9 @@
 
 use super::*;
 use reference::job::{Variable, NO_PARENT};
+use reference::mistake::Mistake;
 use reference::portal::{board, portal};
+use reference::run::Monitor;
 
 fn bytes_of(hexadecimal: &str) -> Vec<u8> {
     let digits: Vec<char> = hexadecimal.chars().filter(|c| !c.is_whitespace()).collect();
@@ -436,5 +438,26 @@ fn ending_25_budget_used() {
     for budget in [1, 2, 3, 10] {
         let expected = (25, (budget % 2) as usize, budget, vec![]);
         assert_eq!(answer(&run_with(&job, &Limits::ample(budget))), expected);
+    }
+}
+
+/// 26: "none found so far". No accepted job is known to reach it, so the state
+/// is made by hand: a cursor of level 0 on a node of existence 1.
+#[test]
+fn ending_26_context_below_the_node() {
+    let nodes = [root_node([0, 0, 1], 0), node(0, [1, 1, 1], 0)];
+    for record in [new_first_child(0, 1), new_right_sibling(0, 1)] {
+        // Before 23, which two places would give.
+        for places in [2, 3] {
+            let job = job(&[], &nodes, &[record]);
+            let limits = Limits {
+                places,
+                ..Limits::ample(10)
+            };
+            let mut monitor = Monitor::new(&job, &limits, Mistake::None);
+            monitor.state.cursor = vec![0];
+            let outcome = monitor.run(&mut |_, _| {});
+            assert_eq!(answer(&outcome), (26, 0, 0, vec![]));
+        }
     }
 }

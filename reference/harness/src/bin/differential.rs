@@ -11,7 +11,7 @@ use harness::frame::{self, Frame};
 use harness::progress::Progress;
 use harness::replay::Replay;
 use reference::coverage::Coverage;
-use reference::generate;
+use reference::generate::{self, Case};
 use reference::mistake::Mistake;
 use reference::run;
 
@@ -133,25 +133,26 @@ fn compare(sides: &Sides, arguments: &Arguments) -> bool {
 fn each_mistake(sides: &Sides, arguments: &Arguments) -> bool {
     let seed = arguments.number("--seed", 0);
     let jobs = arguments.number("--jobs", 20_000);
-    let mut printed = Vec::new();
-    for first in (seed..seed + jobs).step_by(BATCH as usize) {
-        printed.extend(sides.replayed(first..(first + BATCH).min(seed + jobs)));
-    }
+    let cases: Vec<Case> = (seed..seed + jobs).map(generate::case).collect();
+    let varied = |(case, seed)| Frame::varied(case, seed);
+    let frames: Vec<Frame> = cases.iter().zip(seed..).map(varied).collect();
+    let framed: Vec<Case> = frames.iter().map(Frame::case).collect();
+    let batches = frames.chunks(BATCH as usize);
+    let printed: Vec<String> = batches.flat_map(|batch| sides.replayed(batch)).collect();
     let mut all = true;
     for mistake in all_mistakes() {
         let by_replay = sides.replay.as_ref().map(|_| {
-            (0..printed.len()).find(|&place| {
-                let seed = seed + place as u64;
-                let case = Frame::varied(&generate::case(seed), seed).case();
+            framed.iter().zip(&printed).position(|(case, printed)| {
                 let wrong = run::outcome_with(&case.bytes, &case.limits, mistake);
-                frame::text(&wrong) != printed[place]
+                frame::text(&wrong) != *printed
             })
         });
         let by_portal = sides.portal.map(|portal| {
             let call = |job: &[u8], budget, area: &mut [u8]| portal.call(job, budget, area);
-            (seed..seed + jobs).find(|&seed| {
-                portal_unlike(&call, &generate::case(seed), spare(seed), mistake).is_some()
-            })
+            cases
+                .iter()
+                .zip(seed..)
+                .position(|(case, seed)| portal_unlike(&call, case, spare(seed), mistake).is_some())
         });
         println!(
             "{mistake:?}: replay {}, portal {}",

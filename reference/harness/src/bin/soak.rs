@@ -3,7 +3,6 @@
 //!
 //! Exit status: 0 no drift and constant memory, 1 otherwise, 2 bad usage.
 
-use std::fs;
 use std::io::{BufReader, Read, Write};
 use std::process::{Child, Command, Stdio};
 use std::sync::atomic::{AtomicBool, Ordering};
@@ -13,6 +12,7 @@ use std::time::Instant;
 
 use harness::arguments::{fail, Arguments};
 use harness::frame::{self, Frame};
+use harness::memory::{constant, resident_kib};
 use harness::progress::Progress;
 use reference::generate;
 use reference::run;
@@ -25,9 +25,6 @@ const SET: usize = 1_000;
 const MOST_STEPS: u64 = 500;
 /// Between two samples of the memory.
 const SAMPLE_EVERY: u64 = 20_000;
-/// More than this above the first sample is growth: a few pages may come and go.
-const ALLOWED_KIB: u64 = 64;
-
 /// The frames of a round and what each must print, without the heading.
 struct Round {
     stream: Vec<u8>,
@@ -135,7 +132,7 @@ fn soak(path: &str, round: Round, jobs: u64, arguments: &Arguments) -> bool {
         println!("it ended with {status}");
         return false;
     }
-    constant_memory(&samples)
+    constant(&samples)
 }
 
 /// Writes the stream again and again, whole, until there are enough rounds or
@@ -154,52 +151,4 @@ fn write_rounds(
             }
         }
     })
-}
-
-/// VmRSS of the process.
-fn resident_kib(child: &Child) -> u64 {
-    let status = fs::read_to_string(format!("/proc/{}/status", child.id())).unwrap_or_default();
-    let line = status.lines().find_map(|line| line.strip_prefix("VmRSS:"));
-    let number = line.and_then(|line| line.split_whitespace().next()?.parse().ok());
-    number.unwrap_or(0)
-}
-
-fn constant_memory(samples: &[(u64, u64)]) -> bool {
-    // The process may have ended before the last ones were taken.
-    let taken: Vec<(u64, u64)> = samples.iter().copied().filter(|s| s.1 > 0).collect();
-    let (Some(first), Some(last)) = (taken.first(), taken.last()) else {
-        println!("too few jobs to sample the memory");
-        return false;
-    };
-    let most = taken.iter().map(|sample| sample.1).max().unwrap_or(0);
-    println!(
-        "resident memory in KiB: {} after {} jobs, {} after {}, at most {most}, in {} samples",
-        first.1,
-        first.0,
-        last.1,
-        last.0,
-        taken.len()
-    );
-    let constant = most <= first.1 + ALLOWED_KIB;
-    println!(
-        "{}",
-        if constant {
-            "constant memory"
-        } else {
-            "the memory grows"
-        }
-    );
-    constant
-}
-
-#[cfg(test)]
-mod tests {
-    use super::constant_memory;
-
-    #[test]
-    fn growth_is_told_from_a_few_pages() {
-        assert!(constant_memory(&[(1, 900), (2, 904), (3, 900)]));
-        assert!(!constant_memory(&[(1, 900), (2, 904), (3, 1_100)]));
-        assert!(!constant_memory(&[]));
-    }
 }
