@@ -1,7 +1,6 @@
-"""What the tests of tools/job share: the tool as a module and as a program, the repository's programs, generated jobs."""
+"""What the tests of tools/job share: the tool as modules and as a program, the repository's programs, generated jobs."""
 
-import importlib.machinery
-import importlib.util
+import importlib
 import io
 import os
 import struct
@@ -15,16 +14,21 @@ HOME = Path(__file__).resolve().parent.parent.parent
 TOOL = HOME / "tools" / "job"
 
 
-def load_tool():
-    loader = importlib.machinery.SourceFileLoader("job", str(TOOL))
-    spec = importlib.util.spec_from_loader("job", loader)
-    module = importlib.util.module_from_spec(spec)
-    sys.modules["job"] = module
-    loader.exec_module(module)
-    return module
+class Package:
+    """The names of all modules behind tools/job, as if they were one."""
+
+    def __init__(self):
+        sys.path.insert(0, str(TOOL.parent))
+        self.modules = [importlib.import_module(f"yoke.{path.stem}") for path in sorted((TOOL.parent / "yoke").glob("[a-z]*.py"))]
+
+    def __getattr__(self, name):
+        for module in self.modules:
+            if hasattr(module, name):
+                return getattr(module, name)
+        raise AttributeError(name)
 
 
-job = load_tool()
+job = Package()
 
 
 def program(name):

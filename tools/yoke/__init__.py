@@ -1,0 +1,1 @@
+"""Jobs for people: the modules behind tools/job."""

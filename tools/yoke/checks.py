@@ -1,0 +1,190 @@
+"""The checks 1 to 8."""
+
+from typing import NamedTuple
+
+from .commands import CHILDREN, COMMANDS, COVER, ELSE, END, IF, MEAN, NAMED, WHILE
+from .encoding import NODE, RECORD, TRAILER, VARIABLE, decode
+from .endings import ENDINGS
+from .limits import MAX_BYTES, MAX_DEPTH, MAX_NODES, MAX_RECORDS, MAX_VARIABLES, NO_PARENT
+
+class Fault(NamedTuple):
+    """Why the monitor turns a job back: its number, its index, and for people the section, the bytes and a sentence."""
+
+    number: int
+    index: int
+    section: str
+    start: int
+    length: int
+    text: str
+
+
+def plural(count, noun):
+    return f"{count:,} {noun}" + ("" if count == 1 else "s")
+
+
+def check(data):
+    """The first of the checks 1 to 8 that the bytes fail, or None."""
+    if not 8 <= len(data) <= MAX_BYTES:
+        return Fault(1, 0, "", 0, len(data),
+                     f"the job has {plural(len(data), 'byte')}; it must have 8 to {MAX_BYTES:,}")
+    fault = check_layout(data) or check_counts(data)
+    if fault:
+        return fault
+    _, nodes, script, _ = TRAILER.unpack(data[-8:])
+    job = decode(data)
+    searches = (
+        (4, "variable", 0, VARIABLE.size, variable_faults(job)),
+        (5, "node", nodes, NODE.size, parent_faults(job)),
+        (6, "node", nodes, NODE.size, tree_faults(job)),
+        (7, "record", script, RECORD.size, field_faults(job)),
+        (8, "record", script, RECORD.size, block_faults(job)),
+    )
+    for number, section, start, size, faults in searches:
+        for index, text in faults:
+            length = size if start + index * size < len(data) - 8 else 8
+            return Fault(number, index, section, start + index * size, length, text)
+    return None
+
+
+def check_layout(data):
+    variables, nodes, script, trailer = TRAILER.unpack(data[-8:])
+    at = len(data) - 8
+    said = f"the trailer says variables {variables}, nodes {nodes}, script {script}, trailer {trailer}"
+    if not 0 == variables <= nodes <= script <= trailer == at:
+        return Fault(2, 0, "", at, 8,
+                     f"{said}; the first must be 0, the last {at}, and none below the one before it")
+    sections = (("variables take", nodes, 8), ("nodes take", script - nodes, 12), ("script takes", trailer - script, 16))
+    for name, length, size in sections:
+        if length % size:
+            return Fault(2, 0, "", at, 8, f"{said}; the {name} {plural(length, 'byte')}, which is no multiple of {size}")
+    return None
+
+
+def check_counts(data):
+    _, nodes, script, trailer = TRAILER.unpack(data[-8:])
+    counts = (
+        ("variable", nodes // 8, 0, MAX_VARIABLES),
+        ("node", (script - nodes) // 12, 1, MAX_NODES),
+        ("record", (trailer - script) // 16, 0, MAX_RECORDS),
+    )
+    for noun, count, low, high in counts:
+        if not low <= count <= high:
+            return Fault(3, 0, "", len(data) - 8, 8, f"the job has {plural(count, noun)}; it must have {low} to {high:,}")
+    return None
+
+
+def variable_faults(job):
+    for index, variable in enumerate(job.variables):
+        if variable.level > 1:
+            yield index, f"its level is {variable.level}; it must be 0 (public) or 1 (house)"
+
+
+def parent_faults(job):
+    for index, node in enumerate(job.nodes):
+        if index == 0 and node.parent != NO_PARENT:
+            yield index, f"it is the root, so its parent must be {NO_PARENT}, not {node.parent}"
+        if index > 0 and node.parent == NO_PARENT:
+            yield index, "it has no parent; only node 0, the root, may have none"
+        elif index > 0 and node.parent >= index:
+            yield index, f"its parent is node {node.parent}; a parent must come before its children"
+
+
+def tree_faults(job):
+    last = {}  # the last child so far, by parent
+    for index, node in enumerate(job.nodes):
+        text = level_fault(node) or (place_fault(node, job, last) if index else root_fault(node))
+        last[node.parent] = index
+        if text:
+            yield index, text
+
+
+def level_fault(node):
+    for name, level in (("existence", node.existence), ("content", node.content), ("list", node.list)):
+        if level > 1:
+            return f"its {name} level is {level}; it must be 0 (public) or 1 (house)"
+    for name, level in (("content", node.content), ("list", node.list)):
+        if level < node.existence:
+            return f"it is a house node, so its {name} level must be house too"
+    return ""
+
+
+def root_fault(node):
+    return "it is the root, which must be public" if node.existence else ""
+
+
+def place_fault(node, job, last):
+    parent = job.nodes[node.parent]
+    if node.existence < parent.existence:
+        return f"it is public under node {node.parent}, which is house"
+    if node.existence > parent.list:
+        return f"it is a house node under node {node.parent}, whose list level is public"
+    left = last.get(node.parent)
+    if left is not None and node.existence < job.nodes[left].existence:
+        return f"it is public and stands right of node {left}, which is house"
+    return ""
+
+
+def field_faults(job):
+    count = len(job.variables)
+    for index, record in enumerate(job.records):
+        text = field_fault(record, count)
+        if text:
+            yield index, text
+
+
+def field_fault(record, count):
+    if record.command > COVER:
+        return f"its command is {record.command}; commands are 0 to 16"
+    row = COMMANDS[record.command]
+    if row.target == "variable" and record.target >= count:
+        return f"its target is variable {record.target}, and there are {plural(count, 'variable')}"
+    if row.target == "mark" and record.target > 3:
+        return f"its mark is {record.target}; marks are 0 to 3"
+    if not row.expression:
+        return ""
+    if record.operator > MEAN:
+        return f"its operator is {record.operator}; operators are 0 to 5"
+    for side, (kind, number) in zip(("left", "right"), record.operands()):
+        if kind > CHILDREN:
+            return f"its {side} kind is {kind}; kinds are 0 to 3"
+        if kind == NAMED and number >= count:
+            return f"its {side} side is variable {number}, and there are {plural(count, 'variable')}"
+    return ""
+
+
+ELSE_FAULTS = {
+    "": "it is an else, and no block is open",
+    "while": "it is an else, and the innermost open block is a while",
+    "else": "it is a second else of the same if",
+}
+
+
+def block_faults(job):
+    blocks = []  # the open ones: "if", "else" for an if past its else, or "while"
+    for index, record in enumerate(job.records):
+        if record.command in (IF, WHILE):
+            if len(blocks) == MAX_DEPTH:
+                yield index, f"it opens the {MAX_DEPTH + 1}th nested block; {MAX_DEPTH} are allowed"
+            blocks.append("if" if record.command == IF else "while")
+        elif record.command == ELSE:
+            inner = blocks[-1] if blocks else ""
+            if inner != "if":
+                yield index, ELSE_FAULTS[inner]
+                return
+            blocks[-1] = "else"
+        elif record.command == END:
+            if not blocks:
+                yield index, "it is an end, and no block is open"
+                return
+            blocks.pop()
+    if blocks:
+        yield len(job.records), f"the script ends with {plural(len(blocks), 'block')} still open"
+
+
+def describe(fault):
+    """A fault in words, without the names of a source."""
+    where = ""
+    if fault.section:
+        where = f"{fault.section} {fault.index}, " if fault.length != 8 or fault.section == "variable" else "the script's end, "
+        where += f"bytes {fault.start} to {fault.start + fault.length - 1}: "
+    return f"refused with {fault.number} ({ENDINGS[fault.number]}): {where}{fault.text}"

@@ -1,0 +1,40 @@
+"""The table of commands, and the numbers of kinds, operators and marks."""
+
+from typing import NamedTuple
+
+class Row(NamedTuple):
+    """A command's words in the source, and the fields that it reads."""
+
+    words: str
+    target: str = ""  # "variable" or "mark" where the target is read
+    expression: bool = False
+
+
+COMMANDS = (
+    Row("nothing"),
+    Row(":=", "variable", True),
+    Row("if", "", True),
+    Row("else"),
+    Row("while", "", True),
+    Row("end"),
+    Row("print", "", True),
+    Row("root"),
+    Row("up"),
+    Row("first child"),
+    Row("right sibling"),
+    Row("new first child", "mark", True),
+    Row("new right sibling", "mark", True),
+    Row("remove first child"),
+    Row("remove right sibling"),
+    Row("set", "", True),
+    Row("cover"),
+)
+(NOTHING, ASSIGN, IF, ELSE, WHILE, END, PRINT, ROOT, UP, FIRST_CHILD, RIGHT_SIBLING,
+ NEW_FIRST_CHILD, NEW_RIGHT_SIBLING, REMOVE_FIRST_CHILD, REMOVE_RIGHT_SIBLING,
+ SET, COVER) = range(17)
+MARK_CONTENT, MARK_LIST = 1, 2
+
+CONSTANT, NAMED, VALUE, CHILDREN = range(4)
+ALONE, SUM, DIFFERENCE, EQUAL, LESS, MEAN = range(6)
+INFIX = {"+": SUM, "-": DIFFERENCE, "=": EQUAL, "<": LESS}
+SIGNS = {number: sign for sign, number in INFIX.items()}

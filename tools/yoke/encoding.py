@@ -1,0 +1,94 @@
+"""Jobs as bytes."""
+
+import struct
+from typing import NamedTuple
+
+from .commands import ALONE, COMMANDS, CONSTANT, NAMED
+
+VARIABLE = struct.Struct("<B3xi")
+NODE = struct.Struct("<HBBB3xi")
+RECORD = struct.Struct("<BBBBB3xII")
+TRAILER = struct.Struct("<HHHH")
+
+
+
+class Variable(NamedTuple):
+    level: int
+    value: int
+
+
+class Node(NamedTuple):
+    parent: int
+    existence: int
+    content: int
+    list: int
+    value: int
+
+
+class Record(NamedTuple):
+    command: int
+    target: int = 0
+    operator: int = 0
+    left_kind: int = 0
+    right_kind: int = 0
+    left: int = 0
+    right: int = 0
+
+    def operands(self):
+        """The operands that are read, each a kind and a number."""
+        if not COMMANDS[self.command].expression:
+            return []
+        left = [(self.left_kind, self.left)]
+        return left if self.operator == ALONE else left + [(self.right_kind, self.right)]
+
+    def clean(self):
+        """The same record with zero in every field that is not read."""
+        row = COMMANDS[self.command]
+        if not row.expression:
+            return Record(self.command)
+
+        def number(kind, stored):
+            return stored if kind in (CONSTANT, NAMED) else 0
+
+        alone = self.operator == ALONE
+        return Record(
+            self.command,
+            self.target if row.target else 0,
+            self.operator,
+            self.left_kind,
+            0 if alone else self.right_kind,
+            number(self.left_kind, self.left),
+            0 if alone else number(self.right_kind, self.right),
+        )
+
+
+class Job(NamedTuple):
+    variables: list
+    nodes: list
+    records: list
+
+    def encode(self):
+        sections = [
+            b"".join(VARIABLE.pack(*v) for v in self.variables),
+            b"".join(NODE.pack(*n) for n in self.nodes),
+            b"".join(RECORD.pack(*r) for r in self.records),
+        ]
+        nodes = len(sections[0])
+        script = nodes + len(sections[1])
+        trailer = script + len(sections[2])
+        return b"".join(sections) + TRAILER.pack(0, nodes, script, trailer)
+
+
+def decode(data):
+    """The parts of a job that passed the checks 1 to 3."""
+    variables, nodes, script, trailer = TRAILER.unpack(data[-8:])
+    return Job(
+        [Variable(*v) for v in VARIABLE.iter_unpack(data[variables:nodes])],
+        [Node(*n) for n in NODE.iter_unpack(data[nodes:script])],
+        [Record(*r) for r in RECORD.iter_unpack(data[script:trailer])],
+    )
+
+
+def signed(number):
+    """A 32-bit number as it is stored, read as a signed one."""
+    return (number + 2**31) % 2**32 - 2**31

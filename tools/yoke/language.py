@@ -1,0 +1,350 @@
+"""The language of sources."""
+
+import difflib
+from typing import NamedTuple
+
+from .commands import (
+    ALONE, ASSIGN, CHILDREN, CONSTANT, COVER, ELSE, END, FIRST_CHILD, IF, INFIX, MARK_CONTENT, MARK_LIST, MEAN, NAMED,
+    NEW_FIRST_CHILD, NEW_RIGHT_SIBLING, NOTHING, PRINT, REMOVE_FIRST_CHILD, REMOVE_RIGHT_SIBLING, RIGHT_SIBLING, ROOT, SET, UP,
+    VALUE, WHILE)
+from .encoding import Job, Node, Record, Variable
+from .errors import JobError, SourceError
+from .limits import NO_PARENT, PUBLIC
+from .words import Token, Words, scan
+
+STATEMENTS = ("if", "else", "while", "end", "print", "root", "up", "first", "right", "new", "remove", "set", "cover", "nothing")
+LEVEL_WORDS = ("public", "house", "content", "list", "record")
+RESERVED = frozenset(STATEMENTS + LEVEL_WORDS + ("value", "children", "mean", "child", "sibling"))
+SECTIONS = ("variables", "tree", "script")
+
+
+
+class Names(NamedTuple):
+    """What a source adds to a job: names, and where everything is written; an end, at the line that opens its block."""
+
+    variables: list
+    nodes: list
+    variable_places: list
+    node_places: list
+    record_places: list
+
+
+class Source(NamedTuple):
+    path: str
+    lines: list
+    job: Job
+    names: Names
+
+    def place_of(self, fault):
+        """Where the source has the record that a fault is about."""
+        places = {"variable": self.names.variable_places, "node": self.names.node_places,
+                  "record": self.names.record_places}.get(fault.section, [])
+        return places[fault.index] if fault.index < len(places) else None
+
+
+def parse(text, path):
+    """A source as a job with names."""
+    sections = split_sections(scan(text))
+    variables, variable_names, variable_places = parse_variables(sections["variables"])
+    nodes, node_names, node_places = parse_tree(sections["tree"])
+    records, record_places = Script(variable_names).parse(sections["script"])
+    job = Job(variables, nodes, records)
+    if len(variables) * 8 + len(nodes) * 12 + len(records) * 16 > 65_535:
+        raise JobError(f"{path}: the job is too large to be written: an offset has 16 bits")
+    names = Names(variable_names, node_names, variable_places, node_places, record_places)
+    return Source(path, text.split("\n"), job, names)
+
+
+def split_sections(lines):
+    """The lines of each section. A heading stands in the column of the first line."""
+    sections = {name: [] for name in SECTIONS}
+    current, order = None, -1
+    for line in lines:
+        first = line.tokens[0]
+        if line.indent <= lines[0].indent:
+            if first.text not in SECTIONS or line.indent < lines[0].indent:
+                hint = "; the lines of a section are indented" if current else ""
+                raise SourceError(line.place(), "a section is expected here: variables, tree or script" + hint)
+            if len(line.tokens) > 1:
+                raise SourceError(line.tokens[1].place, f"nothing may follow '{first.text}' in its line")
+            if SECTIONS.index(first.text) <= order:
+                raise SourceError(first.place, "sections come once each, in the order variables, tree, script")
+            order, current = SECTIONS.index(first.text), first.text
+        else:
+            sections[current].append(line)
+    return sections
+
+
+def flat(lines):
+    for line in lines:
+        if line.indent != lines[0].indent:
+            raise SourceError(line.place(), "all variables are indented alike")
+        yield line
+
+
+def parse_variables(lines):
+    """Lines such as `beds house = 12`."""
+    variables, names, places = [], [], []
+    for line in flat(lines):
+        words = Words(line)
+        name = words.name("a variable's name")
+        if name.text in RESERVED:
+            raise SourceError(name.place, f"'{name.text}' is a word of the language and cannot name a variable")
+        if name.text in names:
+            raise SourceError(name.place, f"'{name.text}' is declared twice, first in line {places[names.index(name.text)].line}")
+        level = words.level()
+        words.need("=")
+        value = words.number()
+        words.finish()
+        variables.append(Variable(level or PUBLIC, value))
+        names.append(name.text)
+        places.append(name.place)
+    return variables, names, places
+
+
+class Drawn(NamedTuple):
+    """A line of the tree section."""
+
+    name: Token
+    levels: tuple
+    value: int
+    record: object  # the index that is asked for, as a token, or None
+    parent: object  # the index of the parent's line among the lines, or None
+
+
+def parse_tree(lines):
+    """Lines such as `cellar house = 5`, `gate content house list house = 7`, `hut = 3 record 4`."""
+    drawn, above = [], []  # above: the indent and index of each line on the way to the root
+    for line in lines:
+        while above and above[-1][0] > line.indent:
+            above.pop()
+            if not above or above[-1][0] < line.indent:
+                raise SourceError(line.place(), "this indentation is that of no line above")
+        if above and above[-1][0] == line.indent:
+            above.pop()
+        drawn.append(parse_node(line, above[-1][1] if above else None))
+        above.append((line.indent, len(drawn) - 1))
+    indexes = number_nodes(drawn)
+    nodes, names, places = ([None] * len(drawn) for _ in range(3))
+    for item, index in zip(drawn, indexes):
+        parent = NO_PARENT if item.parent is None else indexes[item.parent]
+        nodes[index] = Node(parent, *item.levels, item.value)
+        names[index] = item.name.text
+        places[index] = item.name.place
+    return nodes, names, places
+
+
+def parse_node(line, parent):
+    words = Words(line)
+    name = words.name("a node's name")
+    if name.text in LEVEL_WORDS:
+        raise SourceError(name.place, f"'{name.text}' is a word of the language; the node's name comes first")
+    existence = words.level() or PUBLIC
+    content = words.need_level() if words.take("content") else existence
+    below = words.need_level() if words.take("list") else existence
+    words.need("=")
+    value = words.number()
+    record = None
+    if words.take("record"):
+        record = words.next()
+        if record is None or record.kind != "number":
+            words.fail("a record's number")
+        words.at += 1
+    words.finish()
+    return Drawn(name, (existence, content, below), value, record, parent)
+
+
+def number_nodes(drawn):
+    """The record index of each node: the one that is asked for, or the next that nobody asks for."""
+    asked = {}
+    for item in drawn:
+        if item.record is None:
+            continue
+        index = int(item.record.text)
+        if index >= len(drawn):
+            raise SourceError(item.record.place, f"node records go from 0 to {len(drawn) - 1} here")
+        if index in asked:
+            raise SourceError(item.record.place, f"record {index} is asked for twice, first in line {asked[index].place.line}")
+        asked[index] = item.record
+    free = (index for index in range(len(drawn)) if index not in asked)
+    indexes = [next(free) if item.record is None else int(item.record.text) for item in drawn]
+    last = {}
+    for item, index in zip(drawn, indexes):
+        if last.get(item.parent, -1) > index:
+            raise SourceError((item.record or item.name).place,
+                              f"'{item.name.text}' is record {index} and stands right of record {last[item.parent]}; "
+                              "siblings stand left to right in record order")
+        last[item.parent] = index
+    return indexes
+
+
+class Block:
+    """An open block of the script section."""
+
+    def __init__(self, command, line):
+        self.command = command
+        self.line = line
+        self.indent = line.indent
+        self.inside = None  # the indent of its lines, once there is one
+        self.has_else = False
+
+
+class Script:
+    """The script section: statements, and blocks by indentation."""
+
+    def __init__(self, variables):
+        self.variables = variables
+        self.records = []
+        self.places = []
+        self.blocks = []
+        self.base = None
+
+    def parse(self, lines):
+        for line in lines:
+            self.take(line)
+        self.close(-1)
+        return self.records, self.places
+
+    def add(self, record, place):
+        self.records.append(record)
+        self.places.append(place)
+
+    def close(self, indent, keep=None):
+        """Ends the blocks that a line with this indent is not inside of."""
+        while self.blocks and self.blocks[-1].indent >= indent and self.blocks[-1] is not keep:
+            self.add(Record(END), self.blocks.pop().line.place())
+
+    def take(self, line):
+        if self.base is None:
+            self.base = line.indent
+        words = Words(line)
+        if words.sees("else"):
+            return self.take_else(words)
+        self.close(line.indent)
+        self.check_indent(line)
+        record = self.statement(words)
+        words.finish()
+        self.add(record, line.place())
+        if record.command in (IF, WHILE):
+            self.blocks.append(Block(record.command, line))
+        return None
+
+    def check_indent(self, line):
+        block = self.blocks[-1] if self.blocks else None
+        if block and block.inside is None:
+            block.inside = line.indent
+        wanted = block.inside if block else self.base
+        if line.indent > wanted:
+            raise SourceError(line.place(), "this line is indented more than the one above, which opens no block")
+        if line.indent < wanted:
+            raise SourceError(line.place(), "this indentation is that of no open block")
+
+    def take_else(self, words):
+        line = words.line
+        block = next((b for b in reversed(self.blocks) if b.indent <= line.indent), None)
+        if block is None or block.indent != line.indent or block.command != IF:
+            raise SourceError(line.place(), "this else belongs to no if: it stands below its if, in the same column")
+        if block.has_else:
+            raise SourceError(line.place(), f"the if of line {block.line.number} has an else already")
+        self.close(line.indent, block)
+        words.need("else")
+        words.finish()
+        self.add(Record(ELSE), line.place())
+        block.has_else, block.inside = True, None
+
+    def statement(self, words):
+        first = words.next()
+        if len(words.line.tokens) > 1 and words.line.tokens[1].text in (":=", "="):
+            return self.assignment(words)
+        if first.text == "end":
+            raise SourceError(first.place, "no end is written: a block ends where its indentation ends")
+        if first.text not in STATEMENTS:
+            close = difflib.get_close_matches(first.text, STATEMENTS, 1)
+            raise SourceError(first.place, f"'{first.text}' starts no statement" + (f"; is '{close[0]}' meant?" if close else ""))
+        words.at += 1
+        if first.text in ("if", "while", "print", "set"):
+            command = {"if": IF, "while": WHILE, "print": PRINT, "set": SET}[first.text]
+            return self.expression(words, command)
+        if first.text in ("first", "right"):
+            words.need("child" if first.text == "first" else "sibling")
+            return Record(FIRST_CHILD if first.text == "first" else RIGHT_SIBLING)
+        if first.text in ("new", "remove"):
+            return self.change(words, first.text)
+        return Record({"root": ROOT, "up": UP, "cover": COVER, "nothing": NOTHING}[first.text])
+
+    def assignment(self, words):
+        index = self.variable(words.name("a variable's name"))
+        if words.sees("="):
+            raise SourceError(words.next().place, "'=' compares; to give a variable a number write ':='")
+        words.need(":=")
+        return self.expression(words, ASSIGN, index)
+
+    def change(self, words, verb):
+        which = words.take("first", "right")
+        if which is None:
+            words.fail("'first child' or 'right sibling'")
+        first = which.text == "first"
+        words.need("child" if first else "sibling")
+        if verb == "remove":
+            return Record(REMOVE_FIRST_CHILD if first else REMOVE_RIGHT_SIBLING)
+        mark = 0
+        for word, bit in (("content", MARK_CONTENT), ("list", MARK_LIST)):
+            if words.take(word):
+                words.need("house")
+                mark |= bit
+        words.need(":")
+        return self.expression(words, NEW_FIRST_CHILD if first else NEW_RIGHT_SIBLING, mark)
+
+    def expression(self, words, command, target=0):
+        if words.take("mean"):
+            words.need("(")
+            left = self.operand(words)
+            words.need(",")
+            right = self.operand(words)
+            words.need(")")
+            operator = MEAN
+        else:
+            left = self.operand(words)
+            operator, right = self.operation(words)
+        if words.sees(*INFIX):
+            raise SourceError(words.next().place, "an expression has one operator; put a part of it into a variable first")
+        return Record(command, target, operator, left[0], right[0], left[1], right[1])
+
+    def operation(self, words):
+        sign = words.next()
+        if sign is None or sign.kind in ("name", "number"):
+            return ALONE, (0, 0)
+        hints = {">": "write 'b < a' for 'a > b'", "==": "write '=' for equal",
+                 "<=": "there are = and < only", ">=": "there are = and < only",
+                 "!=": "there are = and < only; use the else of an if with =",
+                 ":=": "'=' compares, ':=' gives a variable a number"}
+        if sign.text in hints:
+            raise SourceError(sign.place, f"'{sign.text}' is no operator: {hints[sign.text]}")
+        if sign.text not in INFIX:
+            return ALONE, (0, 0)
+        words.at += 1
+        return INFIX[sign.text], self.operand(words)
+
+    def operand(self, words):
+        token = words.next()
+        if token is None or token.kind not in ("name", "number", "-"):
+            words.fail("a number, a variable, 'value' or 'children'")
+        if token.kind in ("number", "-"):
+            return CONSTANT, words.number() % 2**32
+        words.at += 1
+        if token.text == "value":
+            return VALUE, 0
+        if token.text == "children":
+            return CHILDREN, 0
+        if token.text == "mean":
+            raise SourceError(token.place, "an expression has one operator; put the mean into a variable first")
+        return NAMED, self.variable(token)
+
+    def variable(self, token):
+        if token.text in self.variables:
+            return self.variables.index(token.text)
+        if token.text == "value":
+            raise SourceError(token.place, "'value' is no variable; to give the node a value write 'set'")
+        close = difflib.get_close_matches(token.text, self.variables, 1)
+        hint = f"; is '{close[0]}' meant?" if close else "; declare it in the section variables"
+        raise SourceError(token.place, f"there is no variable '{token.text}'{hint}")

@@ -1,0 +1,89 @@
+"""Jobs as sources."""
+
+from .commands import (
+    ALONE, ASSIGN, COMMANDS, CONSTANT, ELSE, END, IF, MARK_CONTENT, MARK_LIST, MEAN, NAMED, NEW_FIRST_CHILD, NEW_RIGHT_SIBLING,
+    SIGNS, VALUE, WHILE)
+from .encoding import signed
+from .limits import LEVELS
+
+def operand_text(kind, number, variables):
+    if kind == CONSTANT:
+        return str(signed(number))
+    if kind == NAMED:
+        return variables[number]
+    return "value" if kind == VALUE else "children"
+
+
+def expression_text(record, variables):
+    sides = [operand_text(kind, number, variables) for kind, number in record.operands()]
+    if record.operator == ALONE:
+        return sides[0]
+    if record.operator == MEAN:
+        return f"mean({sides[0]}, {sides[1]})"
+    return f"{sides[0]} {SIGNS[record.operator]} {sides[1]}"
+
+
+def record_text(record, variables):
+    """A record as a statement."""
+    words = COMMANDS[record.command].words
+    if not COMMANDS[record.command].expression:
+        return words
+    expression = expression_text(record, variables)
+    if record.command == ASSIGN:
+        return f"{variables[record.target]} := {expression}"
+    if record.command in (NEW_FIRST_CHILD, NEW_RIGHT_SIBLING):
+        marks = (" content house" if record.target & MARK_CONTENT else "") + (" list house" if record.target & MARK_LIST else "")
+        return f"{words}{marks}: {expression}"
+    return f"{words} {expression}"
+
+
+def levels_text(existence, content, below):
+    """The levels that are not what they are by default."""
+    text = f" {LEVELS[existence]}" if existence else ""
+    for word, level in (("content", content), ("list", below)):
+        if level != existence:
+            text += f" {word} {LEVELS[level]}"
+    return text
+
+
+def preorder(nodes):
+    """Each node's index and depth, from the root on, left to right."""
+    below = [[] for _ in nodes]
+    for index, node in enumerate(nodes):
+        if index:
+            below[node.parent].append(index)
+    order, waiting = [], [(0, 0)]
+    while waiting:
+        index, depth = waiting.pop()
+        order.append((index, depth))
+        waiting.extend((child, depth + 1) for child in reversed(below[index]))
+    return order
+
+
+def listing(job):
+    """An accepted job as source. Reading it back gives the job's bytes, spare ones as zero."""
+    variables = [f"v{index}" for index in range(len(job.variables))]
+    lines = []
+    if job.variables:
+        lines.append("variables")
+        for name, variable in zip(variables, job.variables):
+            lines.append(f"  {name}{levels_text(variable.level, variable.level, variable.level)} = {variable.value}")
+    lines.append("tree")
+    order = preorder(job.nodes)
+    in_order = all(place == index for place, (index, _) in enumerate(order))
+    for index, depth in order:
+        node = job.nodes[index]
+        at = "" if in_order else f" record {index}"
+        lines.append(f"{'  ' * (depth + 1)}n{index}{levels_text(*node[1:4])} = {node.value}{at}")
+    if job.records:
+        lines.append("script")
+        depth = 1
+        for record in job.records:
+            if record.command == END:
+                depth -= 1
+                continue
+            indent = depth - 1 if record.command == ELSE else depth
+            lines.append("  " * indent + record_text(record, variables))
+            if record.command in (IF, WHILE):
+                depth += 1
+    return "\n".join(lines) + "\n"

@@ -1,0 +1,238 @@
+"""A run, followed by the paper's rules beside the monitor."""
+
+from .commands import (
+    ALONE, ASSIGN, COMMANDS, CONSTANT, COVER, DIFFERENCE, ELSE, END, EQUAL, FIRST_CHILD, IF, LESS, MARK_CONTENT, MARK_LIST, MEAN,
+    NAMED, NEW_FIRST_CHILD, PRINT, REMOVE_FIRST_CHILD, REMOVE_RIGHT_SIBLING, RIGHT_SIBLING, ROOT, SET, SUM, UP, VALUE, WHILE)
+from .encoding import signed
+from .limits import BUDGET, HOUSE, LINES, PLACES, PUBLIC
+from .pictures import Picture
+
+class Tree:
+    """A node of a run, with the name that the source gave it or the line that made it."""
+
+    def __init__(self, name, parent, existence, content, below, value):
+        self.name = name
+        self.parent = parent
+        self.children = []
+        self.existence = existence
+        self.content = content
+        self.list = below
+        self.value = value
+
+    def place(self):
+        return self.parent.children.index(self)
+
+    def right(self):
+        """The sibling to the right, or None; the root has none."""
+        if self.parent is None:
+            return None
+        row = self.parent.children
+        at = self.place() + 1
+        return row[at] if at < len(row) else None
+
+
+def grow(job, names):
+    """The job's tree."""
+    made = []
+    for node, name in zip(job.nodes, names):
+        parent = made[node.parent] if made else None
+        made.append(Tree(name, parent, *node[1:]))
+        if parent:
+            parent.children.append(made[-1])
+    return made[0]
+
+
+def drawn_tree(root):
+    """A run's tree as pictures."""
+    rows, waiting = [], [(root, 0)]
+    while waiting:
+        node, depth = waiting.pop()
+        rows.append(Picture(node.name, node.existence, node.content, node.list, node.value, depth))
+        waiting.extend((child, depth + 1) for child in reversed(node.children))
+    return rows
+
+
+class Stopped(Exception):
+    def __init__(self, number):
+        super().__init__(number)
+        self.number = number
+
+
+class Run:
+    """The paper's rules, followed once more beside the monitor, so that a stop can be explained with the levels that stood there.
+
+    The monitor decides: what this says is shown only where both agree.
+    """
+
+    def __init__(self, source, budget=BUDGET, places=PLACES, capacity=LINES):
+        self.source = source
+        self.job = source.job
+        self.budget, self.places, self.capacity = budget, places, capacity
+        self.values = [v.value for v in self.job.variables]
+        self.root = self.cursor = grow(self.job, source.names.nodes)
+        self.live = len(self.job.nodes)
+        self.cursor_level = PUBLIC
+        self.raised_by = None  # the record that made the cursor level house
+        self.blocks = []  # the level and the record of each open guard
+        self.at = self.steps = self.ending = 0
+        self.board = []
+        self.partner = self.match_blocks()
+
+    def match_blocks(self):
+        """Where each if goes on zero, each else and while jumps, and each end returns."""
+        partner, waiting = {}, []
+        for index, record in enumerate(self.job.records):
+            if record.command in (IF, WHILE):
+                waiting.append(index)
+            elif record.command == ELSE:
+                partner[waiting[-1]] = index + 1  # past the else
+                waiting.append(index)
+            elif record.command == END:
+                opener = waiting.pop()
+                command = self.job.records[opener].command
+                if command == ELSE:
+                    partner[opener] = index
+                    opener = waiting.pop()
+                elif command == IF:
+                    partner[opener] = index
+                else:
+                    partner[opener] = index + 1
+                partner[index] = opener if command == WHILE else index + 1
+        return partner
+
+    def context(self):
+        return max((level for level, _ in self.blocks), default=PUBLIC)
+
+    def position(self):
+        """C of the paper."""
+        return max(self.context(), self.cursor_level)
+
+    def operand(self, kind, number):
+        """Value and level of an operand."""
+        if kind == CONSTANT:
+            return signed(number), PUBLIC
+        if kind == NAMED:
+            return self.values[number], self.job.variables[number].level
+        if kind == VALUE:
+            return self.cursor.value, max(self.cursor_level, self.cursor.content)
+        return len(self.cursor.children), max(self.cursor_level, self.cursor.list)
+
+    def evaluate(self, record):
+        """An expression's value, and its level E."""
+        sides = [self.operand(kind, number) for kind, number in record.operands()]
+        left, right = sides[0][0], sides[-1][0]
+        value = {ALONE: left, SUM: signed(left + right), DIFFERENCE: signed(left - right),
+                 EQUAL: int(left == right), LESS: int(left < right), MEAN: (left + right) // 2}[record.operator]
+        return value, max(level for _, level in sides)
+
+    def go(self):
+        """Steps until the run has ended."""
+        while self.at < len(self.job.records):
+            if self.steps == self.budget:
+                self.ending = 25
+                return self
+            try:
+                self.at = self.step(self.job.records[self.at])
+            except Stopped as stop:
+                self.ending = stop.number
+                return self
+            self.steps += 1
+        return self
+
+    def rule(self, holds):
+        if not holds:
+            raise Stopped(21)
+
+    def step(self, record):
+        """Carries out a record and gives the next one's index."""
+        command = record.command
+        if command in (IF, WHILE):
+            value, level = self.evaluate(record)
+            if value or command == IF:
+                self.blocks.append((level, self.at))
+            return self.at + 1 if value else self.partner[self.at]
+        if command == ELSE:
+            return self.partner[self.at]
+        if command == END:
+            self.blocks.pop()
+            return self.partner[self.at]
+        if COMMANDS[command].expression:
+            self.store(record)
+        elif command in (ROOT, UP, FIRST_CHILD, RIGHT_SIBLING, COVER):
+            self.move(command)
+        elif command in (REMOVE_FIRST_CHILD, REMOVE_RIGHT_SIBLING):
+            self.remove(command)
+        return self.at + 1
+
+    def store(self, record):
+        value, level = self.evaluate(record)
+        level = max(level, self.position())
+        if record.command == ASSIGN:
+            self.rule(level <= self.job.variables[record.target].level)
+            self.values[record.target] = value
+        elif record.command == PRINT:
+            self.rule(level == PUBLIC)
+            if len(self.board) == self.capacity:
+                raise Stopped(24)
+            self.board.append(value)
+        elif record.command == SET:
+            self.rule(level <= self.cursor.content)
+            self.cursor.value = value
+        else:
+            self.insert(record, value, level)
+
+    def insert(self, record, value, level):
+        first = record.command == NEW_FIRST_CHILD
+        parent = self.cursor if first else self.cursor.parent
+        if parent is None:
+            raise Stopped(22)
+        at = 0 if first else self.cursor.place() + 1
+        neighbour = parent.children[at] if at < len(parent.children) else None
+        here = self.position()
+        self.rule(here <= parent.list and (neighbour is None or here <= neighbour.existence))
+        if here < self.cursor.existence:
+            raise Stopped(26)
+        if self.live == self.places:
+            raise Stopped(23)
+        content = HOUSE if record.target & MARK_CONTENT else level
+        below = HOUSE if record.target & MARK_LIST else here
+        name = f"new_{self.source.names.record_places[self.at].line}"
+        parent.children.insert(at, Tree(name, parent, here, content, below, value))
+        self.live += 1
+
+    def target(self, command):
+        """The node that a move goes to or a removal takes away."""
+        if command == ROOT:
+            return self.root
+        if command == COVER:
+            return self.cursor
+        if command == UP:
+            return self.cursor.parent
+        if command in (FIRST_CHILD, REMOVE_FIRST_CHILD):
+            return self.cursor.children[0] if self.cursor.children else None
+        return self.cursor.right()
+
+    def move(self, command):
+        node = self.target(command)
+        if node is None:
+            raise Stopped(22)
+        context = self.context()
+        self.rule(context <= self.cursor_level)
+        before = self.cursor_level
+        if command == ROOT:
+            self.cursor_level = context
+        elif command == COVER:
+            self.cursor_level = HOUSE
+        else:
+            self.cursor_level = max(before, node.existence)
+        if not before and self.cursor_level:
+            self.raised_by = self.at
+        self.cursor = node
+
+    def remove(self, command):
+        node = self.target(command)
+        if node is None:
+            raise Stopped(22)
+        self.rule(self.position() <= node.existence)
+        node.parent.children.remove(node)
+        self.live -= len(drawn_tree(node))
