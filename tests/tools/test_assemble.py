@@ -54,7 +54,7 @@ class Bytes(unittest.TestCase):
     def test_every_command(self):
         statements = ["nothing", "h := 5", "print 5", "root", "up", "first child", "right sibling", "new first child: 5",
                       "new right sibling: 5", "remove first child", "remove right sibling", "set 5", "cover",
-                      "while 5", "if 5", "else"]
+                      "while 5", "  empty", "if 5", "  empty", "else", "  empty"]
         five = (0, 5)
         expected = [record(0), record(1, 1, left=five), record(6, left=five), record(7), record(8), record(9), record(10),
                     record(11, left=five), record(12, left=five), record(13), record(14), record(15, left=five), record(16),
@@ -81,13 +81,13 @@ class Bytes(unittest.TestCase):
         self.assertEqual(script_of(["print h--1"]), record(6, 0, 2, (1, 1), (0, -1)))
 
     def test_blocks(self):
-        data = script_of(["if a", "  while h", "    up", "  root", "else", "  if 1", "cover"])
+        data = script_of(["if a", "  while h", "    up", "  root", "else", "  if 1", "    empty", "cover"])
         commands = [data[at] for at in range(0, len(data), 16)]
         # if, while, up, end of while, root, else, if, end, end, cover
         self.assertEqual(commands, [2, 4, 8, 5, 7, 3, 2, 5, 5, 16])
 
     def test_empty_blocks(self):
-        data = script_of(["while 1", "if a", "else", "up"])
+        data = script_of(["while 1", "  empty", "if a", "  empty", "else", "  empty", "up"])
         self.assertEqual([data[at] for at in range(0, len(data), 16)], [4, 5, 2, 3, 5, 8])
 
     def test_the_ends_of_32_bits(self):
@@ -141,7 +141,7 @@ class Program(unittest.TestCase):
                 ("tree\n  a = 1\n    b = 2 record 0\n", ":3:5:", 5),
                 ("tree\n  a = 1\n    b house = 1\n", ":3:5:", 6),
                 ("tree\n  a list house = 1\n    b house = 1\n    c = 1\n", ":4:5:", 6),
-                ("tree\n  a = 1\nscript\n" + "".join(" " * (n + 2) + "if 1\n" for n in range(17)), ":20:19:", 8),
+                ("tree\n  a = 1\nscript\n" + "".join(" " * (n + 2) + "if 1\n" for n in range(17)) + " " * 19 + "up\n", ":20:19:", 8),
                 ("script\n  up\n", ":", 3)):
             with self.subTest(text):
                 done = tool("assemble", "-", "-o", "-", data=text)

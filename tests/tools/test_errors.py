@@ -41,7 +41,17 @@ SCRIPTS = (
     ("  else", 7, 3, "this else belongs to no if"),
     ("  while 1\n  else", 8, 3, "this else belongs to no if"),
     ("  if 1\n    up\n    else", 9, 5, "this else belongs to no if"),
-    ("  if 1\n  else\n  else", 9, 3, "the if of line 7 has an else already"),
+    ("  if 1\n    up\n  else\n    up\n  else", 11, 3, "the if of line 7 has an else already"),
+    ("  if 1", 7, 3, "this if has no lines"),
+    ("  if 1\n  up", 7, 3, "this if has no lines"),
+    ("  up\n  while depth\n    # later\n", 8, 3, "this while has no lines"),
+    ("  if 1\n  else\n    up", 7, 3, "this if has no lines"),
+    ("  if 1\n    up\n  else\n  up", 9, 3, "this else has no lines"),
+    ("  if 1\n    while depth\n  up", 8, 5, "this while has no lines"),
+    ("  empty", 7, 3, "'empty' is the only line of its block"),
+    ("  if 1\n    up\n    empty", 9, 5, "'empty' is the only line of its block"),
+    ("  if 1\n    empty\n    up", 9, 5, "'empty', which stands alone"),
+    ("  if 1\n    empty\n    empty", 9, 5, "'empty' is the only line of its block"),
     ("  up\n    up", 8, 5, "indented more than the one above, which opens no block"),
     ("  if 1\n      up\n    up", 9, 5, "this indentation is that of no open block"),
     ("    up\n  up", 8, 3, "this indentation is that of no open block"),
@@ -85,7 +95,7 @@ class Errors(unittest.TestCase):
             self.assertTrue(first.startswith(f"<standard input>:{line}:{column}: error: "), done.error)
             self.assertIn(message, first)
             # The line is quoted, with a caret in the column.
-            self.assertEqual(rest[0], f"{line:>6} | {text.split(chr(10))[line - 1].rstrip()}")
+            self.assertEqual(rest[0], f"{line:>6} | {text.split(chr(10))[line - 1].rstrip()}".replace("\t", " "))
             self.assertEqual(rest[1].index("^"), len(f"{line:>6} | ") + column - 1)
 
     def test_scripts(self):
@@ -103,9 +113,10 @@ class Errors(unittest.TestCase):
         self.assertIn("too large", done.error)
 
     def test_not_text(self):
-        done = tool("assemble", "-", "-o", "-", data=b"tree\n  \xff = 1\n")
-        self.assertEqual(done.status, 2)
-        self.assertIn("byte 7 is not UTF-8", done.error)
+        done = tool("assemble", "-", "-o", "-", data=b"tree\r\n  h\xc3\xb6he \xff = 1\n")
+        self.assertEqual((done.status, done.bytes), (2, b""))
+        self.assertEqual(done.error, "<standard input>:2:8: error: byte 14 of the file, 0xff, is not UTF-8\n"
+                         "     2 |   höhe \ufffd = 1\n       |        ^\n")
 
 
 if __name__ == "__main__":

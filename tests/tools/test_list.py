@@ -91,6 +91,9 @@ script
   else
     print -5
   if value
+    empty
+  else
+    empty
   cover
 """
 

@@ -118,7 +118,7 @@ class Stopped(unittest.TestCase):
 
     def test_used_budget_at_an_end(self):
         # The while costs two steps a round behind one step: after 100,000 steps the end is next.
-        self.stops(script("nothing", "while 1"), FIRST + 1, 3, 25, "100,000 steps", "at the end of the block that this line opens")
+        self.stops(script("nothing", "while 1", "  empty"), FIRST + 1, 3, 25, "100,000 steps", "at the end of the block that this line opens")
 
 
 class Refused(unittest.TestCase):
@@ -153,7 +153,7 @@ class Programs(unittest.TestCase):
         done = run("tree\n  a = 1\n", INSPECT="/no/such/program")
         self.assertEqual((done.status, done.output), (2, ""))
         self.assertIn("inspect is not there", done.error)
-        self.assertIn("rt check inspect", done.error)
+        self.assertIn("make programs", done.error)
 
     def test_inspect_answers_something_else(self):
         with scratch() as folder:
@@ -201,7 +201,7 @@ class Followed(unittest.TestCase):
         seen = set()
         for data, room, answer in zip(jobs, places, replayed(jobs, budget, places, 3)):
             source = job.parse(job.listing(job.decode(data)), "test")
-            state = job.Run(source, budget, room, 3).go()
+            state = job.Run(source, job.Limits(budget, room, 3)).go()
             index = state.at if state.ending else 0
             rows = [f"ending {state.ending} index {index} steps {state.steps} lines {len(state.board)}"]
             rows += [f"line {line}" for line in state.board]

@@ -6,14 +6,16 @@ from typing import NamedTuple
 
 from .checks import describe, plural
 from .commands import (
-    ASSIGN, CHILDREN, END, FIRST_CHILD, NAMED, NEW_FIRST_CHILD, NEW_RIGHT_SIBLING, PRINT, REMOVE_FIRST_CHILD,
-    REMOVE_RIGHT_SIBLING, SET, VALUE, WHILE)
-from .endings import ENDINGS
+    ASSIGN, CHILDREN, END, FIRST_CHILD, INSERTIONS, NAMED, NEW_FIRST_CHILD, PRINT, REMOVALS, REMOVE_FIRST_CHILD,
+    SET, VALUE, WHILE)
+from .endings import ABSENT, FINISHED, FLOW, FULL_BOARD, FULL_TABLE, USED_UP, ending_text
 from .errors import quoted
-from .limits import HOUSE, LEVELS, PROGRAM, PUBLIC
+from .limits import ASKED_LINES, HOUSE, LEVELS, MAX_BUDGET, MAX_NODES, PROGRAM, PUBLIC
 from .listing import levels_text, record_text
 from .pictures import text_picture
-from .run import Run, drawn_tree
+from .rules import RULES
+from .run import drawn_tree
+
 
 class Reason(NamedTuple):
     """One level that a rule looked at, and why it is what it is."""
@@ -23,6 +25,17 @@ class Reason(NamedTuple):
     why: str = ""
 
 
+def way_to(node):
+    """The moves from the root to a node, in words."""
+    levels = []
+    while node.parent is not None:
+        right = node.place()
+        levels.append("`first child`" if right == 0 else "`first child`, `right sibling`" if right == 1 else
+                      f"`first child`, `right sibling` {right} times")
+        node = node.parent
+    return ", ".join(["`root`"] + levels[::-1])
+
+
 class Account:
     """A stop in words: the rule, the levels that stood there, what the author can do."""
 
@@ -30,11 +43,11 @@ class Account:
         self.run = run
         self.source = run.source
         self.record = run.job.records[run.at]
-        self.line = self.line_of(run.at)
         self.rule = ""
         self.reasons = []
         self.advice = []
-        {21: self.flow, 22: self.absent, 23: self.table, 24: self.board, 25: self.budget}.get(run.ending, self.unknown)()
+        {FLOW: self.flow, ABSENT: self.absent, FULL_TABLE: self.table, FULL_BOARD: self.board,
+         USED_UP: self.budget}.get(run.ending, self.unknown)()
 
     def line_of(self, record):
         return self.source.names.record_places[record].line
@@ -42,14 +55,21 @@ class Account:
     def statement(self, record):
         return record_text(self.run.job.records[record], self.source.names.variables)
 
+    def reads(self, kind):
+        return any(read == kind for read, _ in self.record.operands())
+
     # The levels of the paper, each with its reason.
 
     def context(self):
-        for level, record in self.run.blocks:
-            if level:
-                return Reason("context", HOUSE, f"line {self.line_of(record)} ({self.statement(record)}) has a house guard")
+        record = self.house_guard()
+        if record is not None:
+            return Reason("context", HOUSE, f"line {self.line_of(record)} ({self.statement(record)}) has a house guard")
         why = "every open guard is public" if self.run.blocks else "no block is open"
         return Reason("context", PUBLIC, why)
+
+    def house_guard(self):
+        """The outermost open record with a house guard, or None."""
+        return next((record for level, record in self.run.blocks if level), None)
 
     def cursor(self):
         if not self.run.cursor_level:
@@ -74,64 +94,86 @@ class Account:
             why = "the cursor level joins it"
         return Reason(what, max(level, self.run.cursor_level), why)
 
-    def own_house(self):
-        """The operands that are house whatever the cursor level."""
+    def own_house(self, node):
+        """The operands that would be house at a node, whatever the cursor level."""
         found = []
         for kind, number in self.record.operands():
             if kind == NAMED and self.run.job.variables[number].level:
                 found.append(f"`{self.source.names.variables[number]}`")
-            elif kind == VALUE and self.run.cursor.content:
+            elif kind == VALUE and node.content:
                 found.append("`value`")
-            elif kind == CHILDREN and self.run.cursor.list:
+            elif kind == CHILDREN and node.list:
                 found.append("`children`")
         return " and ".join(dict.fromkeys(found))
 
-    # What can be done about a house context or cursor.
+    # What can be done about levels.
 
     def leave_block(self, what):
-        if self.run.context():
-            _, record = next(block for block in self.run.blocks if block[0])
+        record = self.house_guard()
+        if record is not None:
             self.advice.append(f"Put {what} outside the block of line {self.line_of(record)}: inside it, whether it happens "
                                "depends on a house number.")
 
     def leave_cover(self, what):
-        if self.run.cursor_level and not self.run.context():
-            self.advice.append(f"Write `root` before {what}: outside house guards it makes the cursor level public again.")
+        """Outside house guards `root` makes the cursor level public; a public node can be reached again from there."""
+        if not self.run.cursor_level:
+            return
+        node, root = self.run.cursor, self.run.root
+        placed = self.record.command in (SET,) + INSERTIONS + REMOVALS or self.reads(VALUE) or self.reads(CHILDREN)
+        if not placed or node.existence:
+            node = root
+        if self.own_house(node) and node is not self.run.cursor:
+            return  # what it reads is house there, too
+        way = way_to(node)
+        if way.count(",") > 6:
+            way = f"`root` and the moves that lead back to {node.name}"
+        outside = " there" if self.run.context() else ""
+        self.advice.append(f"Write {way} before {what}{outside}: outside house guards `root` makes the cursor level public "
+                           f"again.{self.stands_on(node)}")
+
+    def stands_on(self, node):
+        """Where the cursor is then, and whose value or children are read."""
+        name = f"{node.name}, the root" if node is self.run.root else f"{node.name}, as now"
+        found = [word for word, kind in (("value", VALUE), ("children", CHILDREN)) if self.reads(kind)]
+        if found:
+            return f" `{'` and `'.join(found)}` will be {'those' if len(found) > 1 else 'that'} of {name}."
+        return f" The cursor then stands on {name}."
+
+    def raise_part(self, node, part):
+        """How to make a part of a node house: where the tree has it, or where the script makes it."""
+        if node.made is not None:
+            return f"Write `{part} house` where line {self.line_of(node.made)} makes the node."
+        content = HOUSE if part == "content" else node.content
+        below = HOUSE if part == "list" else node.list
+        return f"Give {node.name} the level `{part} house`: `{node.name}{levels_text(node.existence, content, below)} = ...`."
 
     # One method for each number.
 
     def flow(self):
         command = self.record.command
+        self.rule = RULES[command]
         if command in (ASSIGN, PRINT, SET):
             self.flow_store(command)
-        elif command in (NEW_FIRST_CHILD, NEW_RIGHT_SIBLING):
+        elif command in INSERTIONS:
             self.flow_insert(command)
-        elif command in (REMOVE_FIRST_CHILD, REMOVE_RIGHT_SIBLING):
+        elif command in REMOVALS:
             self.flow_remove(command)
         else:
             self.flow_move()
 
     def flow_store(self, command):
-        operands, house = self.operands(), self.own_house()
+        operands, house = self.operands(), self.own_house(self.run.cursor)
+        what = {ASSIGN: "the assignment", PRINT: "the print", SET: "the set"}[command]
         if command == ASSIGN:
             name = self.source.names.variables[self.record.target]
-            self.rule = ("A variable takes a number only if its level is as high as everything that went into it: the "
-                         "expression, the context and the cursor level.")
             operands = [Reason(name, PUBLIC, "the variable that should take the number")] + [
                 reason for reason in operands if reason.what != name]
             self.advice.append(f"Declare a house variable and use it in place of `{name}`. What depends on house numbers "
                                "can then be worked on, but not printed.")
-            what = "the assignment"
-        elif command == PRINT:
-            self.rule = "A board line must be public: the expression, the context and the cursor level."
-            what = "the print"
-        else:
-            name = self.run.cursor.name
-            self.rule = ("A node takes a value only if its content level is as high as everything that went into it: the "
-                         "expression, the context and the cursor level.")
-            operands.insert(0, Reason(f"content of {name}", PUBLIC, "the node that should take the value"))
-            self.advice.append(f"Give the node the level `content house`: `{name} content house = ...`.")
-            what = "the set"
+        elif command == SET:
+            node = self.run.cursor
+            operands.insert(0, Reason(f"content of {node.name}", PUBLIC, "the node that should take the value"))
+            self.advice.append(self.raise_part(node, "content"))
         self.reasons = operands + [self.context(), self.cursor()]
         if house:
             self.advice.append(f"Use public numbers only: do without {house}.")
@@ -139,12 +181,9 @@ class Account:
         self.leave_cover(what)
 
     def flow_move(self):
-        self.rule = ("The cursor moves only if the context is not above the cursor level: where the cursor stands must not "
-                     "tell the public how a house guard came out.")
         self.reasons = [self.context(), self.cursor()]
-        _, record = next(block for block in self.run.blocks if block[0])
-        self.advice.append(f"Write `cover` before line {self.line_of(record)}. The cursor level is then house and the cursor may "
-                           "move inside the block; `root` after the block makes it public again.")
+        self.advice.append(f"Write `cover` before line {self.line_of(self.house_guard())}. The cursor level is then house and the "
+                           "cursor may move inside the block; `root` after the block makes it public again.")
         self.leave_block("the move")
 
     def flow_insert(self, command):
@@ -152,14 +191,11 @@ class Account:
         parent = self.run.cursor if first else self.run.cursor.parent
         at = 0 if first else self.run.cursor.place() + 1
         neighbour = parent.children[at] if at < len(parent.children) else None
-        self.rule = ("A new node is as secret as the context and the cursor level. That must not be above the list level of its "
-                     "parent, nor above the existence of the node that comes to stand right of it.")
         self.reasons = [self.context(), self.cursor(), Reason(f"list of {parent.name}", parent.list, "the parent")]
         if neighbour:
             self.reasons.append(Reason(f"existence of {neighbour.name}", neighbour.existence, "would stand right of the new node"))
         if not parent.list:
-            self.advice.append(f"Give the parent the level `list house`: `{parent.name} list house = ...`. Its number of children "
-                               "is then a house number.")
+            self.advice.append(self.raise_part(parent, "list") + " Its number of children is then a house number.")
         if neighbour and not neighbour.existence:
             self.advice.append("House nodes stand right of all public siblings: go to the last public one and write "
                                "`new right sibling`.")
@@ -168,7 +204,6 @@ class Account:
 
     def flow_remove(self, command):
         node = self.run.target(command)
-        self.rule = "A node is removed only if the context and the cursor level are not above its existence."
         self.reasons = [self.context(), self.cursor(), Reason(f"existence of {node.name}", node.existence, "the node to remove")]
         self.advice.append("Keep what house numbers decide about in house nodes, under a node with `list house`. A house node may "
                            "be removed here.")
@@ -176,35 +211,46 @@ class Account:
         self.leave_cover("the removal")
 
     def absent(self):
-        name, command = self.run.cursor.name, self.record.command
+        node, command = self.run.cursor, self.record.command
+        name = node.name
         if command in (FIRST_CHILD, REMOVE_FIRST_CHILD):
             missing = f"{name} has no child."
             self.advice.append("Ask first: `if children` runs its block only where there is a child.")
-        elif self.run.cursor.parent is None:
+            if node.list and not self.run.cursor_level and command == FIRST_CHILD:
+                self.advice.append("The list is house, so that is a house guard: write `cover` before it, to move inside the block.")
+        elif node.parent is None:
             missing = f"{name} is the root: it has no parent and no siblings."
-            self.advice.append("Go down with `first child` before this line, or leave it out.")
+            self.advice.append("Go down with `first child` before this line, or leave it out." if node.children
+                               else "Leave it out: the root has no child to go down to.")
         else:
             missing = f"{name} has no sibling to its right."
             self.advice.append("Count on the way: put `children` of the parent into a variable, and go right one time less.")
         self.rule = f"The cursor stands on {name}. {missing}"
 
     def table(self):
-        self.rule = f"The tree has {self.run.live} nodes, and there is room for {self.run.places}."
+        self.rule = f"The tree has {self.run.live} nodes, and there is room for {self.run.limits.places}."
         self.advice.append("Remove nodes that are no longer needed: their places are used again.")
+        self.more("places", self.run.limits.places, MAX_NODES)
         self.inside_loop()
 
     def board(self):
-        self.rule = f"The board has {len(self.run.board)} lines, and there is room for {self.run.capacity}."
+        self.rule = f"The board has {len(self.run.board)} lines, and there is room for {self.run.limits.lines}."
         self.advice.append("Print less: a total rather than every number.")
+        self.more("lines", self.run.limits.lines, ASKED_LINES)
         self.inside_loop()
 
     def budget(self):
-        self.rule = f"The script has used its {self.run.budget:,} steps; this line would have been the next."
+        self.rule = f"The script has used its {self.run.limits.budget:,} steps; this line would have been the next."
         self.inside_loop()
         self.advice.append("A loop ends when its guard is 0. Change a number of the guard inside the loop, as in `n := n - 1`.")
+        self.more("budget", self.run.limits.budget, MAX_BUDGET)
 
     def unknown(self):
         self.rule = "It is proved that no run ends so. Please tell the planner."
+
+    def more(self, option, given, most):
+        if given < most:
+            self.advice.append(f"To try it with more, run it with `--{option} {most}`, which is the most there is.")
 
     def inside_loop(self):
         for _, record in reversed(self.run.blocks):
@@ -234,18 +280,17 @@ def account_lines(account):
 
 def agrees(run, outcome):
     """Whether following the rules gave what the monitor gave."""
-    index = 0 if run.ending == 0 else run.at
+    index = 0 if run.ending == FINISHED else run.at
     tree = [row._replace(name="") for row in drawn_tree(run.root)]
     values = [value for _, value in outcome.variables]
     return (run.ending, index, run.steps, run.board, run.values, tree) == (
         outcome.ending, outcome.record, outcome.steps, outcome.lines, values, outcome.tree)
 
 
-def report(source, outcome):
-    """The outcome of a job that was run, in lines."""
-    run = Run(source).go()
-    same = agrees(run, outcome)
-    if outcome.ending == 0:
+def report(run, outcome):
+    """The outcome of a job that was run and followed, in lines."""
+    source, same = run.source, agrees(run, outcome)
+    if outcome.ending == FINISHED:
         lines = [f"{source.path}: finished after {plural(outcome.steps, 'step')}"]
     else:
         lines = stop_lines(source, outcome, run if same else None)
@@ -263,9 +308,8 @@ def report(source, outcome):
 def stop_lines(source, outcome, run):
     place = source.names.record_places[outcome.record]
     record = source.job.records[outcome.record]
-    lines = [f"{source.path}:{place.line}:{place.column}: stopped with {outcome.ending} "
-             f"({ENDINGS.get(outcome.ending, 'unknown')}) after {plural(outcome.steps, 'step')}", ""]
-    lines += quoted(source, place)
+    lines = [f"{place}: stopped with {ending_text(outcome.ending)} after {plural(outcome.steps, 'step')}", ""]
+    lines += quoted(place)
     if record.command == END:
         lines.append(" " * 9 + "at the end of the block that this line opens")
     lines.append("")
@@ -279,7 +323,7 @@ def stop_lines(source, outcome, run):
 
 def refusal_lines(path, source, outcome, fault):
     """A refusal in lines; without a source, by bytes."""
-    said = f"refused with {outcome.ending} ({ENDINGS.get(outcome.ending, 'unknown')})"
+    said = f"refused with {ending_text(outcome.ending)}"
     lines = [f"{path}: {said}"]
     if not fault or (fault.number, fault.index) != (outcome.ending, outcome.record):
         lines.append(f"  at record {outcome.record}")
@@ -288,7 +332,7 @@ def refusal_lines(path, source, outcome, fault):
     else:
         place = source.place_of(fault)
         if place:
-            lines = [f"{path}:{place.line}:{place.column}: {said}", "", *quoted(source, place)]
+            lines = [f"{place}: {said}", "", *quoted(place)]
         lines += ["", *wrapped(f"{named_fault(source, fault)}.")]
     return lines + ["", f"More: {PROGRAM} explain {outcome.ending}"]
 

@@ -1,11 +1,11 @@
-"""The checks 1 to 8."""
+"""The checks 1 to 10."""
 
 from typing import NamedTuple
 
-from .commands import CHILDREN, COMMANDS, COVER, ELSE, END, IF, MEAN, NAMED, WHILE
+from .commands import CHILDREN, COMMANDS, ELSE, END, MEAN, NAMED
 from .encoding import NODE, RECORD, TRAILER, VARIABLE, decode
-from .endings import ENDINGS
-from .limits import MAX_BYTES, MAX_DEPTH, MAX_NODES, MAX_RECORDS, MAX_VARIABLES, NO_PARENT
+from .endings import ending_text
+from .limits import MAX_BUDGET, MAX_BYTES, MAX_DEPTH, MAX_NODES, MAX_RECORDS, MAX_VARIABLES, NO_PARENT
 
 class Fault(NamedTuple):
     """Why the monitor turns a job back: its number, its index, and for people the section, the bytes and a sentence."""
@@ -133,8 +133,8 @@ def field_faults(job):
 
 
 def field_fault(record, count):
-    if record.command > COVER:
-        return f"its command is {record.command}; commands are 0 to 16"
+    if record.command >= len(COMMANDS):
+        return f"its command is {record.command}; commands are 0 to {len(COMMANDS) - 1}"
     row = COMMANDS[record.command]
     if row.target == "variable" and record.target >= count:
         return f"its target is variable {record.target}, and there are {plural(count, 'variable')}"
@@ -162,10 +162,10 @@ ELSE_FAULTS = {
 def block_faults(job):
     blocks = []  # the open ones: "if", "else" for an if past its else, or "while"
     for index, record in enumerate(job.records):
-        if record.command in (IF, WHILE):
+        if COMMANDS[record.command].opens:
             if len(blocks) == MAX_DEPTH:
                 yield index, f"it opens the {MAX_DEPTH + 1}th nested block; {MAX_DEPTH} are allowed"
-            blocks.append("if" if record.command == IF else "while")
+            blocks.append(COMMANDS[record.command].opens)
         elif record.command == ELSE:
             inner = blocks[-1] if blocks else ""
             if inner != "if":
@@ -181,10 +181,21 @@ def block_faults(job):
         yield len(job.records), f"the script ends with {plural(len(blocks), 'block')} still open"
 
 
+def check_limits(job, limits):
+    """The first of the checks 9 and 10 that the limits fail for an accepted job, or None."""
+    if not 1 <= limits.budget <= MAX_BUDGET:
+        return Fault(9, 0, "", 0, 0, f"the budget is {limits.budget:,}; it must be 1 to {MAX_BUDGET:,}")
+    if not 1 <= limits.places <= MAX_NODES:
+        return Fault(10, 0, "", 0, 0, f"there are {plural(limits.places, 'place')}; there must be 1 to {MAX_NODES}")
+    if limits.places < len(job.nodes):
+        return Fault(10, 0, "", 0, 0, f"there are {plural(limits.places, 'place')} for {plural(len(job.nodes), 'node')}")
+    return None
+
+
 def describe(fault):
     """A fault in words, without the names of a source."""
     where = ""
     if fault.section:
         where = f"{fault.section} {fault.index}, " if fault.length != 8 or fault.section == "variable" else "the script's end, "
         where += f"bytes {fault.start} to {fault.start + fault.length - 1}: "
-    return f"refused with {fault.number} ({ENDINGS[fault.number]}): {where}{fault.text}"
+    return f"refused with {ending_text(fault.number)}: {where}{fault.text}"

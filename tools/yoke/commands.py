@@ -8,14 +8,15 @@ class Row(NamedTuple):
     words: str
     target: str = ""  # "variable" or "mark" where the target is read
     expression: bool = False
+    opens: str = ""  # "if" or "while" where it opens a block
 
 
 COMMANDS = (
     Row("nothing"),
     Row(":=", "variable", True),
-    Row("if", "", True),
+    Row("if", "", True, "if"),
     Row("else"),
-    Row("while", "", True),
+    Row("while", "", True, "while"),
     Row("end"),
     Row("print", "", True),
     Row("root"),
@@ -31,7 +32,11 @@ COMMANDS = (
 )
 (NOTHING, ASSIGN, IF, ELSE, WHILE, END, PRINT, ROOT, UP, FIRST_CHILD, RIGHT_SIBLING,
  NEW_FIRST_CHILD, NEW_RIGHT_SIBLING, REMOVE_FIRST_CHILD, REMOVE_RIGHT_SIBLING,
- SET, COVER) = range(17)
+ SET, COVER) = range(len(COMMANDS))
+
+MOVES = (ROOT, UP, FIRST_CHILD, RIGHT_SIBLING, COVER)
+INSERTIONS = (NEW_FIRST_CHILD, NEW_RIGHT_SIBLING)
+REMOVALS = (REMOVE_FIRST_CHILD, REMOVE_RIGHT_SIBLING)
 MARK_CONTENT, MARK_LIST = 1, 2
 
 CONSTANT, NAMED, VALUE, CHILDREN = range(4)

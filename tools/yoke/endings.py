@@ -19,3 +19,16 @@ ENDINGS = {
     25: "budget used up",
     26: "context below the node",
 }
+FINISHED, FLOW, ABSENT, FULL_TABLE, FULL_BOARD, USED_UP, BELOW = 0, 21, 22, 23, 24, 25, 26
+
+REFUSALS = [number for number in ENDINGS if 0 < number < FLOW]
+STOPS = [number for number in ENDINGS if number >= FLOW]
+
+
+def refused(number):
+    """Whether the number turns a job back; from 21 on, a run has stopped."""
+    return 0 < number < FLOW
+
+
+def ending_text(number):
+    return f"{number} ({ENDINGS.get(number, 'unknown')})"

@@ -1,16 +1,58 @@
-"""Mistakes that the user can mend, and places in a source."""
+"""Places in sources, quoted for people, and mistakes that the user can mend."""
 
+import unicodedata
 from typing import NamedTuple
 
 from .checks import describe
 from .limits import PROGRAM
 
+QUOTED = 100  # so many characters of a line are quoted
+BEFORE = 40  # so many of them stand before the place
+
+
+class Text(NamedTuple):
+    """A source as it was read."""
+
+    path: str
+    lines: list
+
+
 class Place(NamedTuple):
     """A part of a source line; lines and columns count from 1."""
 
+    text: Text
     line: int
     column: int
     width: int
+
+    def __str__(self):
+        return f"{self.text.path}:{self.line}:{self.column}"
+
+
+def visible(text):
+    """The text with a sign in place of each character that a terminal would obey."""
+    return "".join(sign if sign.isprintable() else " " if sign == "\t" else "\ufffd" for sign in text)
+
+
+def word(text):
+    """A word of a source, for a message."""
+    return visible(text if len(text) <= BEFORE else text[:BEFORE] + "\u2026")
+
+
+def cells(text):
+    """How many columns of a terminal the text takes."""
+    return sum(0 if unicodedata.combining(sign) else 2 if unicodedata.east_asian_width(sign) in "WF" else 1 for sign in text)
+
+
+def quoted(place):
+    """The line of a place, with carets under it. Of a long line only what stands around the place."""
+    text = visible(place.text.lines[place.line - 1].rstrip())
+    at = place.column - 1
+    start = max(0, at - BEFORE) if len(text) > QUOTED else 0
+    shown = ("\u2026" if start else "") + text[start:start + QUOTED] + ("\u2026" if len(text) > start + QUOTED else "")
+    at += (1 if start else 0) - start
+    marked = shown[at:at + place.width]
+    return [f"{place.line:>6} | {shown}", " " * 6 + " | " + " " * cells(shown[:at]) + "^" * max(1, cells(marked))]
 
 
 class JobError(Exception):
@@ -28,15 +70,4 @@ class SourceError(JobError):
     """A mistake in a source, with its place."""
 
     def __init__(self, place, text):
-        super().__init__(text)
-        self.place = place
-        self.text = text
-
-
-
-def quoted(source, place):
-    """A source line with carets under the place."""
-    text = source.lines[place.line - 1].rstrip()
-    gutter = f"{place.line:>6} | "
-    carets = " " * (place.column - 1) + "^" * max(1, min(place.width, len(text) - place.column + 1))
-    return [gutter + text, " " * 6 + " | " + carets]
+        super().__init__("\n".join([f"{place}: error: {text}", *quoted(place)]))

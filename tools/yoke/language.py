@@ -4,19 +4,19 @@ import difflib
 from typing import NamedTuple
 
 from .commands import (
-    ALONE, ASSIGN, CHILDREN, CONSTANT, COVER, ELSE, END, FIRST_CHILD, IF, INFIX, MARK_CONTENT, MARK_LIST, MEAN, NAMED,
-    NEW_FIRST_CHILD, NEW_RIGHT_SIBLING, NOTHING, PRINT, REMOVE_FIRST_CHILD, REMOVE_RIGHT_SIBLING, RIGHT_SIBLING, ROOT, SET, UP,
-    VALUE, WHILE)
+    ALONE, ASSIGN, CHILDREN, COMMANDS, CONSTANT, ELSE, END, INFIX, MARK_CONTENT, MARK_LIST, MEAN, NAMED, VALUE)
 from .encoding import Job, Node, Record, Variable
-from .errors import JobError, SourceError
+from .errors import JobError, SourceError, Text, word
 from .limits import NO_PARENT, PUBLIC
-from .words import Token, Words, scan
+from .words import Token, Words, natural, scan
 
-STATEMENTS = ("if", "else", "while", "end", "print", "root", "up", "first", "right", "new", "remove", "set", "cover", "nothing")
+# The words of each command that is written as a line of its own.
+PHRASES = {tuple(row.words.split()): number for number, row in enumerate(COMMANDS) if number not in (ASSIGN, ELSE, END)}
+STATEMENTS = tuple(dict.fromkeys(phrase[0] for phrase in PHRASES)) + ("else", "end")
 LEVEL_WORDS = ("public", "house", "content", "list", "record")
 RESERVED = frozenset(STATEMENTS + LEVEL_WORDS + ("value", "children", "mean", "child", "sibling"))
 SECTIONS = ("variables", "tree", "script")
-
+EMPTY = "empty"  # the one line of a block that has no records
 
 
 class Names(NamedTuple):
@@ -31,7 +31,6 @@ class Names(NamedTuple):
 
 class Source(NamedTuple):
     path: str
-    lines: list
     job: Job
     names: Names
 
@@ -42,22 +41,49 @@ class Source(NamedTuple):
         return places[fault.index] if fault.index < len(places) else None
 
 
-def parse(text, path):
-    """A source as a job with names."""
+def parse(text, path, tree=None):
+    """A source in characters, as a job with names."""
+    return parse_text(Text(path, text.split("\n")), tree)
+
+
+def parse_text(text, tree=None):
+    """A source as a job with names. Where the tree comes from another source, so do the first variables."""
     sections = split_sections(scan(text))
-    variables, variable_names, variable_places = parse_variables(sections["variables"])
-    nodes, node_names, node_places = parse_tree(sections["tree"])
-    records, record_places = Script(variable_names).parse(sections["script"])
-    job = Job(variables, nodes, records)
-    if len(variables) * 8 + len(nodes) * 12 + len(records) * 16 > 65_535:
-        raise JobError(f"{path}: the job is too large to be written: an offset has 16 bits")
-    names = Names(variable_names, node_names, variable_places, node_places, record_places)
-    return Source(path, text.split("\n"), job, names)
+    declared = Declared(tree)
+    for line in flat(sections["variables"].lines):
+        declared.add(line)
+    if tree is None:
+        nodes, node_names, node_places = parse_tree(sections["tree"].lines)
+    else:
+        refuse_section(sections["tree"], f"the tree comes from {tree.path}, so there is none here")
+        nodes, node_names, node_places = tree.job.nodes, tree.names.nodes, tree.names.node_places
+    records, record_places = Script(declared.names).parse(sections["script"].lines)
+    job = Job(declared.variables, nodes, records)
+    if len(job.variables) * 8 + len(nodes) * 12 + len(records) * 16 > 65_535:
+        raise JobError(f"{text.path}: the job is too large to be written: an offset has 16 bits")
+    names = Names(list(declared.names), node_names, list(declared.names.values()), node_places, record_places)
+    return Source(text.path, job, names)
+
+
+def parse_tree_text(text):
+    """A source that has variables and a tree, and no script."""
+    refuse_section(split_sections(scan(text))["script"], "a tree in a file of its own has no script")
+    return parse_text(text)
+
+
+class Section(NamedTuple):
+    heading: Token  # or None
+    lines: list
+
+
+def refuse_section(section, text):
+    if section.heading:
+        raise SourceError(section.heading.place, text)
 
 
 def split_sections(lines):
     """The lines of each section. A heading stands in the column of the first line."""
-    sections = {name: [] for name in SECTIONS}
+    sections = {name: Section(None, []) for name in SECTIONS}
     current, order = None, -1
     for line in lines:
         first = line.tokens[0]
@@ -70,8 +96,9 @@ def split_sections(lines):
             if SECTIONS.index(first.text) <= order:
                 raise SourceError(first.place, "sections come once each, in the order variables, tree, script")
             order, current = SECTIONS.index(first.text), first.text
+            sections[current] = Section(first, [])
         else:
-            sections[current].append(line)
+            sections[current].lines.append(line)
     return sections
 
 
@@ -82,24 +109,29 @@ def flat(lines):
         yield line
 
 
-def parse_variables(lines):
-    """Lines such as `beds house = 12`."""
-    variables, names, places = [], [], []
-    for line in flat(lines):
+class Declared:
+    """The variables so far, and each name with its place."""
+
+    def __init__(self, tree):
+        self.variables = list(tree.job.variables) if tree else []
+        self.names = dict(zip(tree.names.variables, tree.names.variable_places)) if tree else {}
+
+    def add(self, line):
+        """A line such as `beds house = 12`."""
         words = Words(line)
         name = words.name("a variable's name")
         if name.text in RESERVED:
             raise SourceError(name.place, f"'{name.text}' is a word of the language and cannot name a variable")
-        if name.text in names:
-            raise SourceError(name.place, f"'{name.text}' is declared twice, first in line {places[names.index(name.text)].line}")
+        if name.text in self.names:
+            first = self.names[name.text]
+            where = f"line {first.line}" if first.text is name.place.text else f"line {first.line} of {first.text.path}"
+            raise SourceError(name.place, f"'{word(name.text)}' is declared twice, first in {where}")
         level = words.level()
         words.need("=")
         value = words.number()
         words.finish()
-        variables.append(Variable(level or PUBLIC, value))
-        names.append(name.text)
-        places.append(name.place)
-    return variables, names, places
+        self.variables.append(Variable(level or PUBLIC, value))
+        self.names[name.text] = name.place
 
 
 class Drawn(NamedTuple):
@@ -146,10 +178,7 @@ def parse_node(line, parent):
     value = words.number()
     record = None
     if words.take("record"):
-        record = words.next()
-        if record is None or record.kind != "number":
-            words.fail("a record's number")
-        words.at += 1
+        record = words.of_kind("number", "a record's number")
     words.finish()
     return Drawn(name, (existence, content, below), value, record, parent)
 
@@ -160,19 +189,19 @@ def number_nodes(drawn):
     for item in drawn:
         if item.record is None:
             continue
-        index = int(item.record.text)
+        index = natural(item.record.text)
         if index >= len(drawn):
             raise SourceError(item.record.place, f"node records go from 0 to {len(drawn) - 1} here")
         if index in asked:
             raise SourceError(item.record.place, f"record {index} is asked for twice, first in line {asked[index].place.line}")
         asked[index] = item.record
     free = (index for index in range(len(drawn)) if index not in asked)
-    indexes = [next(free) if item.record is None else int(item.record.text) for item in drawn]
+    indexes = [next(free) if item.record is None else natural(item.record.text) for item in drawn]
     last = {}
     for item, index in zip(drawn, indexes):
         if last.get(item.parent, -1) > index:
             raise SourceError((item.record or item.name).place,
-                              f"'{item.name.text}' is record {index} and stands right of record {last[item.parent]}; "
+                              f"'{word(item.name.text)}' is record {index} and stands right of record {last[item.parent]}; "
                               "siblings stand left to right in record order")
         last[item.parent] = index
     return indexes
@@ -181,19 +210,33 @@ def number_nodes(drawn):
 class Block:
     """An open block of the script section."""
 
-    def __init__(self, command, line):
-        self.command = command
+    def __init__(self, opens, line):
+        self.opens = opens
         self.line = line
         self.indent = line.indent
-        self.inside = None  # the indent of its lines, once there is one
         self.has_else = False
+        self.start(line)
+
+    def start(self, line):
+        """A part of the block: behind its first line, or behind its else."""
+        self.part = line
+        self.inside = None  # the indent of its lines, once there is one
+        self.empty = False  # whether its one line is `empty`
+
+    def finish(self):
+        """The part has ended."""
+        if self.inside is None:
+            opener = self.part.tokens[0].text
+            raise SourceError(self.part.place(), f"this {opener} has no lines: they stand below it, further in; "
+                              f"where there is nothing to do, write '{EMPTY}' there")
 
 
 class Script:
     """The script section: statements, and blocks by indentation."""
 
     def __init__(self, variables):
-        self.variables = variables
+        self.variables = list(variables)
+        self.index = {name: index for index, name in enumerate(self.variables)}
         self.records = []
         self.places = []
         self.blocks = []
@@ -212,7 +255,9 @@ class Script:
     def close(self, indent, keep=None):
         """Ends the blocks that a line with this indent is not inside of."""
         while self.blocks and self.blocks[-1].indent >= indent and self.blocks[-1] is not keep:
-            self.add(Record(END), self.blocks.pop().line.place())
+            block = self.blocks.pop()
+            block.finish()
+            self.add(Record(END), block.line.place())
 
     def take(self, line):
         if self.base is None:
@@ -221,36 +266,51 @@ class Script:
         if words.sees("else"):
             return self.take_else(words)
         self.close(line.indent)
-        self.check_indent(line)
+        first = self.check_indent(line)
+        if words.sees(EMPTY) and len(line.tokens) == 1:
+            return self.take_empty(line, first)
+        if self.blocks and self.blocks[-1].empty:
+            raise SourceError(line.place(), f"there is a line above in this block, '{EMPTY}', which stands alone")
         record = self.statement(words)
         words.finish()
         self.add(record, line.place())
-        if record.command in (IF, WHILE):
-            self.blocks.append(Block(record.command, line))
+        opens = COMMANDS[record.command].opens
+        if opens:
+            self.blocks.append(Block(opens, line))
         return None
 
     def check_indent(self, line):
+        """Whether the line is the first of its block."""
         block = self.blocks[-1] if self.blocks else None
-        if block and block.inside is None:
+        first = block is not None and block.inside is None
+        if first:
             block.inside = line.indent
         wanted = block.inside if block else self.base
         if line.indent > wanted:
             raise SourceError(line.place(), "this line is indented more than the one above, which opens no block")
         if line.indent < wanted:
             raise SourceError(line.place(), "this indentation is that of no open block")
+        return first
+
+    def take_empty(self, line, first):
+        if not first:
+            raise SourceError(line.place(), f"'{EMPTY}' is the only line of its block; 'nothing' is a step that does nothing")
+        self.blocks[-1].empty = True
 
     def take_else(self, words):
         line = words.line
         block = next((b for b in reversed(self.blocks) if b.indent <= line.indent), None)
-        if block is None or block.indent != line.indent or block.command != IF:
+        if block is None or block.indent != line.indent or block.opens != "if":
             raise SourceError(line.place(), "this else belongs to no if: it stands below its if, in the same column")
         if block.has_else:
             raise SourceError(line.place(), f"the if of line {block.line.number} has an else already")
         self.close(line.indent, block)
+        block.finish()
         words.need("else")
         words.finish()
         self.add(Record(ELSE), line.place())
-        block.has_else, block.inside = True, None
+        block.has_else = True
+        block.start(line)
 
     def statement(self, words):
         first = words.next()
@@ -259,18 +319,33 @@ class Script:
         if first.text == "end":
             raise SourceError(first.place, "no end is written: a block ends where its indentation ends")
         if first.text not in STATEMENTS:
-            close = difflib.get_close_matches(first.text, STATEMENTS, 1)
-            raise SourceError(first.place, f"'{first.text}' starts no statement" + (f"; is '{close[0]}' meant?" if close else ""))
-        words.at += 1
-        if first.text in ("if", "while", "print", "set"):
-            command = {"if": IF, "while": WHILE, "print": PRINT, "set": SET}[first.text]
-            return self.expression(words, command)
-        if first.text in ("first", "right"):
-            words.need("child" if first.text == "first" else "sibling")
-            return Record(FIRST_CHILD if first.text == "first" else RIGHT_SIBLING)
-        if first.text in ("new", "remove"):
-            return self.change(words, first.text)
-        return Record({"root": ROOT, "up": UP, "cover": COVER, "nothing": NOTHING}[first.text])
+            raise SourceError(first.place, f"'{word(first.text)}' starts no statement{meant(first.text, STATEMENTS)}")
+        command = self.command(words)
+        row = COMMANDS[command]
+        if not row.expression:
+            return Record(command)
+        return self.expression(words, command, self.mark(words) if row.target else 0)
+
+    def command(self, words):
+        """The command whose words stand here."""
+        taken = ()
+        while taken not in PHRASES:
+            behind = {phrase[len(taken):]: None for phrase in PHRASES if phrase[:len(taken)] == taken}
+            token = words.take(*(rest[0] for rest in behind))
+            if token is None:
+                words.fail(" or ".join(f"'{' '.join(rest)}'" for rest in behind))
+            taken += (token.text,)
+        return PHRASES[taken]
+
+    def mark(self, words):
+        """The mark of a new node, and the colon behind it."""
+        mark = 0
+        for part, bit in (("content", MARK_CONTENT), ("list", MARK_LIST)):
+            if words.take(part):
+                words.need("house")
+                mark |= bit
+        words.need(":")
+        return mark
 
     def assignment(self, words):
         index = self.variable(words.name("a variable's name"))
@@ -278,22 +353,6 @@ class Script:
             raise SourceError(words.next().place, "'=' compares; to give a variable a number write ':='")
         words.need(":=")
         return self.expression(words, ASSIGN, index)
-
-    def change(self, words, verb):
-        which = words.take("first", "right")
-        if which is None:
-            words.fail("'first child' or 'right sibling'")
-        first = which.text == "first"
-        words.need("child" if first else "sibling")
-        if verb == "remove":
-            return Record(REMOVE_FIRST_CHILD if first else REMOVE_RIGHT_SIBLING)
-        mark = 0
-        for word, bit in (("content", MARK_CONTENT), ("list", MARK_LIST)):
-            if words.take(word):
-                words.need("house")
-                mark |= bit
-        words.need(":")
-        return self.expression(words, NEW_FIRST_CHILD if first else NEW_RIGHT_SIBLING, mark)
 
     def expression(self, words, command, target=0):
         if words.take("mean"):
@@ -341,10 +400,15 @@ class Script:
         return NAMED, self.variable(token)
 
     def variable(self, token):
-        if token.text in self.variables:
-            return self.variables.index(token.text)
+        if token.text in self.index:
+            return self.index[token.text]
         if token.text == "value":
             raise SourceError(token.place, "'value' is no variable; to give the node a value write 'set'")
-        close = difflib.get_close_matches(token.text, self.variables, 1)
-        hint = f"; is '{close[0]}' meant?" if close else "; declare it in the section variables"
-        raise SourceError(token.place, f"there is no variable '{token.text}'{hint}")
+        hint = meant(token.text, self.variables) or "; declare it in the section variables"
+        raise SourceError(token.place, f"there is no variable '{word(token.text)}'{hint}")
+
+
+def meant(text, known):
+    """A question after the one of these words that is like the text. Very long words are like none."""
+    close = difflib.get_close_matches(text, known, 1) if len(text) <= 40 else []
+    return f"; is '{close[0]}' meant?" if close else ""

@@ -1,6 +1,7 @@
 """The numbers of paper 01, the two levels, and where the repository stands."""
 
 from pathlib import Path
+from typing import NamedTuple
 
 HOME = Path(__file__).resolve().parent.parent.parent
 PROGRAM = "tools/job"
@@ -10,13 +11,21 @@ MAX_VARIABLES = 64
 MAX_NODES = 512
 MAX_RECORDS = 1_024
 MAX_DEPTH = 16
+MAX_BUDGET = 1_000_000
 NO_PARENT = 65_535
 
-# inspect runs a job under the board runner's limits.
-BUDGET = 100_000
-PLACES = 512
-LINES = 256
-
+# What the program replay can be asked for: fields of 32 and 16 bits, and what it has.
+ASKED_BUDGET = 2**32 - 1
+ASKED_PLACES = MAX_NODES + 1
+ASKED_LINES = 1_024
 
 LEVELS = ("public", "house")
 PUBLIC, HOUSE = 0, 1
+
+
+class Limits(NamedTuple):
+    """What a run is given; by default, what the board runner gives."""
+
+    budget: int = 100_000
+    places: int = MAX_NODES
+    lines: int = 256

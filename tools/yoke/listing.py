@@ -1,8 +1,7 @@
 """Jobs as sources."""
 
 from .commands import (
-    ALONE, ASSIGN, COMMANDS, CONSTANT, ELSE, END, IF, MARK_CONTENT, MARK_LIST, MEAN, NAMED, NEW_FIRST_CHILD, NEW_RIGHT_SIBLING,
-    SIGNS, VALUE, WHILE)
+    ALONE, ASSIGN, COMMANDS, CONSTANT, ELSE, END, INSERTIONS, MARK_CONTENT, MARK_LIST, MEAN, NAMED, SIGNS, VALUE)
 from .encoding import signed
 from .limits import LEVELS
 
@@ -31,7 +30,7 @@ def record_text(record, variables):
     expression = expression_text(record, variables)
     if record.command == ASSIGN:
         return f"{variables[record.target]} := {expression}"
-    if record.command in (NEW_FIRST_CHILD, NEW_RIGHT_SIBLING):
+    if record.command in INSERTIONS:
         marks = (" content house" if record.target & MARK_CONTENT else "") + (" list house" if record.target & MARK_LIST else "")
         return f"{words}{marks}: {expression}"
     return f"{words} {expression}"
@@ -77,13 +76,20 @@ def listing(job):
         lines.append(f"{'  ' * (depth + 1)}n{index}{levels_text(*node[1:4])} = {node.value}{at}")
     if job.records:
         lines.append("script")
-        depth = 1
-        for record in job.records:
-            if record.command == END:
-                depth -= 1
-                continue
-            indent = depth - 1 if record.command == ELSE else depth
-            lines.append("  " * indent + record_text(record, variables))
-            if record.command in (IF, WHILE):
-                depth += 1
+        lines += script_lines(job.records, variables)
     return "\n".join(lines) + "\n"
+
+
+def script_lines(records, variables):
+    """A script's statements, indented as its blocks."""
+    lines, depth, opened = [], 1, False
+    for record in records:
+        closes = record.command in (ELSE, END)
+        if closes and opened:
+            lines.append("  " * depth + "empty")
+        opened = record.command == ELSE or bool(COMMANDS[record.command].opens)
+        depth -= closes
+        if record.command != END:
+            lines.append("  " * depth + record_text(record, variables))
+        depth += opened
+    return lines

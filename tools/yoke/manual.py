@@ -26,6 +26,7 @@ statements:
   set EXPRESSION                give the node under the cursor a value
   if EXPRESSION, else           the lines below, further in; 0 means no
   while EXPRESSION              again and again until it is 0
+  empty                         the only line of a block that has none
   root, up, first child, right sibling
                                 move the cursor, which starts at the root
   new first child: EXPRESSION   also: new right sibling; before the colon
@@ -39,6 +40,9 @@ expressions, with one operator at most:
   a number, a variable, value (of the node), children (how many it has)
   A + B, A - B, A = B, A < B, mean(A, B)
 
+What the board says is public. Where it ends may depend on house numbers, too:
+show a board only where the run has finished (tools/job probe --help).
+
 A node may have a fixed place among the job's records: `hut = 3 record 4`.
 """
 
@@ -50,6 +54,10 @@ the monitor would refuse is written, with a warning.
 
   tools/job assemble examples/depths.yoke -o depths.job
   tools/job assemble examples/depths.yoke -o - | target/bin/board
+  tools/job assemble --tree house.yoke script.yoke -o night.job
+
+With --tree the source has a script, and variables of its own if it likes; the
+other file has the tree, and variables that come before those of the script.
 """,
     "list": """\
 Shows a job as a source, with names v0, v1 .. and n0, n1 .. by index. Assembling
@@ -60,7 +68,9 @@ Of a job that the monitor would refuse it says what is wrong and where.
 """,
     "picture": """\
 Draws the tree of a source or a job: in characters, or as SVG. House parts are
-hatched and labelled in the SVG, and named in brackets in the text.
+hatched and labelled in the SVG, and named in brackets in the text. The text
+leaves out the middle of a long run of siblings, and of a long chain of only
+children; --all shows them. A large tree becomes an outline in the SVG.
 
   tools/job picture examples/depths.yoke
   tools/job picture examples/depths.yoke --svg depths.svg
@@ -71,16 +81,56 @@ Shows the help page of an ending. Without a number it lists the endings.
   tools/job explain 21
 """,
     "run": """\
-Runs a source or a job with the program inspect (budget 100,000 steps, 512
-nodes, 256 lines) and shows the outcome with the names of the source. For a
-stop it shows the line, the rule, the levels that stood there and what can be
-done. It looks for inspect in target/bin, or takes $INSPECT.
+Runs a source or a job and shows the outcome with the names of the source. For
+a stop it shows the line, the rule, the levels that stood there and what can be
+done. It has the board runner's limits and the program inspect; with --budget,
+--places or --lines it has these and the program replay. It looks for both in
+target/bin, or takes $INSPECT and $REPLAY.
 
   tools/job run examples/depths.yoke
+  tools/job run --tree house.yoke script.yoke
+  tools/job run examples/depths.yoke --trace --budget 10
+
+A row of --trace has the step, the line and record, the statement, the node
+under the cursor, the context and the cursor level before the step, and what
+the step changed.
+
+It shows house numbers: it is for whoever owns them. The public sees the board.
+""",
+    "probe": """\
+Runs a source or a job many times, each time with other house numbers and other
+house nodes, all else the same. It says which different boards came, how long
+they are, and the line whose stop made the difference. Exit status 1 if there
+is more than one board.
+
+  tools/job probe examples/guests.yoke
+  tools/job probe script.yoke --tree house.yoke --count 10000 --seed 7
+
+Where a board ends may depend on house numbers. What stands on it never does: of
+two boards one is a beginning of the other, and finished runs leave the same
+board. That is proved. But a stop under a house guard shows. This script leaves
+a board of 40 lines for 40 beds and of 7 for 7:
+
+  variables
+    c = 0
+    beds house = 40
+  tree
+    hotel = 0
+  script
+    while c < 100
+      c := c + 1
+      print c
+      if c = beds
+        up
+
+So a board of n lines at most may tell which of n + 1 cases there is: with the
+board runner's 256 lines some 8 bits. To close this, show a board only where
+the run has finished; then there is one board or none.
 """,
 }
 
 STATUS = """\
-exit status: 0 all is well; 1 the job is refused or stopped; 2 a mistake in the
-source or the call, or a file or program that is missing
+exit status: 0 all is well; 1 the job is refused or stopped, or for probe there
+is more than one board; 2 a mistake in the source or the call, or something that
+cannot be read, written or run. An interrupt ends the program by its signal.
 """

@@ -2,16 +2,21 @@
 
 import os
 import re
+import struct
 import subprocess
+import threading
 from pathlib import Path
 from typing import NamedTuple
 
-from .errors import JobError
+from .errors import JobError, visible
 from .limits import HOME
 from .pictures import Picture
 
+FRAME = struct.Struct("<IIHH")
+
+
 class Outcome(NamedTuple):
-    """inspect's answer; variables are pairs of level and value, tree rows are Picture with no name."""
+    """A program's answer; variables are pairs of level and value, tree rows are Picture with no name."""
 
     ending: int
     record: int
@@ -21,7 +26,44 @@ class Outcome(NamedTuple):
     tree: list
 
 
+def program_path(name):
+    """A program of the monitor: the variable of its name in capitals, or where the repository builds it."""
+    given = os.environ.get(name.upper())
+    path = Path(given) if given else HOME / "target" / "bin" / name
+    if not path.is_file():
+        said = f"the variable {name.upper()} names" if given else "the repository builds"
+        raise JobError(f"the program {name} is not there: {said} {path}\n"
+                       "To build it, run this in the repository:  make programs")
+    return path
+
+
+def start(name):
+    """A program, with its standard streams as pipes."""
+    path = program_path(name)
+    try:
+        return subprocess.Popen([str(path)], stdin=subprocess.PIPE, stdout=subprocess.PIPE, stderr=subprocess.PIPE)
+    except OSError as problem:
+        raise JobError(f"the program {path} cannot be run: {problem.strerror}") from None
+
+
+def misread(name, problem, status, text):
+    return JobError(f"{name} answered in a form that this tool does not know: {visible(str(problem))}\n"
+                    f"exit status {status}\n" + "\n".join(visible(line) for line in text[:400].split("\n")))
+
+
+# inspect: one job, with the board runner's limits.
+
 NODE_LINE = re.compile(r"((?:  )+)value (-?\d+), existence (\d+), content (\d+), list (\d+)")
+
+
+def inspect(data):
+    child = start("inspect")
+    output, error = child.communicate(data)
+    text = output.decode("utf-8", "replace")
+    try:
+        return read_outcome(text)
+    except (ValueError, IndexError) as problem:
+        raise misread("inspect", problem, child.returncode, text + error.decode("utf-8", "replace")) from None
 
 
 def read_outcome(text):
@@ -61,22 +103,90 @@ def read_outcome(text):
     return Outcome(ending, record, steps, lines, variables, tree)
 
 
-def inspect_path():
-    """The program inspect: $INSPECT, or where the repository builds it."""
-    given = os.environ.get("INSPECT")
-    path = Path(given) if given else HOME / "target" / "bin" / "inspect"
-    if not path.is_file():
-        said = "the variable INSPECT names" if given else "the repository builds"
-        raise JobError(f"the program inspect is not there: {said} {path}\n"
-                       "To build it, run this in the repository:  rt check inspect")
-    return path
+# replay: many jobs in one process, with limits of their own.
 
 
-def inspect(data):
-    done = subprocess.run([str(inspect_path())], input=data, stdout=subprocess.PIPE, stderr=subprocess.PIPE, check=False)
-    text = done.stdout.decode("utf-8", "replace")
+def frame(data, limits):
+    return FRAME.pack(len(data), limits.budget, limits.places, limits.lines) + data
+
+
+def replay(frames):
+    """The outcome of each frame, in order. The frames are written while the answers are read."""
+    child = start("replay")
+
+    def feed():
+        try:
+            for data in frames:
+                child.stdin.write(data)
+            child.stdin.close()
+        except OSError:  # it has ended; its answers will show that some are missing
+            pass
+
+    writer = threading.Thread(target=feed, daemon=True)
+    writer.start()
+    rows = (row.decode("utf-8", "replace").rstrip("\n") for row in child.stdout)
+    answers = Answers(rows)
     try:
-        return read_outcome(text)
+        while answers.more():
+            yield answers.read()
     except (ValueError, IndexError) as problem:
-        raise JobError(f"inspect answered in a form that this tool does not know: {problem}\n"
-                       f"exit status {done.returncode}\n{text[:400]}{done.stderr.decode('utf-8', 'replace')[:400]}") from None
+        child.kill()
+        raise misread("replay", problem, child.wait(), answers.row or "") from None
+    finally:
+        child.stdout.close()
+        child.stderr.close()
+        writer.join(1)
+        child.wait()
+
+
+class Answers:
+    """replay's outcome blocks, row by row."""
+
+    def __init__(self, rows):
+        self.rows = rows
+        self.count = 0
+        self.next()
+
+    def next(self):
+        self.row = next(self.rows, None)
+
+    def more(self):
+        return self.row is not None
+
+    def numbers(self, *words):
+        """The numbers of the next row, whose other words are these, one before each number but the last ones."""
+        parts = (self.row or "").split(" ")
+        if parts[0] != words[0]:
+            raise ValueError(f"'{words[0]}' expected, there is '{self.row}'")
+        self.next()
+        return [int(part) for part in parts if part not in words]
+
+    def several(self, word):
+        found = []
+        while self.row is not None and self.row.startswith(word + " "):
+            found.append(self.numbers(word))
+        return found
+
+    def read(self):
+        (number,) = self.numbers("job")
+        if number != self.count:
+            raise ValueError(f"job {self.count} expected, there is job {number}")
+        self.count += 1
+        ending, record, steps, count = self.numbers("ending", "index", "steps", "lines")
+        lines = [value for (value,) in self.several("line")]
+        if len(lines) != count:
+            raise ValueError(f"{count} lines expected, there are {len(lines)}")
+        variables = [(level, value) for level, value in self.several("variable")]
+        tree = [Picture("", existence, content, below, value, depth)
+                for depth, existence, content, below, value in self.several("node")]
+        return Outcome(ending, record, steps, lines, variables, tree)
+
+
+def outcome(data, limits, given):
+    """The monitor's answer to one job: by inspect, or where limits are given, by replay."""
+    if not given:
+        return inspect(data)
+    answers = list(replay([frame(data, limits)]))
+    if len(answers) != 1:
+        raise misread("replay", "one answer expected", 0, f"there are {len(answers)}")
+    return answers[0]

@@ -1,17 +1,20 @@
 """A run, followed by the paper's rules beside the monitor."""
 
 from .commands import (
-    ALONE, ASSIGN, COMMANDS, CONSTANT, COVER, DIFFERENCE, ELSE, END, EQUAL, FIRST_CHILD, IF, LESS, MARK_CONTENT, MARK_LIST, MEAN,
-    NAMED, NEW_FIRST_CHILD, PRINT, REMOVE_FIRST_CHILD, REMOVE_RIGHT_SIBLING, RIGHT_SIBLING, ROOT, SET, SUM, UP, VALUE, WHILE)
+    ALONE, ASSIGN, COMMANDS, CONSTANT, COVER, DIFFERENCE, ELSE, END, EQUAL, FIRST_CHILD, LESS, MARK_CONTENT, MARK_LIST, MEAN,
+    MOVES, NAMED, NEW_FIRST_CHILD, PRINT, REMOVALS, REMOVE_FIRST_CHILD, ROOT, SET, SUM, UP, VALUE, WHILE)
 from .encoding import signed
-from .limits import BUDGET, HOUSE, LINES, PLACES, PUBLIC
+from .endings import ABSENT, BELOW, FINISHED, FLOW, FULL_BOARD, FULL_TABLE, USED_UP
+from .limits import HOUSE, PUBLIC, Limits
 from .pictures import Picture
 
-class Tree:
-    """A node of a run, with the name that the source gave it or the line that made it."""
 
-    def __init__(self, name, parent, existence, content, below, value):
+class Tree:
+    """A node of a run, with the name that the source gave it, or of the record and line that made it."""
+
+    def __init__(self, name, parent, existence, content, below, value, made=None):
         self.name = name
+        self.made = made
         self.parent = parent
         self.children = []
         self.existence = existence
@@ -64,17 +67,18 @@ class Run:
     The monitor decides: what this says is shown only where both agree.
     """
 
-    def __init__(self, source, budget=BUDGET, places=PLACES, capacity=LINES):
+    def __init__(self, source, limits=Limits()):
         self.source = source
         self.job = source.job
-        self.budget, self.places, self.capacity = budget, places, capacity
+        self.limits = limits
         self.values = [v.value for v in self.job.variables]
         self.root = self.cursor = grow(self.job, source.names.nodes)
         self.live = len(self.job.nodes)
         self.cursor_level = PUBLIC
         self.raised_by = None  # the record that made the cursor level house
         self.blocks = []  # the level and the record of each open guard
-        self.at = self.steps = self.ending = 0
+        self.at = self.steps = 0
+        self.ending = FINISHED
         self.board = []
         self.partner = self.match_blocks()
 
@@ -82,7 +86,7 @@ class Run:
         """Where each if goes on zero, each else and while jumps, and each end returns."""
         partner, waiting = {}, []
         for index, record in enumerate(self.job.records):
-            if record.command in (IF, WHILE):
+            if COMMANDS[record.command].opens:
                 waiting.append(index)
             elif record.command == ELSE:
                 partner[waiting[-1]] = index + 1  # past the else
@@ -90,13 +94,9 @@ class Run:
             elif record.command == END:
                 opener = waiting.pop()
                 command = self.job.records[opener].command
+                partner[opener] = index + 1 if command == WHILE else index
                 if command == ELSE:
-                    partner[opener] = index
-                    opener = waiting.pop()
-                elif command == IF:
-                    partner[opener] = index
-                else:
-                    partner[opener] = index + 1
+                    waiting.pop()
                 partner[index] = opener if command == WHILE else index + 1
         return partner
 
@@ -127,28 +127,38 @@ class Run:
 
     def go(self):
         """Steps until the run has ended."""
-        while self.at < len(self.job.records):
-            if self.steps == self.budget:
-                self.ending = 25
-                return self
-            try:
-                self.at = self.step(self.job.records[self.at])
-            except Stopped as stop:
-                self.ending = stop.number
-                return self
-            self.steps += 1
+        while self.turn():
+            pass
         return self
+
+    def turn(self):
+        """One step, unless the run has ended: then False."""
+        if self.at == len(self.job.records):
+            return False
+        try:
+            if self.steps == self.limits.budget:
+                raise Stopped(USED_UP)
+            self.at = self.step(self.job.records[self.at])
+        except Stopped as stop:
+            self.ending = stop.number
+            return False
+        self.steps += 1
+        return True
 
     def rule(self, holds):
         if not holds:
-            raise Stopped(21)
+            raise Stopped(FLOW)
+
+    def flow(self, record, level):
+        """L of the paper, for an expression of this level."""
+        return max(level, self.position())
 
     def step(self, record):
         """Carries out a record and gives the next one's index."""
         command = record.command
-        if command in (IF, WHILE):
+        if COMMANDS[command].opens:
             value, level = self.evaluate(record)
-            if value or command == IF:
+            if value or command != WHILE:
                 self.blocks.append((level, self.at))
             return self.at + 1 if value else self.partner[self.at]
         if command == ELSE:
@@ -158,22 +168,22 @@ class Run:
             return self.partner[self.at]
         if COMMANDS[command].expression:
             self.store(record)
-        elif command in (ROOT, UP, FIRST_CHILD, RIGHT_SIBLING, COVER):
+        elif command in MOVES:
             self.move(command)
-        elif command in (REMOVE_FIRST_CHILD, REMOVE_RIGHT_SIBLING):
+        elif command in REMOVALS:
             self.remove(command)
         return self.at + 1
 
     def store(self, record):
         value, level = self.evaluate(record)
-        level = max(level, self.position())
+        level = self.flow(record, level)
         if record.command == ASSIGN:
             self.rule(level <= self.job.variables[record.target].level)
             self.values[record.target] = value
         elif record.command == PRINT:
             self.rule(level == PUBLIC)
-            if len(self.board) == self.capacity:
-                raise Stopped(24)
+            if len(self.board) == self.limits.lines:
+                raise Stopped(FULL_BOARD)
             self.board.append(value)
         elif record.command == SET:
             self.rule(level <= self.cursor.content)
@@ -185,19 +195,19 @@ class Run:
         first = record.command == NEW_FIRST_CHILD
         parent = self.cursor if first else self.cursor.parent
         if parent is None:
-            raise Stopped(22)
+            raise Stopped(ABSENT)
         at = 0 if first else self.cursor.place() + 1
         neighbour = parent.children[at] if at < len(parent.children) else None
         here = self.position()
         self.rule(here <= parent.list and (neighbour is None or here <= neighbour.existence))
         if here < self.cursor.existence:
-            raise Stopped(26)
-        if self.live == self.places:
-            raise Stopped(23)
+            raise Stopped(BELOW)
+        if self.live == self.limits.places:
+            raise Stopped(FULL_TABLE)
         content = HOUSE if record.target & MARK_CONTENT else level
         below = HOUSE if record.target & MARK_LIST else here
         name = f"new_{self.source.names.record_places[self.at].line}"
-        parent.children.insert(at, Tree(name, parent, here, content, below, value))
+        parent.children.insert(at, Tree(name, parent, here, content, below, value, self.at))
         self.live += 1
 
     def target(self, command):
@@ -215,7 +225,7 @@ class Run:
     def move(self, command):
         node = self.target(command)
         if node is None:
-            raise Stopped(22)
+            raise Stopped(ABSENT)
         context = self.context()
         self.rule(context <= self.cursor_level)
         before = self.cursor_level
@@ -232,7 +242,7 @@ class Run:
     def remove(self, command):
         node = self.target(command)
         if node is None:
-            raise Stopped(22)
+            raise Stopped(ABSENT)
         self.rule(self.position() <= node.existence)
         node.parent.children.remove(node)
         self.live -= len(drawn_tree(node))

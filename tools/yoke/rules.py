@@ -1,0 +1,16 @@
+"""The table of flow rules: for each command that has one, what must hold, in words."""
+
+from .commands import ASSIGN, INSERTIONS, MOVES, PRINT, REMOVALS, SET
+
+STORED = "as high as everything that went into it: the expression, the context and the cursor level."
+
+RULES = {
+    ASSIGN: f"A variable takes a number only if its level is {STORED}",
+    PRINT: "A board line must be public: the expression, the context and the cursor level.",
+    SET: f"A node takes a value only if its content level is {STORED}",
+    **dict.fromkeys(MOVES, "The cursor moves only if the context is not above the cursor level: where the cursor stands must not "
+                           "tell the public how a house guard came out."),
+    **dict.fromkeys(INSERTIONS, "A new node is as secret as the context and the cursor level. That must not be above the list level "
+                                "of its parent, nor above the existence of the node that comes to stand right of it."),
+    **dict.fromkeys(REMOVALS, "A node is removed only if the context and the cursor level are not above its existence."),
+}
