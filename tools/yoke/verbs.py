@@ -176,10 +176,16 @@ def add_limits(one):
     one.add_argument("--lines", metavar="N", type=number_from(0, ASKED_LINES), help="board lines; 256 if not given")
 
 
+class Parser(argparse.ArgumentParser):
+    def print_help(self, file=None):
+        """argparse says nothing where the help cannot be written."""
+        (file or sys.stdout).write(self.format_help())
+
+
 def parser():
     raw = argparse.RawDescriptionHelpFormatter
-    whole = argparse.ArgumentParser(prog=PROGRAM, formatter_class=raw, epilog=LANGUAGE + "\n" + STATUS,
-                                    description="Writes, reads, draws, runs and probes jobs of the monitor.")
+    whole = Parser(prog=PROGRAM, formatter_class=raw, epilog=LANGUAGE + "\n" + STATUS,
+                   description="Writes, reads, draws, runs and probes jobs of the monitor.")
     verbs = whole.add_subparsers(dest="verb", metavar="VERB", required=True)
 
     def verb(name, short, function):
