@@ -4,7 +4,7 @@ import unittest
 
 from support import HOME, job, tool, tool_process
 
-VERBS = ("assemble", "list", "picture", "explain", "run")
+VERBS = ("assemble", "list", "picture", "explain", "run", "probe")
 
 
 class Help(unittest.TestCase):
@@ -27,6 +27,19 @@ class Help(unittest.TestCase):
         for row in job.COMMANDS:
             if row.words != "end":
                 self.assertIn(row.words, help_text)
+
+    def test_where_a_board_ends_is_said_in_plain_words(self):
+        for words in (("--help",), ("probe", "--help")):
+            text = " ".join(tool(*words, COLUMNS="80").output.split())
+            self.assertRegex(text, "[Ww]here (a board|it) ends may depend on house numbers")
+            self.assertIn("show a board only where the run has finished", text)
+
+    def test_the_leak_in_the_help_is_one(self):
+        text = tool("probe", "--help", COLUMNS="80").output
+        source = text[text.index("  variables\n"):text.index("\nSo a board of n lines")]
+        for beds, lines in ((40, 40), (7, 7), (100, 100), (0, 100), (101, 100)):
+            run = job.Run(job.parse(source.replace("beds house = 40", f"beds house = {beds}"), "help")).go()
+            self.assertEqual(run.board, list(range(1, lines + 1)))
 
     def test_no_verb(self):
         done = tool()

@@ -121,6 +121,92 @@ class Stopped(unittest.TestCase):
         self.stops(script("nothing", "while 1", "  empty"), FIRST + 1, 3, 25, "100,000 steps", "at the end of the block that this line opens")
 
 
+class Advice(unittest.TestCase):
+    """What the advice says, done: the run comes past the line that stopped it."""
+
+    def advised(self, before, stopping, advice, after, **sections):
+        """The lines before and the one that stops; part of the advice; the script as the advice wants it."""
+        done = run(script(*before, stopping, **sections))
+        self.assertEqual(done.status, 1, done.output)
+        self.assertIn(advice, " ".join(done.output.split()))
+        then = run(script(*after, **sections))
+        self.assertEqual(then.status, 0, then.output)
+        return done.output
+
+    def test_new_right_sibling_under_cover(self):
+        """`root` alone before it would end in 22: the root has no siblings."""
+        output = self.advised(
+            ["first child", "cover"], "new right sibling: 1",
+            "Write `root`, `first child` before the new node: outside house guards `root` makes the cursor level public again. "
+            "The cursor then stands on slope, as now.",
+            ["first child", "cover", "root", "first child", "new right sibling: 1"])
+        self.assertNotIn("`root` before", output)
+
+    def test_remove_right_sibling_under_cover(self):
+        tree = "  resort = 1\n" + "".join(f"    n{n} = {n}\n" for n in range(5))
+        moves = ["first child"] + ["right sibling"] * 3
+        self.advised([*moves, "cover"], "remove right sibling",
+                     "Write `root`, `first child`, `right sibling` 3 times before the removal",
+                     [*moves, "cover", "root", *moves, "remove right sibling"], tree=tree)
+
+    def test_whose_value_is_printed(self):
+        self.advised(["first child", "cover"], "print value",
+                     "Write `root`, `first child` before the print: outside house guards `root` makes the cursor level public again. "
+                     "`value` will be that of slope, as now.",
+                     ["first child", "cover", "root", "first child", "print value"])
+        self.advised(["cover"], "print value", "Write `root` before the print: outside house guards `root` makes the cursor level "
+                     "public again. `value` will be that of resort, the root.", ["cover", "root", "print value"])
+
+    def test_whose_value_is_printed_where_the_node_is_house(self):
+        tree = "  resort list house = 10\n    safe house = 3\n"
+        self.advised(["first child"], "print value", "Write `root` before the print: outside house guards `root` makes the cursor level "
+                     "public again. `value` will be that of resort, the root.", ["first child", "root", "print value"], tree=tree)
+
+    def test_no_advice_where_the_root_is_no_better(self):
+        done = run(script("first child", "print value", tree="  resort content house list house = 10\n    safe house = 3\n"))
+        self.assertNotIn("Write `root`", done.output)
+
+    def test_a_variable_needs_no_place(self):
+        self.advised(["first child", "cover"], "print v", "Write `root` before the print: outside house guards `root` makes the cursor "
+                     "level public again. The cursor then stands on resort, the root.", ["first child", "cover", "root", "print v"])
+
+    def test_children_and_value(self):
+        self.advised(["cover"], "v := value + children", "`value` and `children` will be those of resort, the root.",
+                     ["cover", "root", "v := value + children"])
+
+    def test_in_a_block_and_under_cover(self):
+        self.advised(["cover", "if h"], "  print 1", "Put the print outside the block of line 9",
+                     ["cover", "if h", "  nothing", "root", "print 1"])
+        self.assertIn("Write `root` before the print there", run(script("cover", "if h", "  print 1")).output)
+
+    def test_cover_before_a_move(self):
+        self.advised(["if h"], "  first child", "Write `cover` before line 8", ["cover", "if h", "  first child", "root", "print value"])
+
+    def test_levels_that_a_node_has_already_are_kept(self):
+        done = run(script("set h", tree="  resort list house = 10\n"))
+        self.assertIn("`resort content house list house = ...`", " ".join(done.output.split()))
+        self.assertEqual(run(script("set h", tree="  resort content house list house = 10\n")).status, 0)
+
+    def test_a_node_that_the_script_makes(self):
+        self.advised(["new first child: 1", "first child"], "set h", "Write `content house` where line 8 makes the node.",
+                     ["new first child content house: 1", "first child", "set h"])
+        self.advised(["new first child: 1", "first child", "if h"], "  new first child: 1", "Write `list house` where line 8 makes the node.",
+                     ["new first child list house: 1", "first child", "if h", "  new first child: 1"])
+
+    def test_no_child_where_the_list_is_house(self):
+        self.advised([], "first child", "The list is house, so that is a house guard: write `cover` before it",
+                     ["cover", "if children", "  first child"], tree="  resort list house = 10\n")
+
+    def test_an_only_node_cannot_go_down(self):
+        self.assertIn("Leave it out", run(script("up", tree="  resort = 10\n")).output)
+
+    def test_more_by_option(self):
+        self.assertIn("`--budget 1000000`", run(script("while 1", "  nothing")).output)
+        loop = script("while 1", "  new first child: 1")
+        self.assertNotIn("--places", run(loop).output)
+        self.assertIn("`--places 512`", tool("run", "-", "--places", "5", data=loop, REPLAY=program("replay")).output)
+
+
 class Refused(unittest.TestCase):
     def test_a_tree_rule(self):
         done = run("tree\n  resort = 1\n    safe house = 2\n")

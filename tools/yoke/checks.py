@@ -185,10 +185,11 @@ def check_limits(job, limits):
     """The first of the checks 9 and 10 that the limits fail for an accepted job, or None."""
     if not 1 <= limits.budget <= MAX_BUDGET:
         return Fault(9, 0, "", 0, 0, f"the budget is {limits.budget:,}; it must be 1 to {MAX_BUDGET:,}")
+    there = f"there {'is' if limits.places == 1 else 'are'} {plural(limits.places, 'place')}"
     if not 1 <= limits.places <= MAX_NODES:
-        return Fault(10, 0, "", 0, 0, f"there are {plural(limits.places, 'place')}; there must be 1 to {MAX_NODES}")
+        return Fault(10, 0, "", 0, 0, f"{there}; there must be 1 to {MAX_NODES}")
     if limits.places < len(job.nodes):
-        return Fault(10, 0, "", 0, 0, f"there are {plural(limits.places, 'place')} for {plural(len(job.nodes), 'node')}")
+        return Fault(10, 0, "", 0, 0, f"{there} for {plural(len(job.nodes), 'node')}")
     return None
 
 
