@@ -1,9 +1,11 @@
-"""The examples stay silent: with other house numbers the board begins alike, and is the same where both runs finish."""
+"""The examples stay silent: with other house numbers the board begins alike, and is the same where both runs finish.
+The walk and the average are right for other trees, too."""
 
+import random
 import subprocess
 import unittest
 
-from support import HOME, job, program
+from support import HOME, job, program, replayed
 
 
 def board(data):
@@ -36,6 +38,45 @@ class Silent(unittest.TestCase):
                         self.assertEqual(lines, other)
                         finished += 1
         self.assertGreaterEqual(finished, 6 * 4)  # first, depths, guests, closures, buses, cover
+
+
+def over(name, nodes):
+    """An example's job with another tree: depths and values in preorder."""
+    text = (HOME / "examples" / name).read_text(encoding="utf-8")
+    head, rest = text.split("\ntree\n")
+    tree = "".join(" " * (depth + 2) + f"n{n} = {value}\n" for n, (depth, value) in enumerate(nodes))
+    return job.parse(f"{head}\ntree\n{tree}script\n" + rest.split("\nscript\n")[1], name).job.encode()
+
+
+def random_tree(dice, size):
+    depths = [0]
+    while len(depths) < size:
+        depths.append(dice.randint(1, depths[-1] + 1))
+    return [(depth, dice.randint(-1000, 1000)) for depth in depths]
+
+
+class OtherTrees(unittest.TestCase):
+    def boards(self, jobs, budget=1_000_000):
+        for answer in replayed(jobs, budget):
+            self.assertTrue(answer[0].startswith("ending 0 "), answer[0])
+            yield ([int(row[5:]) for row in answer if row.startswith("line ")],
+                   [(int(row.split()[1]), int(row.split()[5])) for row in answer if row.startswith("node ")])
+
+    def test_walk(self):
+        dice = random.Random(11)
+        trees = [random_tree(dice, size) for size in (1, 2, 3, 10, 40, 40, 100)]
+        trees += [[(depth, 1) for depth in range(200)], [(0, 0)] + [(1, 2)] * 60]  # a chain, and many siblings
+        for tree, (board, last) in zip(trees, self.boards([over("walk.yoke", tree) for tree in trees])):
+            self.assertEqual(board, [len(tree), sum(value for _, value in tree), max(depth for depth, _ in tree)])
+            self.assertEqual(last, tree)
+
+    def test_average(self):
+        dice = random.Random(12)
+        rows = [[0], [7], [1, 2], [0, 0, 0], [2**30], [3] * 511]
+        rows += [[dice.randint(0, 10**6) for _ in range(dice.randint(1, 200))] for _ in range(20)]
+        jobs = [over("average.yoke", [(0, 0)] + [(1, value) for value in row]) for row in rows]
+        for row, (board, _) in zip(rows, self.boards(jobs, 100_000)):
+            self.assertEqual(board, [sum(row) // len(row), sum(row) % len(row), len(row)])
 
 
 if __name__ == "__main__":
