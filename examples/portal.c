@@ -1,55 +1,55 @@
-/* A small portal: loads a job from a file, runs it, and prints its board lines and how it ended.
+/* A small portal: loads a job from a file, runs it, and publishes its board.
 
        make lib
        cc -std=c11 -Wall -Wextra -I include examples/portal.c include/libportal.a -o portal
        ./portal job-file
 
-   Exit status: 0 the job finished, 1 it was turned back or stopped, 2 there is no such file. */
+   The board goes to standard output, for the public, and only where the run has finished: where an unfinished board ends may depend on house numbers. How
+   the run ended goes to standard error, for the house. With --unfinished the lines of a stopped run are put out, too: for the house, to look into a stop.
+
+   Exit status: 0 the board is out; 1 the job was turned back or stopped; 2 a wrong call, a file that cannot be read, a board that cannot be written. */
 #include <inttypes.h>
 #include <stdio.h>
+#include <string.h>
 
 #include "portal.h"
 
 enum { BUDGET = 100000, LINES = 256 };
 
-static const char *name(int ending) {
-    switch (ending) {
-    case PORTAL_FINISHED: return "finished";
-    case PORTAL_WRONG_SIZE: return "wrong size";
-    case PORTAL_BROKEN_LAYOUT: return "broken layout";
-    case PORTAL_BAD_COUNT: return "count out of range";
-    case PORTAL_BAD_VARIABLE_LEVEL: return "variable level out of range";
-    case PORTAL_BAD_PARENT: return "parent rule broken";
-    case PORTAL_BAD_TREE: return "tree rule broken";
-    case PORTAL_BAD_FIELD: return "command or field out of range";
-    case PORTAL_BAD_BLOCKS: return "blocks do not match";
-    case PORTAL_BAD_BUDGET: return "budget out of range";
-    case PORTAL_BAD_BUFFERS: return "buffers do not fit";
-    case PORTAL_FLOW: return "flow rule broken";
-    case PORTAL_NO_NODE: return "node does not exist";
-    case PORTAL_TABLE_FULL: return "table full";
-    case PORTAL_BOARD_FULL: return "board full";
-    case PORTAL_BUDGET_USED_UP: return "budget used up";
-    case PORTAL_LOW_CONTEXT: return "context below the node";
-    default: return "unknown";
-    }
+static int fail(const char *what) {
+    fprintf(stderr, "portal: %s\n", what);
+    return 2;
 }
 
 int main(int argc, char **argv) {
-    static uint8_t job[23049]; /* one byte more than a job may have, so that a longer one is seen */
+    static uint8_t job[PORTAL_MAX_JOB + 1]; /* one byte more, so that a longer job is seen */
     static uint8_t lines[4 * LINES];
-    FILE *file = argc == 2 ? fopen(argv[1], "rb") : NULL;
+    int unfinished = argc == 3 && strcmp(argv[1], "--unfinished") == 0;
+    if (argc != 2 + unfinished) {
+        return fail("usage: portal [--unfinished] JOB-FILE");
+    }
+    FILE *file = fopen(argv[argc - 1], "rb");
     if (file == NULL) {
-        fprintf(stderr, "usage: portal JOB-FILE\n");
-        return 2;
+        return fail("there is no such file, or it cannot be opened");
     }
     size_t length = fread(job, 1, sizeof job, file);
+    int unread = ferror(file);
     fclose(file);
+    if (unread) {
+        return fail("the file cannot be read");
+    }
 
     uint64_t answer = portal_run(job, length, BUDGET, lines, sizeof lines);
-    for (size_t i = 0; i < portal_lines(answer); i++) {
-        printf("%" PRId32 "\n", portal_line(lines, i));
+    int ending = portal_ending(answer);
+    fprintf(stderr, "ending %d %s\n", ending, portal_ending_name(ending));
+    if (ending == PORTAL_FINISHED || unfinished) {
+        for (size_t i = 0; i < portal_lines(answer); i++) {
+            printf("%" PRId32 "\n", portal_line(lines, i));
+        }
     }
-    printf("ending %d %s\n", portal_ending(answer), name(portal_ending(answer)));
-    return portal_ending(answer) == PORTAL_FINISHED ? 0 : 1;
+    /* A board that is lost to a full disk is a failure, too. */
+    if (fflush(stdout) != 0 || ferror(stdout)) {
+        return fail("the board cannot be written");
+    }
+    return ending == PORTAL_FINISHED ? 0 : 1;
 }

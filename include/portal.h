@@ -1,19 +1,45 @@
 /* The monitor, for a portal in C or C++: hand over a job, get its board lines and how it ended.
 
-   `make lib` builds libportal.a beside this file. To compile and link:
+   `make lib` builds libportal.a beside this file; `make install` puts both where a compiler finds them. To compile and link, in the repository or after
+   an installation:
 
        cc -I include my_portal.c include/libportal.a
+       cc my_portal.c $(pkg-config --cflags --libs portal)
 
    The library is for x86-64. It keeps nothing from one call to the next and allocates nothing, so calls from several threads are fine as long as they
-   do not share an area for lines. A call takes less than 64 kilobytes of stack. */
+   do not share an area for lines. A call takes less than 64 kilobytes of stack.
+
+   What to show. The lines are for the public. The ending is for the house: never publish it, nor how long a call took. The lines hold no house number, but
+   where a board ends may depend on one: a script can count to 100, put each number out, and stop itself where the count equals a house number. So publish a
+   board only where portal_ending(answer) is PORTAL_FINISHED. Two finished boards of the same script over the same public parts are always the same.
+   docs/GUARANTEE.md has the example and the figures. */
 #ifndef PORTAL_H
 #define PORTAL_H
 
 #include <stddef.h>
 #include <stdint.h>
 
+/* The version of this header and of the library beside it. The first number changes where a program must be changed. */
+#define PORTAL_VERSION "1.1.0"
+#define PORTAL_VERSION_MAJOR 1
+#define PORTAL_VERSION_MINOR 1
+#define PORTAL_VERSION_PATCH 0
+
+/* The largest job, in bytes. Read up to one byte more, so that a longer one is seen and turned back. */
+#define PORTAL_MAX_JOB 23048
+
+/* The largest budget, in steps. */
+#define PORTAL_MAX_BUDGET 1000000
+
+/* No run has more lines than steps, so an area of 4 * PORTAL_MAX_LINES bytes is never full. */
+#define PORTAL_MAX_LINES PORTAL_MAX_BUDGET
+
+/* A cast that both C and C++ take without a warning. */
 #ifdef __cplusplus
+#define PORTAL_CAST(type, number) static_cast<type>(number)
 extern "C" {
+#else
+#define PORTAL_CAST(type, number) ((type)(number))
 #endif
 
 /* How a job ended. Up to 20 the job was turned back: it was not run, there are no lines and nothing was written. From 21 on it was stopped: the lines
@@ -35,36 +61,67 @@ enum {
     PORTAL_TABLE_FULL = 23,         /* a new node, where there are 512 already */
     PORTAL_BOARD_FULL = 24,         /* a board line, where the area is full */
     PORTAL_BUDGET_USED_UP = 25,     /* as many steps as the budget allows */
-    PORTAL_LOW_CONTEXT = 26         /* a new node, made below the existence of the node worked at; proved never to come */
+    PORTAL_LOW_CONTEXT = 26         /* a new node, less secret than the node worked at; it is proved that this is never given */
 };
 
 /* Runs one job.
 
    job        the job's bytes
    job_len    how many there are; of any number, wrong ones come back as PORTAL_WRONG_SIZE
-   budget     how many steps the job may take, 1 to 1,000,000
-   lines      an area for the board lines, four little-endian bytes each; it must not overlap the job
+   budget     how many steps the job may take, 1 to PORTAL_MAX_BUDGET
+   lines      an area for the board lines, four little-endian bytes each
    lines_len  how many bytes the area has: room for lines_len / 4 lines
 
    Returns the ending and the number of lines: take them out with portal_ending and portal_lines. The lines stand at the beginning of the area, in the
-   order in which the job put them out: read them with portal_line. Every byte behind the last line is as it was. */
+   order in which the job put them out: read them with portal_line. Every byte behind the last line is as it was.
+
+   NULL: job may be NULL where job_len is 0 (the answer is PORTAL_WRONG_SIZE), lines may be NULL where lines_len is 0 (room for no line). Otherwise each
+   points to as many bytes as its length says.
+
+   Overlap: the area must not overlap the job. The job is read while the lines are written, so nothing is promised for areas that share bytes. Two calls
+   at the same time may read the same job. */
 uint64_t portal_run(const uint8_t *job, size_t job_len, uint64_t budget, uint8_t *lines, size_t lines_len);
 
-/* How a job ended: one of the numbers above. */
-static inline int portal_ending(uint64_t answer) { return (int)(answer >> 32); }
+/* How a job ended: one of the numbers above. For the house alone. */
+static inline int portal_ending(uint64_t answer) { return PORTAL_CAST(int, answer >> 32); }
 
 /* How many lines it put out. */
-static inline size_t portal_lines(uint64_t answer) { return (size_t)(answer & 0xffffffffu); }
+static inline size_t portal_lines(uint64_t answer) { return answer & 0xffffffffu; }
 
 /* Line number i, counted from 0. */
 static inline int32_t portal_line(const uint8_t *lines, size_t i) {
     const uint8_t *at = lines + 4 * i;
-    uint32_t bits = (uint32_t)at[0] | (uint32_t)at[1] << 8 | (uint32_t)at[2] << 16 | (uint32_t)at[3] << 24;
-    return bits < 0x80000000u ? (int32_t)bits : -(int32_t)(0xffffffffu - bits) - 1;
+    uint32_t bits = at[0] | PORTAL_CAST(uint32_t, at[1]) << 8 | PORTAL_CAST(uint32_t, at[2]) << 16 | PORTAL_CAST(uint32_t, at[3]) << 24;
+    return bits < 0x80000000u ? PORTAL_CAST(int32_t, bits) : -PORTAL_CAST(int32_t, 0xffffffffu - bits) - 1;
+}
+
+/* What an ending is called, as `inspect` and `tools/job` call it; "unknown" for a number that is none. */
+static inline const char *portal_ending_name(int ending) {
+    switch (ending) {
+    case PORTAL_FINISHED: return "finished";
+    case PORTAL_WRONG_SIZE: return "wrong size";
+    case PORTAL_BROKEN_LAYOUT: return "broken layout";
+    case PORTAL_BAD_COUNT: return "count out of range";
+    case PORTAL_BAD_VARIABLE_LEVEL: return "variable level out of range";
+    case PORTAL_BAD_PARENT: return "parent rule broken";
+    case PORTAL_BAD_TREE: return "tree rule broken";
+    case PORTAL_BAD_FIELD: return "command or field out of range";
+    case PORTAL_BAD_BLOCKS: return "blocks do not match";
+    case PORTAL_BAD_BUDGET: return "budget out of range";
+    case PORTAL_BAD_BUFFERS: return "buffers do not fit";
+    case PORTAL_FLOW: return "flow rule broken";
+    case PORTAL_NO_NODE: return "node does not exist";
+    case PORTAL_TABLE_FULL: return "table full";
+    case PORTAL_BOARD_FULL: return "board full";
+    case PORTAL_BUDGET_USED_UP: return "budget used up";
+    case PORTAL_LOW_CONTEXT: return "context below the node";
+    default: return "unknown";
+    }
 }
 
 #ifdef __cplusplus
 }
 #endif
+#undef PORTAL_CAST
 
 #endif

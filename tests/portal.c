@@ -48,6 +48,37 @@ static const uint8_t forever[68] = {
     5, 0, 0, 0, 0, 0, 0, 0, 0, 0, 0, 0, 0, 0, 0, 0,
     0, 0, 0, 0, 12, 0, 60, 0};
 
+/* An area that is not there, of length 0. */
+static void no_area(void) {
+    uint64_t answer = portal_run(example, sizeof example, 1, NULL, 0);
+    same("no area", "ending", PORTAL_BOARD_FULL, portal_ending(answer));
+    same("no area", "lines", 0, (long long)portal_lines(answer));
+    answer = portal_run(NULL, 0, 0, NULL, 0);
+    same("neither job nor area", "ending", PORTAL_WRONG_SIZE, portal_ending(answer));
+}
+
+/* Each ending has a name of its own; what is none has not. */
+static void names(void) {
+    int named = 0;
+    for (int ending = -1; ending <= 40; ending++) {
+        int known = ending == 0 || (1 <= ending && ending <= 10) || (21 <= ending && ending <= 26);
+        same("portal_ending_name", "known", known, strcmp(portal_ending_name(ending), "unknown") != 0);
+        named += known;
+        for (int other = 0; known && other < ending; other++) {
+            same("portal_ending_name", "another name", 1, strcmp(portal_ending_name(ending), portal_ending_name(other)) != 0);
+        }
+    }
+    same("portal_ending_name", "how many", 17, named);
+    same("portal_ending_name", "finished", 0, strcmp(portal_ending_name(PORTAL_FINISHED), "finished"));
+}
+
+static void versions(void) {
+    char text[32];
+    snprintf(text, sizeof text, "%d.%d.%d", PORTAL_VERSION_MAJOR, PORTAL_VERSION_MINOR, PORTAL_VERSION_PATCH);
+    same("PORTAL_VERSION", "its numbers", 0, strcmp(text, PORTAL_VERSION));
+    same("PORTAL_MAX_LINES", "number", 1000000, PORTAL_MAX_LINES);
+}
+
 int main(void) {
     static const uint8_t zeros[23049];
     expect("the paper's example", example, sizeof example, 100000, ROOM, PORTAL_FINISHED, 1);
@@ -67,6 +98,14 @@ int main(void) {
     expect("23049 bytes", zeros, 23049, 1, ROOM, PORTAL_WRONG_SIZE, 0);
     expect("23048 zero bytes", zeros, 23048, 1, ROOM, PORTAL_BROKEN_LAYOUT, 0);
     expect("8 zero bytes", zeros, 8, 1, ROOM, PORTAL_BAD_COUNT, 0);
+    expect("the largest budget that is allowed", example, sizeof example, PORTAL_MAX_BUDGET, ROOM, PORTAL_FINISHED, 1);
+    expect("a budget above", example, sizeof example, PORTAL_MAX_BUDGET + 1, ROOM, PORTAL_BAD_BUDGET, 0);
+    expect("the largest size", zeros, PORTAL_MAX_JOB, 1, ROOM, PORTAL_BROKEN_LAYOUT, 0);
+    expect("a size above", zeros, PORTAL_MAX_JOB + 1, 1, ROOM, PORTAL_WRONG_SIZE, 0);
+    expect("no job at all", NULL, 0, 1, ROOM, PORTAL_WRONG_SIZE, 0);
+    no_area();
+    names();
+    versions();
 
     static const uint8_t ends[16] = {0, 0, 0, 0x80, 0xff, 0xff, 0xff, 0x7f, 0xff, 0xff, 0xff, 0xff, 1, 2, 3, 4};
     same("portal_line", "the least", -2147483647 - 1, portal_line(ends, 0));

@@ -61,7 +61,7 @@ class Lists(unittest.TestCase):
         self.assertEqual(job.ENDINGS, {0: "finished", **{page.number: page.name for page in PAGES.values()}})
 
     def test_header(self):
-        found = re.findall(r"\b(PORTAL_[A-Z_]+)\b\s*=?\s*(\d+)\b", read("include/portal.h"))
+        found = re.findall(r"^ +(PORTAL_[A-Z_]+) = (\d+)\b", read("include/portal.h"), re.M)
         self.assertEqual({(name, int(number)) for name, number in found},
                          {("PORTAL_FINISHED", 0), *((page.c_name, page.number) for page in PAGES.values())})
 
@@ -70,7 +70,7 @@ class Lists(unittest.TestCase):
         found = re.findall(r'^\s*(\d+) => .*b"([^"]+)"', read("crates/inspect/src/names.rt"), re.M)
         self.assertEqual({int(number): name for number, name in found}, names)
         c_names = {"PORTAL_FINISHED": "finished", **{page.c_name: page.name for page in PAGES.values()}}
-        found = re.findall(r'case (PORTAL_\w+):\s*return "([^"]+)"', read("examples/portal.c"))
+        found = re.findall(r'case (PORTAL_\w+):\s*return "([^"]+)"', read("include/portal.h"))
         self.assertEqual(dict(found), c_names)
 
     def test_code(self):
