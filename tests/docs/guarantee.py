@@ -1,0 +1,89 @@
+"""docs/GUARANTEE.md: its examples are sources that the tool takes and end as it says; its figures; each theorem that it names is where it says."""
+
+import math
+import re
+import subprocess
+import unittest
+
+from support import HOME, assembled, job, program
+
+TEXT = (HOME / "docs" / "GUARANTEE.md").read_text(encoding="utf-8")
+HOLDS, ENDS = re.findall(r"^```yoke\n(.*?)^```$", TEXT, re.M | re.S)
+SECRET = re.compile(r"^(.*\S) +# or (none|-?\d+)\n", re.M)
+
+
+def other(source):
+    """The source with its other secrets."""
+    return SECRET.sub(lambda found: "" if found[2] == "none" else re.sub(r"-?\d+$", found[2], found[1]) + "\n", source)
+
+
+def board(source):
+    done = subprocess.run([program("board")], input=assembled(source), stdout=subprocess.PIPE, stderr=subprocess.PIPE, check=False)
+    return done.stdout.decode().splitlines()[1:-1], done.stderr.decode()
+
+
+class Examples(unittest.TestCase):
+    def test_holds(self):
+        self.assertEqual(len(SECRET.findall(HOLDS)), 2)
+        steps = re.search(r"The first takes (\d+)\s+steps, the second (\d+)\.", TEXT).groups()
+        lines = re.search(r"Both boards\s+say ([-\d, ]+)\.", TEXT).group(1).split(", ")
+        for source, count in zip((HOLDS, other(HOLDS)), steps):
+            self.assertEqual(board(source), (lines, f"finished steps {count}\n"))
+
+    def test_holds_is_the_witness(self):
+        """The records of the pair that is proved to meet the assumptions, as its file spells them."""
+        witness = (HOME / "crates/rules/proofs/Witness.antt").read_text(encoding="utf-8")
+        records = job.parse(HOLDS, "GUARANTEE").job.records
+        (script,) = re.findall(r"^script =(.*?)\n\n", witness, re.M | re.S)
+        self.assertEqual([record.command for record in records], [int(n) for n in re.findall(r"\b(?:one|bare) (\d+)", script)])
+        values = [re.findall(r"pos (\d+)", part) for part in re.findall(r"^(?:left|right) =(.*?)\n\n", witness, re.M | re.S)]
+        for source, found in zip((HOLDS, other(HOLDS)), values):
+            parsed = job.parse(source, "GUARANTEE").job
+            self.assertEqual([parsed.variables[1].value] + [node.value for node in parsed.nodes], [int(n) for n in found])
+
+    def test_ends(self):
+        said = re.findall(r"[Ww]ith (\d+) beds (?:the board|it) has the (\d+) lines 1\s+to (\d+)", TEXT)
+        self.assertEqual(len(said), 2)
+        for source, (beds, count, last) in zip((ENDS, other(ENDS)), said):
+            self.assertIn(f"beds house = {beds}", source)
+            lines, ended = board(source)
+            self.assertEqual(lines, [str(n) for n in range(1, int(last) + 1)])
+            self.assertEqual(len(lines), int(count))
+            self.assertTrue(ended.startswith("stopped 22 at "), ended)
+
+
+class Figures(unittest.TestCase):
+    def test_board_runner(self):
+        lines, boards, argument, bits = re.search(r"board runner, (\d+) lines \| (\d+) \| log2\((\d+)\), some (\d+)", TEXT).groups()
+        self.assertEqual(int(boards), int(lines) + 1)
+        self.assertEqual(argument, boards)
+        self.assertEqual(round(math.log2(int(boards))), int(bits))
+        # The room that the board runner has: it stops with 24 after so many lines.
+        printed, ended = board("tree\n  resort = 0\nscript\n  while 1\n    print 1\n")
+        self.assertEqual((len(printed), ended.split(" at ")[0]), (int(lines), "stopped 24"))
+
+
+class Theorems(unittest.TestCase):
+    def test_each_is_there(self):
+        rows = re.findall(r"^\| `([^`]+)` \| [^|]+ \| `(crates/[^`]+\.antt)` \|$", TEXT, re.M)
+        self.assertGreaterEqual(len(rows), 4)
+        for name, path in rows + re.findall(r"`([\w-]+)` in\s+`(crates/[^`]+\.antt)`", TEXT):
+            with self.subTest(name):
+                self.assertRegex((HOME / path).read_text(encoding="utf-8"), rf"(?m)^ *(?:\w+ )*{re.escape(name)}\b[^=\n]* :")
+
+    def test_definitions(self):
+        """The parts of the claim are names of the definitions."""
+        specs = "".join(path.read_text(encoding="utf-8") for path in (HOME / "crates/rules/specs").glob("*.antt"))
+        (body,) = re.findall(r"^\| Part \| Where \|\n\|[-|]+\|\n((?:\|.*\|\n)+)", TEXT, re.M)
+        for name in re.findall(r"`(\w+)`", body):
+            with self.subTest(name):
+                self.assertRegex(specs, rf"(?m)^ *(?:\w+ )*{name}\b[^=\n]* :")
+
+    def test_files(self):
+        for path in re.findall(r"`(crates/[^`*]+)`", TEXT):
+            with self.subTest(path):
+                self.assertTrue((HOME / path).exists())
+
+
+if __name__ == "__main__":
+    unittest.main(verbosity=2)
