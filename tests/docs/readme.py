@@ -1,5 +1,6 @@
-"""README.md: what it shows is what is there. The C program is built with the library and run."""
+"""README.md: what it shows is what comes, in the folder that it names. The C program is built with the library and run."""
 
+import ast
 import os
 import re
 import subprocess
@@ -7,11 +8,11 @@ import textwrap
 import unittest
 from pathlib import Path
 
-from support import HOME, assembled, program, scratch, tool
+from support import HOME, assembled, program, scratch
 
+TEXT = (HOME / "README.md").read_text(encoding="utf-8")
 # Indented blocks, without their indentation; blank lines belong to the block around them.
-BLOCKS = [textwrap.dedent(block).strip("\n") for block in
-          re.findall(r"(?:^    .*\n|^\n(?=    ))+", (HOME / "README.md").read_text(encoding="utf-8"), re.M)]
+BLOCKS = [textwrap.dedent(block).strip("\n") for block in re.findall(r"(?:^    .*\n|^\n(?=    ))+", TEXT, re.M)]
 
 
 def block(start):
@@ -25,38 +26,105 @@ def example(name):
     return (HOME / "examples" / name).read_text(encoding="utf-8")
 
 
+class Session:
+    """A block of commands, each after a `$ `, with what the last one prints. A line `..` stands for any lines."""
+
+    def __init__(self, text):
+        rows = text.split("\n")
+        count = next((at for at, row in enumerate(rows) if not row.startswith("$ ")), len(rows))
+        self.commands, self.shown = [row[2:] for row in rows[:count]], rows[count:]
+
+    def pattern(self):
+        rows = ["(?:.*\n)*?" if row == ".." else re.escape(row) + "\n" for row in self.shown]
+        return re.compile("".join(rows))
+
+    def output(self):
+        """What the last command prints, in the folder that README.md names."""
+        for command in self.commands:
+            done = subprocess.run(["bash", "-c", command], cwd=HOME, stdout=subprocess.PIPE, stderr=subprocess.PIPE, check=False)
+        return done.stdout.decode(), done
+
+
 class Shown(unittest.TestCase):
+    def test_sessions(self):
+        """Each command, as a reader gives it."""
+        sessions = [Session(text) for text in BLOCKS if text.startswith("$ ")]
+        self.assertEqual([session.commands[-1].split()[0] for session in sessions], ["make", "tools/job", "tools/job"])
+        for session in sessions:
+            with self.subTest(session.commands[-1]):
+                output, done = session.output()
+                self.assertRegex(output, session.pattern(), done.stderr)
+                self.assertIsNotNone(session.pattern().fullmatch(output), output)
+
     def test_board_of_make_run(self):
-        rule = re.search(r"^run:\n(?:\t.*\n)+", (HOME / "Makefile").read_text(encoding="utf-8"), re.M).group()
-        self.assertIn("examples/depths.yoke", rule)
-        self.assertEqual(block("board") + "\n", example("expected/depths.out"))
+        self.assertIn(example("expected/depths.out"), block("$ make run") + "\n")
 
     def test_first_script(self):
         self.assertEqual(block("variables") + "\n", example("first.yoke").split("\n", 1)[1])
 
-    def test_first_run(self):
-        shown, dots = block("examples/first.yoke: ").rsplit("\n", 1)
-        self.assertEqual(dots, "..")
-        done = tool("run", "examples/first.yoke", INSPECT=program("inspect"))
-        self.assertTrue(done.output.startswith(shown), done.output)
-
-    def test_first_stop(self):
-        with scratch() as folder:
-            path = Path(folder, "first.yoke")
-            path.write_text(example("first.yoke").replace("slope = 3", "slope content house = 3"), encoding="utf-8")
-            done = tool("run", str(path), INSPECT=program("inspect"))
-            self.assertTrue(done.output.startswith(f"{folder}/{block('first.yoke:')}\n"), done.output)
-
     def test_c_program(self):
+        """With the very command that is shown; it publishes finished boards only."""
         with scratch() as folder:
             path, built = Path(folder, "program.c"), Path(folder, "program")
             path.write_text(block("#include <stdio.h>") + "\n", encoding="utf-8")
-            subprocess.run(["cc", "-std=c11", "-Wall", "-Wextra", "-Werror", "-I", "include", str(path), "include/libportal.a",
-                            "-o", str(built)], cwd=HOME, check=True)
-            for name, status in (("first", 0), ("trap-4-removal", 1)):
-                done = subprocess.run([str(built)], input=assembled(example(f"{name}.yoke")), stdout=subprocess.PIPE, check=False)
+            command = block("cc -I include").replace("program.c", str(path)).split()
+            subprocess.run([*command, "-std=c11", "-Wall", "-Wextra", "-Werror", "-o", str(built)], cwd=HOME, check=True)
+            for name, ending, status in (("first", "finished", 0), ("trap-4-removal", "flow rule broken", 1)):
+                done = subprocess.run([str(built)], input=assembled(example(f"{name}.yoke")), stdout=subprocess.PIPE,
+                                      stderr=subprocess.PIPE, check=False)
                 board = example(f"expected/{name}.out").split("\n")[1:-2]
-                self.assertEqual((done.stdout.decode().split("\n")[:-1], done.returncode), (board, status), name)
+                self.assertTrue(board)
+                self.assertEqual(done.stdout.decode().split("\n")[:-1], board if status == 0 else [], name)
+                self.assertEqual((done.stderr.decode(), done.returncode), (f"{ending}\n", status), name)
+
+    def test_the_board_that_ends_early(self):
+        """The example at the top: so many lines for so many beds."""
+        source = "variables\n  count = 0\n  beds house = {}\ntree\n  resort = 0\nscript\n  while count < 100\n" \
+                 "    count := count + 1\n    print count\n    if count = beds\n      up\n"
+        said = re.search(r"leaves a board of (\d+) lines for (\d+) beds, and of (\d+) for (\d+)", TEXT).groups()
+        for lines, beds in (said[:2], said[2:]):
+            done = subprocess.run([program("board")], input=assembled(source.format(beds)), stdout=subprocess.PIPE,
+                                  stderr=subprocess.PIPE, check=False)
+            self.assertEqual(done.stdout.decode().split("\n")[-2], f"end {lines}")
+
+    def test_no_exit_status(self):
+        """A program ends with 0 even where its board is lost."""
+        self.assertIn("shows on no exit status", TEXT)
+        with open("/dev/full", "wb") as full:
+            done = subprocess.run([program("board")], input=assembled(example("first.yoke")), stdout=full, stderr=subprocess.PIPE, check=False)
+        self.assertEqual(done.returncode, 0)
+
+
+class Said(unittest.TestCase):
+    def test_words(self):
+        """Each word of ours is explained where it is used first."""
+        for word, used in (("paper 01", r"paper 01"), ("demands", r"demand"), ("lent", r"\b(?:lent|lends?)\b"), ("walk", r"\bwalk"),
+                           ("landing", r"\bland(?:ing|ed)")):
+            with self.subTest(word):
+                first = re.search(used, TEXT, re.I).start()
+                self.assertEqual(TEXT[first - 1:first + len(word) + 1], f"*{word}*")
+
+    def test_needs(self):
+        """What is needed for which command: each command of the Makefile that needs something, each program."""
+        (table,) = re.findall(r"^\| to use \| you need \|\n\|[-|]+\|\n((?:\|.*\|\n)+)", TEXT, re.M)
+        for program_name in ("gcc", "g++", "valgrind", "cargo", "clang", "rt", "pkg-config", "xxd", "python3"):
+            self.assertIn(f"`{program_name}`", table)
+        self.assertIn("Python 3.7", table)
+        rules = set(re.findall(r"^([a-z]+):", (HOME / "Makefile").read_text(encoding="utf-8"), re.M))
+        self.assertEqual(rules - {"help", "fmt", "clean"}, set(re.findall(r"`make ([a-z]+)`", "".join(re.findall(r"^\| ([^|]+)\|", table, re.M)))))
+
+    def test_python(self):
+        """The Python that is asked for can read the tool."""
+        files = [HOME / "tools" / "job", *(HOME / "tools").rglob("*.py"), *(HOME / "tests").rglob("*.py")]
+        for path in files:
+            with self.subTest(str(path)):
+                ast.parse(path.read_text(encoding="utf-8"), feature_version=(3, 7))
+
+    def test_pages(self):
+        for path in re.findall(r"\bdocs/[\w/]+\.md", TEXT):
+            self.assertTrue((HOME / path).is_file(), path)
+        for path in (HOME / "docs").glob("*.md"):
+            self.assertIn(f"docs/{path.name}", TEXT)
 
 
 if __name__ == "__main__":
