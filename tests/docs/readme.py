@@ -4,6 +4,7 @@ import ast
 import os
 import re
 import subprocess
+import sys
 import textwrap
 import unittest
 from pathlib import Path
@@ -97,11 +98,12 @@ class Shown(unittest.TestCase):
 
 class Said(unittest.TestCase):
     def test_words(self):
-        """Each word of ours is explained where it is used first."""
+        """Each word of ours is explained where it is used first; a name in backticks is no use."""
+        prose = re.sub(r"`[^`\n]+`", lambda found: "~" * len(found.group()), TEXT)
         for word, used in (("paper 01", r"paper 01"), ("demands", r"demand"), ("lent", r"\b(?:lent|lends?)\b"), ("walk", r"\bwalk"),
                            ("landing", r"\bland(?:ing|ed)")):
             with self.subTest(word):
-                first = re.search(used, TEXT, re.I).start()
+                first = re.search(used, prose, re.I).start()
                 self.assertEqual(TEXT[first - 1:first + len(word) + 1], f"*{word}*")
 
     def test_needs(self):
@@ -115,10 +117,11 @@ class Said(unittest.TestCase):
 
     def test_python(self):
         """The Python that is asked for can read the tool."""
+        version = {"feature_version": (3, 7)} if sys.version_info >= (3, 8) else {}
         files = [HOME / "tools" / "job", *(HOME / "tools").rglob("*.py"), *(HOME / "tests").rglob("*.py")]
         for path in files:
             with self.subTest(str(path)):
-                ast.parse(path.read_text(encoding="utf-8"), feature_version=(3, 7))
+                ast.parse(path.read_text(encoding="utf-8"), **version)
 
     def test_pages(self):
         for path in re.findall(r"\bdocs/[\w/]+\.md", TEXT):
