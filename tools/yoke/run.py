@@ -149,7 +149,7 @@ class Run:
         if not holds:
             raise Stopped(FLOW)
 
-    def flow(self, record, level):
+    def flow(self, level):
         """L of the paper, for an expression of this level."""
         return max(level, self.position())
 
@@ -176,7 +176,7 @@ class Run:
 
     def store(self, record):
         value, level = self.evaluate(record)
-        level = self.flow(record, level)
+        level = self.flow(level)
         if record.command == ASSIGN:
             self.rule(level <= self.job.variables[record.target].level)
             self.values[record.target] = value
