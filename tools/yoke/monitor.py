@@ -110,8 +110,8 @@ def frame(data, limits):
     return FRAME.pack(len(data), limits.budget, limits.places, limits.lines) + data
 
 
-def replay(frames):
-    """The outcome of each frame, in order. The frames are written while the answers are read."""
+def replay(frames, brief=False):
+    """The outcome of each frame, in order; in brief, without variables and tree. The frames are written while the answers are read."""
     child = start("replay")
 
     def feed():
@@ -128,7 +128,7 @@ def replay(frames):
     answers = Answers(rows)
     try:
         while answers.more():
-            yield answers.read()
+            yield answers.read(brief)
     except (ValueError, IndexError) as problem:
         child.kill()
         raise misread("replay", problem, child.wait(), answers.row or "") from None
@@ -167,7 +167,11 @@ class Answers:
             found.append(self.numbers(word))
         return found
 
-    def read(self):
+    def pass_over(self, *words):
+        while self.row is not None and self.row.split(" ", 1)[0] in words:
+            self.next()
+
+    def read(self, brief):
         (number,) = self.numbers("job")
         if number != self.count:
             raise ValueError(f"job {self.count} expected, there is job {number}")
@@ -176,6 +180,8 @@ class Answers:
         lines = [value for (value,) in self.several("line")]
         if len(lines) != count:
             raise ValueError(f"{count} lines expected, there are {len(lines)}")
+        if brief:
+            self.pass_over("variable", "node")
         variables = [(level, value) for level, value in self.several("variable")]
         tree = [Picture("", existence, content, below, value, depth)
                 for depth, existence, content, below, value in self.several("node")]

@@ -124,7 +124,7 @@ def boards(variations, count, limits, progress):
     found = {}
     frames = (frame(variations[number].encode(), limits) for number in range(count))
     total = 0
-    for number, outcome in enumerate(replay(frames)):
+    for number, outcome in enumerate(replay(frames, brief=True)):
         board = found.setdefault(tuple(outcome.lines), Board(tuple(outcome.lines), number, Counter()))
         board.endings[outcome.ending, outcome.record] += 1
         total = number + 1
@@ -191,7 +191,7 @@ def stops(source, variations, found):
     for (ending, record), came in sorted(by_stop.items(), key=lambda item: -sum(count for _, count in item[1])):
         place = source.names.record_places[record]
         lengths = [length for length, _ in came]
-        span = f"{lengths[0]} lines" if len(set(lengths)) == 1 else f"{min(lengths)} to {max(lengths)} lines"
+        span = plural(lengths[0], "line") if len(set(lengths)) == 1 else f"{min(lengths)} to {max(lengths)} lines"
         lines += ["", f"{place}: stopped with {ending_text(ending)}: {plural(sum(count for _, count in came), 'run')}, boards of {span}"]
         lines += quoted(place)
     return lines
