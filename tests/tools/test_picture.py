@@ -199,6 +199,9 @@ n0 = 0
     def test_a_run_shows_its_last_tree_in_short(self):
         done = tool("run", "-", data=tree_of(LARGE["star"]), INSPECT=program("inspect"))
         self.assertIn("  ├─ ⋮ 503 more\n", done.output)
+        done = tool("run", "-", "--all", data=tree_of(LARGE["star"]), INSPECT=program("inspect"))
+        self.assertNotIn("⋮", done.output)
+        self.assertIn("  └─ n511 = 511\n", done.output)
 
     def test_a_long_name_is_cut_and_told(self):
         svg = drawn("tree\n  " + "x" * 300 + " = 1\n")

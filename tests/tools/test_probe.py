@@ -23,7 +23,9 @@ script
 
 
 def probe(text, *words):
-    return tool("probe", "-", *words, data=text, REPLAY=program("replay"))
+    """300 runs, unless said otherwise; each small number comes."""
+    count = () if "--count" in words else ("--count", "300")
+    return tool("probe", "-", *count, *words, data=text, REPLAY=program("replay"))
 
 
 def said(done):
@@ -32,7 +34,7 @@ def said(done):
 
 class Leaks(unittest.TestCase):
     def test_the_example(self):
-        done = probe(LEAK)
+        done = tool("probe", "-", data=LEAK, REPLAY=program("replay"))
         self.assertEqual((done.status, done.error), (1, ""))
         # With 1 to 99 beds the board has as many lines; with 100 it has 100, as with any other number.
         self.assertTrue(done.output.startswith("<standard input>: 1,000 runs with different house numbers, 100 different boards\n"))
@@ -103,8 +105,8 @@ class Silent(unittest.TestCase):
     def test_one_board(self):
         done = probe((HOME / "examples" / "guests.yoke").read_text())
         self.assertEqual((done.status, done.error), (0, ""))
-        self.assertTrue(done.output.startswith("<standard input>: 1,000 runs with different house numbers, one board\n"))
-        self.assertIn("      2    1,000  finished\n", done.output)
+        self.assertTrue(done.output.startswith("<standard input>: 300 runs with different house numbers, one board\n"))
+        self.assertIn("      2      300  finished\n", done.output)
         self.assertIn("this tries many, not all", said(done))
 
     def test_nothing_of_the_house(self):

@@ -2,6 +2,7 @@
 
 import os
 import pty
+import shutil
 import signal
 import subprocess
 import sys
@@ -156,8 +157,12 @@ class Progress(unittest.TestCase):
         main, other = pty.openpty()
         done = subprocess.run(self.CALL, cwd=HOME, stdout=subprocess.PIPE, stderr=other, check=False)
         os.close(other)
-        shown = os.read(main, 65_536).decode()
-        os.close(main)
+        shown = ""
+        try:
+            while True:
+                shown += os.read(main, 65_536).decode()
+        except OSError:  # all is read
+            os.close(main)
         self.assertEqual(done.returncode, 0)
         self.assertRegex(shown, r"\r[0-9,]+ of 4,000 runs")
         self.assertTrue(shown.endswith(" \r"), shown)
@@ -202,6 +207,14 @@ class Programs(unittest.TestCase):
             self.assertEqual((done.status, done.output), (2, ""))
             self.assertIn(f"the program {name} is not there", done.error)
             self.assertIn("run this in the repository:  make programs\n", done.error)
+        with scratch() as folder:  # as in a fresh clone
+            shutil.copytree(str(HOME / "tools"), folder + "/tools")
+            shutil.copytree(str(HOME / "examples"), folder + "/examples")
+            variables = {name: value for name, value in os.environ.items() if name not in ("INSPECT", "REPLAY")}
+            done = subprocess.run(["tools/job", "run", "examples/first.yoke"], cwd=folder, env=variables, stdout=subprocess.PIPE,
+                                  stderr=subprocess.PIPE, check=False)
+        self.assertEqual((done.returncode, done.stdout), (2, b""))
+        self.assertTrue(done.stderr.decode().endswith("run this in the repository:  make programs\n"), done.stderr)
         makefile = (HOME / "Makefile").read_text(encoding="utf-8")
         self.assertRegex(makefile, r"(?m)^programs:")
 

@@ -287,8 +287,8 @@ def agrees(run, outcome):
         outcome.ending, outcome.record, outcome.steps, outcome.lines, values, outcome.tree)
 
 
-def report(run, outcome):
-    """The outcome of a job that was run and followed, in lines."""
+def report(run, outcome, whole=False):
+    """The outcome of a job that was run and followed, in lines; of the tree, all or what is left of long runs."""
     source, same = run.source, agrees(run, outcome)
     if outcome.ending == FINISHED:
         lines = [f"{source.path}: finished after {plural(outcome.steps, 'step')}"]
@@ -301,7 +301,7 @@ def report(run, outcome):
     for name, (level, value) in zip(source.names.variables, outcome.variables):
         lines.append(f"  {name}{levels_text(level, level, level)} = {value}")
     nodes = drawn_tree(run.root) if same else [row._replace(name=f"node {index}") for index, row in enumerate(outcome.tree)]
-    lines += ["", "tree at the end"] + ["  " + row for row in text_picture(nodes)]
+    lines += ["", "tree at the end"] + ["  " + row for row in text_picture(nodes, whole)]
     return lines
 
 

@@ -14,7 +14,7 @@ from .listing import listing
 from .streams import warn
 from .words import decoded
 
-MOST = 2**24  # bytes; no source of this size makes a job
+MOST = 2**20  # bytes; 23,048 is the most of a job, and a source of this size makes none
 
 
 def shown(path):

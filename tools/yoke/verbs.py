@@ -130,7 +130,7 @@ def do_run(options):
         for row in trace(run):
             print(row)
         print()
-    print("\n".join(report(run.go(), answer)))
+    print("\n".join(report(run.go(), answer, options.all)))
     return 0 if answer.ending == FINISHED else 1
 
 
@@ -204,13 +204,14 @@ def parser():
     kinds = one.add_mutually_exclusive_group()
     kinds.add_argument("--svg", metavar="FILE", help="write an SVG to FILE, - for standard output")
     kinds.add_argument("--text", action="store_true", help="print the tree in characters (this is the default)")
-    one.add_argument("--all", action="store_true", help="leave nothing out of the text, however long a run is")
+    one.add_argument("--all", action="store_true", help="leave nothing out of the text, however long a row is")
     one = verb("explain", "the help page of an ending", do_explain)
     one.add_argument("number", metavar="N", nargs="?", type=number_from(0, 999), help="an ending")
     one = verb("run", "run a source or job and explain the outcome", do_run)
     one.add_argument("job", metavar="SOURCE|JOB", help="a source or a job, or - for standard input")
     add_limits(one)
     one.add_argument("--trace", action="store_true", help="first a line for each step")
+    one.add_argument("--all", action="store_true", help="leave nothing out of the last tree, however long a row is")
     one = verb("probe", "run it with many house numbers and compare the boards", do_probe)
     one.add_argument("job", metavar="SOURCE|JOB", help="a source or a job, or - for standard input")
     add_limits(one)
