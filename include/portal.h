@@ -61,7 +61,7 @@ enum {
     PORTAL_TABLE_FULL = 23,         /* a new node, where there are 512 already */
     PORTAL_BOARD_FULL = 24,         /* a board line, where the area is full */
     PORTAL_BUDGET_USED_UP = 25,     /* as many steps as the budget allows */
-    PORTAL_LOW_CONTEXT = 26         /* a new node, less secret than the node worked at; it is proved that this is never given */
+    PORTAL_LOW_CONTEXT = 26         /* a new node, less secret than the node worked at; it is proved that no call gives this */
 };
 
 /* Runs one job.

@@ -123,8 +123,9 @@ class Names(unittest.TestCase):
 
 class Walks(unittest.TestCase):
     def test_explained(self):
-        """The word is explained where it is used first."""
-        first = re.search(r"\bwalks?\b", re.sub(r"`[^`\n]+`", lambda found: "~" * len(found.group()), TEXT)).start()
+        """The word is explained where the prose uses it first."""
+        prose = re.sub(r"`[^`\n]+`|^## .*$", lambda found: "~" * len(found.group()), TEXT, flags=re.M)
+        first = re.search(r"\bwalks?\b", prose).start()
         self.assertEqual(TEXT[first - 1:first + 5], "*walk*")
 
 

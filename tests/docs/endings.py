@@ -110,8 +110,8 @@ class Jobs(unittest.TestCase):
         page = PAGES[f"{NEVER}.md"]
         self.assertIn("It is proved that no run gives it", page.text)
         self.assertEqual([page.block(kind) for kind in ("yoke", "hex", "text")], [None] * 3)
-        proof = re.search(r"`(crates/\S+\.antt)`", page.text).group(1)
-        self.assertTrue((HOME / proof).is_file(), proof)
+        theorem, proof = re.search(r"`([\w-]+)` in `(crates/\S+\.antt)`", page.text).groups()
+        self.assertRegex(read(proof), rf"(?m)^pub {theorem} :")
 
 
 if __name__ == "__main__":

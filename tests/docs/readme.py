@@ -9,7 +9,7 @@ import textwrap
 import unittest
 from pathlib import Path
 
-from support import HOME, assembled, program, scratch
+from support import HOME, assembled, program, scratch, tool
 
 TEXT = (HOME / "README.md").read_text(encoding="utf-8")
 # Indented blocks, without their indentation; blank lines belong to the block around them.
@@ -122,6 +122,24 @@ class Said(unittest.TestCase):
         for path in files:
             with self.subTest(str(path)):
                 ast.parse(path.read_text(encoding="utf-8"), **version)
+
+    def test_tool(self):
+        """Each verb and option of the tool that is shown."""
+        for call in re.findall(r"`tools/job ([a-z][^`]*)`", TEXT):
+            with self.subTest(call):
+                verb, *words = call.split()
+                help_text = tool(verb, "--help")
+                self.assertEqual(help_text.status, 0)
+                for option in (word for word in words if word.startswith("-")):
+                    self.assertRegex(help_text.output, rf"(?m)^  (?:-\w[^,\n]*, )?{option}\b|^  {option}\b")
+
+    def test_examples(self):
+        """Each example that is named, and no example is left out."""
+        (said,) = re.findall(r"^`examples/` has more:(.*?)\n\n", TEXT, re.M | re.S)
+        named = {name for name in re.findall(r"\(`([\w-]+)`", said)}
+        found = {path.stem for path in (HOME / "examples").glob("*.yoke")}
+        self.assertEqual({name for name in named if not name.startswith("trap")} | {"first"},
+                         {name for name in found if not name.startswith("trap")})
 
     def test_pages(self):
         for path in re.findall(r"\bdocs/[\w/]+\.md", TEXT):

@@ -42,9 +42,9 @@ class Commands(unittest.TestCase):
                          [index for index, row in enumerate(job.COMMANDS) if row.expression])
 
     def test_who_has_a_rule(self):
-        """An if, an else, a while, an end and nothing are never stopped by a rule."""
-        free = {"nothing", "if ..", "else", "while ..", "end"}
-        self.assertEqual({row[1].strip("`") for row in self.rows if not row[3]}, free)
+        """Those that the tool has a sentence for; an if, an else, a while, an end and nothing are never stopped by a rule."""
+        self.assertEqual({int(row[0]) for row in self.rows if row[3]}, set(job.RULES))
+        self.assertEqual({row[1].strip("`") for row in self.rows if not row[3]}, {"nothing", "if ..", "else", "while ..", "end"})
 
     def test_every_command_is_in_the_definitions(self):
         (count,) = re.findall(r"^commandCount = (\d+)$", read("crates/rules/specs/Limits.antt"), re.M)
