@@ -27,7 +27,7 @@ def example(name):
     return (HOME / "examples" / name).read_text(encoding="utf-8")
 
 
-class Session:
+class Transcript:
     """A block of commands, each after a `$ `, with what the last one prints. A line `..` stands for any lines."""
 
     def __init__(self, text):
@@ -47,15 +47,15 @@ class Session:
 
 
 class Shown(unittest.TestCase):
-    def test_sessions(self):
+    def test_commands(self):
         """Each command, as a reader gives it."""
-        sessions = [Session(text) for text in BLOCKS if text.startswith("$ ")]
-        self.assertEqual([session.commands[-1].split()[0] for session in sessions], ["make", "tools/job", "tools/job"])
-        for session in sessions:
-            with self.subTest(session.commands[-1]):
-                output, done = session.output()
-                self.assertRegex(output, session.pattern(), done.stderr)
-                self.assertIsNotNone(session.pattern().fullmatch(output), output)
+        transcripts = [Transcript(text) for text in BLOCKS if text.startswith("$ ")]
+        self.assertEqual([transcript.commands[-1].split()[0] for transcript in transcripts], ["make", "tools/job", "tools/job"])
+        for transcript in transcripts:
+            with self.subTest(transcript.commands[-1]):
+                output, done = transcript.output()
+                self.assertRegex(output, transcript.pattern(), done.stderr)
+                self.assertIsNotNone(transcript.pattern().fullmatch(output), output)
 
     def test_board_of_make_run(self):
         self.assertIn(example("expected/depths.out"), block("$ make run") + "\n")
