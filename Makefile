@@ -23,7 +23,7 @@ help:
 run:
 	@python3 -c 'import sys; sys.exit(sys.version_info < (3, 7))' || \
 	  { echo 'make run: tools/job needs Python 3.7 or newer as python3 on the path' >&2; exit 1; }
-	@bash tools/build board inspect
+	@bash tools/build board inspect replay
 	@tools/job assemble examples/depths.yoke -o target/depths.job || \
 	  { echo 'make run: tools/job could not assemble examples/depths.yoke' >&2; exit 1; }
 	@target/bin/board < target/depths.job > target/depths.out || \
