@@ -141,6 +141,18 @@ class Said(unittest.TestCase):
         self.assertEqual({name for name in named if not name.startswith("trap")} | {"first"},
                          {name for name in found if not name.startswith("trap")})
 
+    def test_rattle(self):
+        """The public run and its answers are declared as they are shown."""
+        source = (HOME / "crates/entry/src/lib.rt").read_text(encoding="utf-8")
+        (declared,) = re.findall(r"^pub fn run_job\((.*?)\) -> (\w+)", source, re.M | re.S)
+        parameters = ", ".join(word.strip() for word in declared[0].split(",") if word.strip())
+        self.assertEqual(block("pub fn run_job"), f"pub fn run_job({parameters}) -> {declared[1]}")
+        source = "".join(path.read_text(encoding="utf-8") for path in (HOME / "crates/monitor/src").glob("*.rt"))
+        (body,) = re.findall(r"^pub enum Outcome \{\n(.*?)^\}", source, re.M | re.S)
+        cases = [(name, re.findall(r"(\w+):", fields)) for name, fields in re.findall(r"(\w+) \{(.*?)\}", body, re.S)]
+        shown = re.findall(r"^\| `(\w+) \{ ([\w, ]+) \}` \|", TEXT, re.M)
+        self.assertEqual([(name, fields.split(", ")) for name, fields in shown], cases)
+
     def test_pages(self):
         for path in re.findall(r"\bdocs/[\w/]+\.md", TEXT):
             self.assertTrue((HOME / path).is_file(), path)
