@@ -55,6 +55,16 @@ def drawn_tree(root):
     return rows
 
 
+OPERATIONS = {
+    ALONE: lambda left, right: left,
+    SUM: lambda left, right: signed(left + right),
+    DIFFERENCE: lambda left, right: signed(left - right),
+    EQUAL: lambda left, right: int(left == right),
+    LESS: lambda left, right: int(left < right),
+    MEAN: lambda left, right: (left + right) // 2,
+}
+
+
 class Stopped(Exception):
     def __init__(self, number):
         super().__init__(number)
@@ -120,9 +130,7 @@ class Run:
     def evaluate(self, record):
         """An expression's value, and its level E."""
         sides = [self.operand(kind, number) for kind, number in record.operands()]
-        left, right = sides[0][0], sides[-1][0]
-        value = {ALONE: left, SUM: signed(left + right), DIFFERENCE: signed(left - right),
-                 EQUAL: int(left == right), LESS: int(left < right), MEAN: (left + right) // 2}[record.operator]
+        value = OPERATIONS[record.operator](sides[0][0], sides[-1][0])
         return value, max(level for _, level in sides)
 
     def go(self):
