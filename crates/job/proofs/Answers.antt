@@ -1,21 +1,25 @@
 -- What a caller learns from the answer of the checks: an accepted job meets all eight rules and has the layout of its trailer. Assumes nothing.
-use mathlib.Core.Path.{_≡_, refl}
+use mathlib.Core.Path.{_≡_, refl, sym, _∙_, subst}
 use mathlib.Core.Bool.{true}
 use mathlib.Core.List.{List}
-use Prim.Native.Nat.{ℕ, _≤_}
+use Prim.Native.Nat.{ℕ}
 use native.Mathlib.Omega.{arith}
 use lib.ListN.{length}
-use Rattle.rules.specs.Limits.{maxRecords}
+use Rattle.rules.specs.Limits.{badBlock}
 use Rattle.rules.specs.Bytes.{scriptAt, variableCount, nodeCount, recordCount}
 use Rattle.rules.specs.Check as Check
-use Rattle.rules.specs.Check.{lengthRule, offsetRule, countRule}
+use Rattle.rules.specs.Check.{code, lengthRule, offsetRule, countRule}
+use Rattle.rules.specs.Script.{numberAt}
+use Rattle.rules.specs.Job.{script}
 use Rattle.rules.proofs.Checks.{long-enough, sections, counts}
-use Rattle.rules.proofs.Accepted.{Right}
+use Rattle.rules.proofs.Accepted.{Right, numbered, jumps-agree}
 use Rattle.job.specs.declared.sections.Layout.{Layout}
+use Rattle.job.specs.declared.checks.Checked.{Checked}
 use Rattle.job.specs.declared.checks.Checked.the-variants.{Accepted, Refused}
 use Rattle.job.specs.Layout.{layoutOf, Inside}
-use Rattle.job.specs.Parts.{Fillable}
-use Rattle.job.specs.Answer.{answer}
+use Rattle.job.specs.declared.checks.Script.the-variants.{Sound, Faulty}
+use Rattle.job.specs.Plan.{Partly, Whole, Plans}
+use Rattle.job.specs.Answer.{answer, told, RecordsChecked}
 
 pub is-accepted : (l m : Layout) (c : Check.Checked) → answer l c ≡ Accepted m → (c ≡ Check.accepted) × (m ≡ l)
 unfolding answer
@@ -40,9 +44,46 @@ inside b d e f =
     let n = counts (variableCount b) (nodeCount b) (recordCount b) f in
     record { variables = omega arith; nodes = omega arith; records = omega arith; few = n .nodes; short = n .records }
 
--- the jumps of an accepted job's script can be filled into a list of 1,024 numbers
-pub fillable : (b js : List ℕ) → Right b → maxRecords ≤ length js → Fillable b (scriptAt b) (recordCount b) js
-unfolding layoutOf
-fillable b js r h =
-    let i = inside b (r .lengths) (r .offsets) (r .counts) in
-    record { inside = i .records; few = i .short; long = omega (arith, i .short); right = r .blocks }
+-- a plan by an accepted job's bytes is one by its script
+pub script-plan : (b p p′ : List ℕ) → Right b → Whole (code b (scriptAt b)) (recordCount b) p p′ → Whole (numberAt (script b)) (recordCount b) p p′
+script-plan b p p′ r w =
+    record { each = λ k l. w .each k l ∙ rw (numbered b r k l, jumps-agree b r k l); last = w .last; spare = w .spare }
+
+pub is-sound : (c : Check.Checked) → told c ≡ Sound → c ≡ Check.accepted
+unfolding told
+is-sound Check.accepted e = refl
+is-sound (Check.refused k i) e = let z : _≡_ {A = ℕ} 0 1 = cc in absurd (omega arith)
+
+pub is-faulty : (k i : ℕ) (c : Check.Checked) → told c ≡ Faulty k i → c ≡ Check.refused k i
+unfolding told
+is-faulty k i Check.accepted e = let z : _≡_ {A = ℕ} 0 1 = cc in absurd (omega arith)
+is-faulty k i (Check.refused m j) e = cc
+
+-- what the checks have made of the words of a plan, by what they say
+module _ (code : ℕ → ℕ) (n : ℕ) (c : Check.Checked) (p p′ : List ℕ) where
+  pub plans-whole : c ≡ Check.accepted → Whole code n p p′ → Plans code n c p p′
+  plans-whole e w =
+      record { whole = λ f. w; partly = λ i f. never-both badBlock i c e f; untouched = λ k i m f. never-both k i c e f }
+
+  pub plans-partly : (i : ℕ) → c ≡ Check.refused badBlock i → Partly code n i p p′ → Plans code n c p p′
+  plans-partly i e w =
+      record {
+        whole = λ f. never-both badBlock i c f e;
+        partly = λ j f. let z : i ≡ j = cc in rw z at w;
+        untouched = λ k j m f. let z : k ≡ badBlock = cc in absurd (m z);
+      }
+
+  pub plans-not : (k i : ℕ) → (k ≡ badBlock → ⊥) → c ≡ Check.refused k i → p′ ≡ p → Plans code n c p p′
+  plans-not k i m e q =
+      record {
+        whole = λ f. never-both k i c f e;
+        partly = λ j f. let z : k ≡ badBlock = cc in absurd (m z);
+        untouched = λ l j o f. q;
+      }
+
+-- the same of what is equal
+pub plans-along : {code : ℕ → ℕ} {n : ℕ} {c d : Check.Checked} {p p′ : List ℕ} → d ≡ c → Plans code n c p p′ → Plans code n d p p′
+plans-along {code} {n} {c} {d} {p} {p′} e w = subst (λ (v : Check.Checked). Plans code n v p p′) (sym e) w
+
+pub checked-along : {b p p′ : List ℕ} {l m : Layout} {r : Checked} → l ≡ m → RecordsChecked b l p p′ r → RecordsChecked b m p p′ r
+checked-along {b} {p} {p′} {l} {m} {r} e w = subst (λ (k : Layout). RecordsChecked b k p p′ r) e w

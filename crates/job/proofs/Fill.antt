@@ -1,90 +1,147 @@
--- The jumps that are known after a record, from those before it: a record that closes no part gives its own, one that closes a part gives its own
--- and that part's, since the record that closes a part is the one at which it is innermost. Assumes nothing.
-use mathlib.Core.Path.{_≡_, refl, sym, ap, _∙_}
-use mathlib.Core.Bool.{false}
-use mathlib.Core.List.{List, _∷_, tail}
-use Prim.Native.Nat.{ℕ, suc, _+_, _<_}
+-- The words of a plan after a record, from those before it: a record that closes no part stores its own word, one that closes a part its own and
+-- that part's, since the record that closes a part is the one at which it is innermost. Assumes nothing.
+use mathlib.Core.Path.{_≡_, refl, sym, ap, _∙_, subst}
+use mathlib.Core.Bool.{Bool, true, false, cond}
+use mathlib.Core.List.{List, [], _∷_, tail}
+use Prim.Native.Nat.{ℕ, suc, _+_, _≤_, _<_}
 use native.Mathlib.Omega.{arith}
 use native.Mathlib.Numerals.{add-one}
 use lib.Dec.{eqb}
-use lib.ListN.{getD, set, length-set}
+use lib.ListN.{length, getD, set, length-set}
 use lib.Seq.{getD-set-same, getD-set-other}
 use borrow.Author.Tests.{eq-eqb, ne-eqb, eqb-true, eqb-false}
 use Rattle.rules.specs.Blocks.{parts, pastEnd, goesTo}
-use Rattle.rules.proofs.Tests.{Test, holds, fails, test, neither, clash}
+use Rattle.rules.proofs.Tests.{Test, holds, fails, test}
 use Rattle.rules.proofs.Parts.{Kind, opener, divider, ender, other, kind, after-open, after-else, after-end, after-plain}
-use Rattle.rules.proofs.Parts.{else-closes, end-closes, before, begun}
+use Rattle.rules.proofs.Parts.{Falls, empty, next, else-closes, end-closes, before, begun, parts-below}
 use Rattle.rules.proofs.Jumps.{isIn, closed-here, goes-plain, goes-past-else, goes-past-end, goes-to-end, goes-back}
-use Rattle.job.specs.Parts.{Known, Kept}
+use Rattle.job.specs.Plan.{entry, endMark, planned, Partly, Whole}
+use Rattle.job.specs.Parts.{endStored}
 
-module _ (code : ℕ → ℕ) (n i : ℕ) (js : List ℕ) (h : i < n) (w : Known code n i js) where
-  -- what record i makes of the list
-  abbrev pub Settled : List ℕ → Type 0
-  Settled js′ = Known code n (suc i) js′ × Kept n js js′
+-- a falling list holds nothing from its bound on
+absent : {P : ℕ → List ℕ → Type 0} {i : ℕ} {os : List ℕ} (k : ℕ) → i ≤ k → Falls P i os → isIn k os ≡ false
+unfolding isIn
+absent k h empty = refl
+absent k h (next {o = o} l p b) = rw (ne-eqb k o (λ q. omega arith)) (absent k (omega arith) b)
+
+-- what stands behind the first entry falls from it
+behind : {P : ℕ → List ℕ → Type 0} {i o : ℕ} {os : List ℕ} → Falls P i (o ∷ os) → Falls P o os
+behind (next l p b) = b
+
+module _ (code : ℕ → ℕ) (n i : ℕ) (p q : List ℕ) (h : i < n) (long : i < length q) (w : Partly code n i p q) where
+  -- the word of a record whose part is open, or which goes to the next
+  opened : (k j : ℕ) → isIn k (parts code j) ≡ true → entry (code k) (suc k) ≡ planned code n j k
+  unfolding planned
+  opened k j e = rw e
+
+  settled : (k j : ℕ) → isIn k (parts code j) ≡ false → entry (code k) (goesTo code n k) ≡ planned code n j k
+  unfolding planned
+  settled k j e = rw e
+
+  same : (k j : ℕ) → isIn k (parts code j) ≡ isIn k (parts code i) → planned code n i k ≡ planned code n j k
+  unfolding planned
+  same k j e = rw e
+
+  abbrev u : ℕ
+  u = entry (code i) (i + 1)
 
   -- a record that closes no part
-  pub fill-first : (code i ≡ 3 → ⊥) → (code i ≡ 5 → ⊥) → Settled (set js i (i + 1))
-  unfolding parts isIn
-  fill-first n3 n5 = (
-    record { long = simp length-set (w .long); right = λ k l m. go k l (kind (code i)) m (test (eqb k i)) },
-    record { spare = λ k l. getD-set-other js i k (i + 1) 0 (λ q. omega arith) },
-  )
+  pub fill-first : (code i ≡ 3 → ⊥) → (code i ≡ 5 → ⊥) → Partly code n (suc i) p (set q i (entry (code i) (i + 1)))
+  unfolding parts isIn planned
+  fill-first n3 n5 =
+      record {
+        each = λ k l. go k l (kind (code i)) (test (eqb k i));
+        spare = λ k l. getD-set-other q i k _ 0 (λ z. omega arith) ∙ w .spare k (omega arith);
+      }
     where
-      earlier : (k : ℕ) → k < suc i → eqb k i ≡ false → isIn k (parts code i) ≡ false → getD (set js i (i + 1)) k 0 ≡ goesTo code n k
-      earlier k l q m = getD-set-other js i k (i + 1) 0 (eqb-false k i q) ∙ w .right k (omega (arith, eqb-false k i q)) m
+      own : planned code n (suc i) i ≡ u → getD (set q i u) i 0 ≡ planned code n (suc i) i
+      own e = getD-set-same q i u 0 long ∙ sym e
 
-      go : (k : ℕ) → k < suc i → Kind (code i) → isIn k (parts code (suc i)) ≡ false → Test (eqb k i) → getD (set js i (i + 1)) k 0 ≡ goesTo code n k
-      go k l (opener a) m t = let z = neither _ _ (rw (after-open (code i) i (parts code i) a) at m) in earlier k l (z .0) (z .1)
-      go k l (divider a) m t = absurd (n3 a)
-      go k l (ender a) m t = absurd (n5 a)
-      go k l (other a) m (fails q) = earlier k l q (rw (after-plain (code i) i (parts code i) a) at m)
-      go k l (other a) m (holds q) =
-          rw (eqb-true k i q) (getD-set-same js i (i + 1) 0 (omega (arith, w .long)) ∙ add-one i ∙ sym (goes-plain code n i a))
+      earlier : (k : ℕ) → k < suc i → eqb k i ≡ false → isIn k (parts code (suc i)) ≡ isIn k (parts code i)
+          → getD (set q i u) k 0 ≡ planned code n (suc i) k
+      earlier k l e s =
+          getD-set-other q i k u 0 (eqb-false k i e) ∙ w .each k (omega (arith, eqb-false k i e)) ∙ same k (suc i) s
+
+      -- whether or not a part is taken to be open at a plain record, it goes to the next
+      to-next : (t : Bool) → goesTo code n i ≡ suc i → entry (code i) (cond t (suc i) (goesTo code n i)) ≡ u
+      to-next true e = rw add-one
+      to-next false e = rw (e, add-one)
+
+      go : (k : ℕ) → k < suc i → Kind (code i) → Test (eqb k i) → getD (set q i u) k 0 ≡ planned code n (suc i) k
+      go k l (divider a) t = absurd (n3 a)
+      go k l (ender a) t = absurd (n5 a)
+      go k l (opener a) (fails z) = earlier k l z (rw (after-open (code i) i (parts code i) a, z))
+      go k l (opener a) (holds z) =
+          rw (eqb-true k i z) (own (sym (opened i (suc i) (rw (after-open (code i) i (parts code i) a, eq-eqb i i refl))) ∙ rw add-one))
+      go k l (other a) (fails z) = earlier k l z (rw (after-plain (code i) i (parts code i) a))
+      go k l (other a) (holds z) = rw (eqb-true k i z) (own (to-next (isIn i (parts code (suc i))) (goes-plain code n i a)))
 
   -- a record that closes the innermost part, begun at o
   module _ (o : ℕ) (os : List ℕ) (e : parts code i ≡ o ∷ os) where
     below : o < i
     below = before code i o os e
 
-    -- it gives itself the jump u and the part the jump v, and leaves the parts ps
-    closing : (u v : ℕ) (ps : List ℕ) → parts code (suc i) ≡ ps → ((k : ℕ) → isIn k ps ≡ false → isIn k os ≡ false)
-        → (isIn i ps ≡ false → u ≡ goesTo code n i) → v ≡ goesTo code n o → Settled (set (set js i u) o v)
-    unfolding isIn
-    closing u v ps p inside own its = (
-      record { long = simp length-set (w .long); right = λ k l m. go k l (rw p at m) (test (eqb k i)) (test (eqb k o)) },
-      record { spare = λ k l. getD-set-other (set js i u) o k v 0 (λ q. omega (arith, below)) ∙ getD-set-other js i k u 0 (λ q. omega arith) },
-    )
-      where
-        go : (k : ℕ) → k < suc i → isIn k ps ≡ false → Test (eqb k i) → Test (eqb k o) → getD (set (set js i u) o v) k 0 ≡ goesTo code n k
-        go k l m t (holds q) =
-            rw (eqb-true k o q) (getD-set-same (set js i u) o v 0 (simp length-set (omega (arith, w .long, below))) ∙ its)
-        go k l m (holds r) (fails q) =
-            rw (eqb-true k i r)
-            (getD-set-other (set js i u) o i v 0 (λ z. omega (arith, below)) ∙ getD-set-same js i u 0 (omega (arith, w .long))
-            ∙ own (rw (eqb-true k i r) at m))
-        go k l m (fails r) (fails q) =
-            getD-set-other (set js i u) o k v 0 (eqb-false k o q) ∙ getD-set-other js i k u 0 (eqb-false k i r)
-            ∙ w .right k (omega (arith, eqb-false k i r)) (rw (e, q) (inside k m))
+    -- neither the record nor the part is among the parts around it
+    outside : (k : ℕ) → o ≤ k → isIn k os ≡ false
+    outside k l = absent k l (behind (rw e at (parts-below code i)))
 
-    pub fill-else : code i ≡ 3 → code o ≡ 2 → Settled (set (set js i (i + 1)) o (i + 1))
+    -- it stores the words u and v, and leaves the parts ps
+    closing : (u v : ℕ) (ps : List ℕ) → parts code (suc i) ≡ ps → ((k : ℕ) → eqb k i ≡ false → isIn k ps ≡ isIn k os)
+        → u ≡ planned code n (suc i) i → v ≡ planned code n (suc i) o → Partly code n (suc i) p (set (set q i u) o v)
+    unfolding isIn
+    closing u v ps a others own its =
+        record {
+          each = λ k l. go k l (test (eqb k i)) (test (eqb k o));
+          spare = λ k l.
+              getD-set-other (set q i u) o k v 0 (λ z. omega (arith, below)) ∙ getD-set-other q i k u 0 (λ z. omega arith) ∙ w .spare k (omega arith);
+        }
+      where
+        go : (k : ℕ) → k < suc i → Test (eqb k i) → Test (eqb k o) → getD (set (set q i u) o v) k 0 ≡ planned code n (suc i) k
+        go k l t (holds z) =
+            rw (eqb-true k o z) (getD-set-same (set q i u) o v 0 (simp length-set (omega (arith, below))) ∙ its)
+        go k l (holds r) (fails z) =
+            rw (eqb-true k i r) (getD-set-other (set q i u) o i v 0 (λ x. omega (arith, below)) ∙ getD-set-same q i u 0 long ∙ own)
+        go k l (fails r) (fails z) =
+            getD-set-other (set q i u) o k v 0 (eqb-false k o z) ∙ getD-set-other q i k u 0 (eqb-false k i r)
+            ∙ w .each k (omega (arith, eqb-false k i r)) ∙ same k (suc i) (rw a (others k r ∙ rw (e, z)))
+
+    pub fill-else : code i ≡ 3 → code o ≡ 2 → Partly code n (suc i) p (set (set q i (entry 3 (i + 1))) o (entry 2 (i + 1)))
     unfolding parts isIn
     fill-else a b =
-        closing (i + 1) (i + 1) (i ∷ os) (after-else (code i) i (parts code i) a ∙ ap (λ (r : List ℕ). i ∷ tail r) e)
-        (λ k m. neither (eqb k i) (isIn k os) m .1) (λ m. clash (eq-eqb i i refl) (neither (eqb i i) (isIn i os) m .0))
-        (add-one i ∙ sym (goes-past-else code n i o b (closed-here code n i o os h e (else-closes (code i) a)) a))
+        let s : parts code (suc i) ≡ i ∷ os = after-else (code i) i (parts code i) a ∙ ap (λ (r : List ℕ). i ∷ tail r) e in
+        let u : entry 3 (i + 1) ≡ entry (code i) (suc i) = rw (a, add-one i) in
+        let v : entry 2 (i + 1) ≡ entry (code o) (goesTo code n o) =
+        rw (b, goes-past-else code n i o b (closed-here code n i o os h e (else-closes (code i) a)) a, add-one i) in
+        closing _ _ (i ∷ os) s (λ k z. rw z) (u ∙ opened i (suc i) (rw (s, eq-eqb i i refl)))
+        (v ∙ settled o (suc i) (rw (s, ne-eqb o i (λ z. omega (arith, below))) (outside o (omega arith))))
 
     ended : code i ≡ 5 → parts code (suc i) ≡ os
     unfolding parts
     ended a = after-end (code i) i (parts code i) a ∙ ap tail e
 
-    pub fill-while : code i ≡ 5 → code o ≡ 4 → Settled (set (set js i o) o (i + 1))
-    unfolding pastEnd
-    fill-while a b =
-        closing o (i + 1) os (ended a) (λ k m. m) (λ m. sym (goes-back code n i o os a e ∙ rw b))
-        (add-one i ∙ sym (goes-past-end code n i o b (closed-here code n i o os h e (end-closes (code i) a))))
+    -- where the part begun at o goes
+    part-goes : code i ≡ 5 → Test (eqb (code o) 4) → cond (eqb (code o) 4) (suc i) i ≡ goesTo code n o
+    part-goes a (holds z) = rw z (sym (goes-past-end code n i o (eqb-true _ 4 z) (closed-here code n i o os h e (end-closes (code i) a))))
+    part-goes a (fails z) =
+        rw z (sym (goes-to-end code n i o (begun code i o os e) (eqb-false _ 4 z) (closed-here code n i o os h e (end-closes (code i) a)) a))
 
-    pub fill-if : code i ≡ 5 → (code o ≡ 4 → ⊥) → Settled (set (set js i (i + 1)) o i)
-    unfolding pastEnd
-    fill-if a b =
-        closing (i + 1) i os (ended a) (λ k m. m) (λ m. add-one i ∙ sym (goes-back code n i o os a e ∙ rw (ne-eqb _ 4 b)))
-        (sym (goes-to-end code n i o (begun code i o os e) b (closed-here code n i o os h e (end-closes (code i) a)) a))
+    pub fill-end : code i ≡ 5 → Partly code n (suc i) p (endStored code i o q)
+    unfolding endStored
+    fill-end a =
+        closing _ _ os (ended a) (λ k z. refl)
+        (rw (← goes-back code n i o os a e, ← a) (settled i (suc i) (rw (ended a) (outside i (omega (arith, below))))))
+        (rw (part-goes a (test (eqb (code o) 4))) (settled o (suc i) (rw (ended a) (outside o (omega arith)))))
+
+-- behind the last record no part is open, and the end mark makes the plan whole
+pub completed : (code : ℕ → ℕ) (n i : ℕ) (p q : List ℕ) → i ≡ n → n < length q → parts code i ≡ [] → Partly code n i p q → Whole code n p (set q n endMark)
+unfolding planned isIn
+completed code n i p q e h d w =
+    record {
+      each = λ k l. getD-set-other q n k endMark 0 (λ z. omega arith) ∙ w .each k (omega arith) ∙ rw d;
+      last = getD-set-same q n endMark 0 h;
+      spare = λ k l. getD-set-other q n k endMark 0 (λ z. omega arith) ∙ w .spare k (omega arith);
+    }
+
+-- the same of as many records
+pub as-many : {code : ℕ → ℕ} {n i j : ℕ} {p q : List ℕ} → i ≡ j → Partly code n i p q → Partly code n j p q
+as-many {code} {n} {i} {j} {p} {q} e w = subst (λ (m : ℕ). Partly code n m p q) e w

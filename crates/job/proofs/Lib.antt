@@ -1,5 +1,6 @@
 -- Laws that several proofs cite, and what a caller of this crate goes by.
 pub mod Stack
+pub mod Words
 pub mod Fill
 pub mod Siblings
 pub mod Answers

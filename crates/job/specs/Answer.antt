@@ -2,20 +2,21 @@
 use mathlib.Core.Path.{_≡_}
 use mathlib.Core.Bool.{Bool, true, cond}
 use mathlib.Core.List.{List}
-use Prim.Native.Nat.{ℕ, _<_, _≤_}
+use Prim.Native.Nat.{ℕ, suc, _<_, _≤_}
 use lib.Dec.{eqb}
-use lib.ListN.{getD}
 use Rattle.rules.specs.Limits.{badVariable, badParent}
-use Rattle.rules.specs.Bytes.{recordCount}
-use Rattle.rules.specs.Script.{numberAt}
-use Rattle.rules.specs.Blocks.{goesTo}
+use Rattle.rules.specs.Limits.{badRecord, badBlock}
+use Rattle.rules.specs.Bytes.{scriptAt, recordCount, recordPlace}
+use Rattle.rules.specs.Blocks.{blockRule}
 use Rattle.rules.specs.Check as Check
-use Rattle.rules.specs.Check.{checkBytes, variableRule, parentRule, nodeRule}
-use Rattle.rules.specs.Job.{script}
+use Rattle.rules.specs.Check.{requireEach, checkRecords, checkBytes, variableRule, parentRule, nodeRule, recordRule, code}
 use Rattle.job.specs.declared.sections.Layout.{Layout}
 use Rattle.job.specs.declared.checks.Checked.{Checked}
 use Rattle.job.specs.declared.checks.Checked.the-variants.{Accepted, Refused}
+use Rattle.job.specs.declared.checks.Script.{Script}
+use Rattle.job.specs.declared.checks.Script.the-variants.{Sound, Faulty}
 use Rattle.job.specs.Layout.{layoutOf, Inside}
+use Rattle.job.specs.Plan.{Plans}
 
 -- an accepted job with a layout; a refused one with the paper's number and index
 unfoldable pub answer : Layout → Check.Checked → Checked
@@ -42,10 +43,28 @@ pub record Scannable (b : List ℕ) (l : Layout) (k n : ℕ) : Type 0 where
   pub count : n ≡ countOf l k
   pub parents : (k ≡ badVariable → ⊥) → (k ≡ badParent → ⊥) → (i : ℕ) → i < n → parentRule b (l .tree) i ≡ true
 
--- what `prepare` makes of a job's bytes and a list js: the answer of the checks; of an accepted job the jumps of its script, and what
--- stands behind them stays; of a refused job nothing
-pub record Prepared (b js js′ : List ℕ) (r : Checked) : Type 0 where
+-- the checks 7 and 8, of rs script records from script on among vars variables
+abbrev pub checkScript : List ℕ → ℕ → ℕ → ℕ → Check.Checked → Check.Checked
+checkScript b vars script rs next =
+    requireEach badRecord (λ i. recordRule b vars (recordPlace script i)) rs
+    (requireEach badBlock (blockRule (code b script) rs) (suc rs) next)
+
+-- what they hand back
+unfoldable pub told : Check.Checked → Script
+told Check.accepted = Sound
+told (Check.refused k i) = Faulty k i
+
+-- what they make of the words p
+pub record ScriptChecked (b : List ℕ) (base n vs : ℕ) (p p′ : List ℕ) (r : Script) : Type 0 where
+  pub answered : r ≡ told (checkScript b vs base n Check.accepted)
+  pub plans : Plans (code b base) n (checkScript b vs base n Check.accepted) p p′
+
+-- what the checks 4 to 8 make of them
+pub record RecordsChecked (b : List ℕ) (l : Layout) (p p′ : List ℕ) (r : Checked) : Type 0 where
+  pub answered : r ≡ answer l (checkRecords b (l .variables) (l .tree) (l .nodes) (l .script) (l .records))
+  pub plans : Plans (code b (l .script)) (l .records) (checkRecords b (l .variables) (l .tree) (l .nodes) (l .script) (l .records)) p p′
+
+-- what `prepare` makes of a job's bytes and the words p: the answer of the checks, and the plan of the script
+pub record Prepared (b p p′ : List ℕ) (r : Checked) : Type 0 where
   pub answered : r ≡ answer (layoutOf b) (checkBytes b)
-  pub jumps : checkBytes b ≡ Check.accepted → (k : ℕ) → k < recordCount b → getD js′ k 0 ≡ goesTo (numberAt (script b)) (recordCount b) k
-  pub spare : checkBytes b ≡ Check.accepted → (k : ℕ) → recordCount b ≤ k → getD js′ k 0 ≡ getD js k 0
-  pub untouched : (n i : ℕ) → checkBytes b ≡ Check.refused n i → js′ ≡ js
+  pub plans : Plans (code b (scriptAt b)) (recordCount b) (checkBytes b) p p′

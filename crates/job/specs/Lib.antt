@@ -2,4 +2,5 @@
 pub mod Layout
 pub mod Fields
 pub mod Parts
+pub mod Plan
 pub mod Answer

@@ -1,14 +1,15 @@
--- The open parts of a script, as an array with a depth, and the jumps known so far. Assumes nothing.
+-- The open parts of a script, as an array with a depth, and what check 8 comes to. Assumes nothing.
 use mathlib.Core.Path.{_≡_}
-use mathlib.Core.Bool.{Bool, true, false}
+use mathlib.Core.Bool.{Bool, true, cond}
 use mathlib.Core.List.{List, [], _∷_}
 use Prim.Native.Nat.{ℕ, zero, suc, _+_, _≤_, _<_}
-use lib.ListN.{length, getD}
+use lib.Dec.{eqb}
+use lib.ListN.{length, getD, set}
 use Rattle.rules.specs.Limits.{maxDepth, maxRecords, recordSize}
 use Rattle.rules.specs.Bytes.{recordPlace}
-use Rattle.rules.specs.Blocks.{parts, placed, blockRule, goesTo}
-use Rattle.rules.specs.Check.{code}
-use Rattle.rules.proofs.Jumps.{isIn}
+use Rattle.rules.specs.Blocks.{parts, placed, blockRule, pastEnd}
+use Rattle.rules.specs.Check.{code, firstFault}
+use Rattle.job.specs.Plan.{entry, Partly, Whole}
 
 -- the entries of a list below a depth, the last first
 unfoldable pub stack : List ℕ → ℕ → List ℕ
@@ -36,23 +37,17 @@ pub record Fits (b : List ℕ) (base : ℕ) (xs : List ℕ) (d i : ℕ) : Type 0
   pub passes : placedAt b base i ≡ true
   pub few : i < maxRecords
 
--- of the first i of n records, those that began no part still open have their jumps in the list
-pub record Known (code : ℕ → ℕ) (n i : ℕ) (js : List ℕ) : Type 0 where
-  pub long : n ≤ length js
-  pub right : (k : ℕ) → k < i → isIn k (parts code i) ≡ false → getD js k 0 ≡ goesTo code n k
+-- the words that the end i of the part begun at o stores: its own goes "back" to a while, and that of a while "past end"
+unfoldable pub endStored : (ℕ → ℕ) → ℕ → ℕ → List ℕ → List ℕ
+endStored code i o p = set (set p i (entry 5 (pastEnd code i o))) o (entry (code o) (cond (eqb (code o) 4) (suc i) i))
 
--- the entries of a list from n on stay
-pub record Kept (n : ℕ) (js js′ : List ℕ) : Type 0 where
-  pub spare : (k : ℕ) → n ≤ k → getD js′ k 0 ≡ getD js k 0
+-- what record i makes of the words q: where they were those of i records they are those of one more; and an array with a depth spells the parts that are open
+pub record Advanced (code : ℕ → ℕ) (i : ℕ) (q q′ xs : List ℕ) (d : ℕ) : Type 0 where
+  pub spells : Spells xs d (parts code (suc i))
+  pub plans : (n : ℕ) (p : List ℕ) → i < n → Partly code n i p q → Partly code n (suc i) p q′
 
--- a right script of n records, and a list with room for their jumps
-pub record Fillable (b : List ℕ) (base n : ℕ) (js : List ℕ) : Type 0 where
-  pub inside : recordPlace base n ≤ length b
-  pub few : n ≤ maxRecords
-  pub long : n ≤ length js
-  pub right : (k : ℕ) → k < suc n → blockRule (code b base) n k ≡ true
-
--- the jumps of a script of n records, and what stands behind them as before
-pub record Filled (code : ℕ → ℕ) (n : ℕ) (js js′ : List ℕ) : Type 0 where
-  pub jumps : (k : ℕ) → k < n → getD js′ k 0 ≡ goesTo code n k
-  pub kept : Kept n js js′
+-- what check 8 finds in a script of n records, and what it makes of the words p
+pub record Scanned (code : ℕ → ℕ) (n : ℕ) (p p′ : List ℕ) (r : ℕ) : Type 0 where
+  pub found : r ≡ firstFault (blockRule code n) (suc n) 0
+  pub partly : r ≤ n → Partly code n r p p′
+  pub whole : n < r → Whole code n p p′

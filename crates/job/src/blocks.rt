@@ -1,5 +1,6 @@
-// The nesting of blocks: check 8. A block has one part, or two with an else between them: an if, an else and a while begin a part,
-// an else and an end close one. Over the open parts "second else" and "innermost open block is no if" are one test.
+// The nesting of blocks: check 8, and in the same pass the plan of the script. A block has one part, or two with an else between them: an if, an
+// else and a while begin a part, an else and an end close one. Over the open parts "second else" and "innermost open block is no if" are one test.
+use crate::plan::END_MARK;
 use crate::records::ELSE;
 use crate::records::END;
 use crate::records::IF;
@@ -7,13 +8,13 @@ use crate::records::WHILE;
 use crate::records::code_at;
 use rules::limits::MAX_DEPTH;
 ghost use mathlib.Core.Path.{_≡_};
-ghost use Prim.Native.Nat.{suc, _-_, _≤_};
-ghost use lib.ListN.{length, getD};
-ghost use Rattle.rules.specs.Limits.{maxRecords};
+ghost use Prim.Native.Nat.{_+_, _-_, _≤_, _<_};
+ghost use lib.ListN.{length, getD, set};
+ghost use Rattle.rules.specs.Limits.{maxRecords, recordSize};
 ghost use Rattle.rules.specs.Bytes.{recordPlace};
-ghost use Rattle.rules.specs.Blocks.{parts, blockRule};
-ghost use Rattle.rules.specs.Check.{code, firstFault};
-ghost use Rattle.job.specs.Parts.{Spells, placedAt, Stands, Fits};
+ghost use Rattle.rules.specs.Check.{code};
+ghost use Rattle.job.specs.Plan.{entry};
+ghost use Rattle.job.specs.Parts.{placedAt, Stands, Fits, endStored, Advanced, Scanned};
 
 fn wide(x: u16) -> usize
     ensures { λ r. ⌜ r ≡ x ⌝ }
@@ -47,29 +48,77 @@ pub fn block_ok(job: &[u8], base: usize, begun: &[u16], depth: usize, i: usize) 
     }
 }
 
-// The parts that are open after record i, which passes check 8: their number, and in `begun` the records that began them.
-pub fn advance(job: &[u8], base: usize, begun: &mut [u16], depth: usize, i: usize) -> usize
-    requires { ⌜ Fits (now job) base (now begun) depth i ⌝ }
-    ensures { λ r. ⌜ Spells (now (begun .exit)) r (parts (code (now (job .entry)) base) (suc i)) ⌝ }
+// The word of a record: its command, and where it goes if not to the next.
+fn word(command: u8, next: usize) -> u32
+    requires { ⌜ next ≤ maxRecords ⌝ }
+    ensures { λ r. ⌜ r ≡ entry command next ⌝ }
 {
-    match code_at(job, base, i) {
+    command as u32 + 65536 * (next as u32)
+}
+
+// The words of record i and of record o, whose part it closes.
+fn close(plan: &mut [u32], i: usize, own: u32, o: usize, its: u32)
+    requires { ⌜ (i < length (now plan)) × (o < length (now plan)) ⌝ }
+    ensures { λ _. ⌜ now (plan .exit) ≡ set (set (now (plan .entry)) i own) o its ⌝ }
+{
+    plan[i] = own;
+    plan[o] = its;
+}
+
+// The words of the end i and of record o, whose part it closes: back to a while, or on.
+fn end_part(job: &[u8], base: usize, o: usize, i: usize, plan: &mut [u32])
+    requires { ⌜ (recordPlace base o + recordSize ≤ length (now job)) × (o < i) × (i < maxRecords) × (i < length (now plan)) ⌝ }
+    ensures { λ _. ⌜ now (plan .exit) ≡ endStored (code (now (job .entry)) base) i o (now (plan .entry)) ⌝ }
+{
+    let opener = code_at(job, base, o);
+    if opener == WHILE {
+        close(plan, i, word(END, o), o, word(WHILE, i + 1));
+    } else {
+        close(plan, i, word(END, i + 1), o, word(opener, i));
+    }
+}
+
+// Record i, which passes check 8: its word in the plan and that of the part which it closes, and the parts that are open after it, as their number
+// and in `begun` the records that began them.
+pub fn advance(
+    job: &[u8],
+    base: usize,
+    begun: &mut [u16],
+    depth: usize,
+    i: usize,
+    plan: &mut [u32],
+) -> usize
+    requires { ⌜ Fits (now job) base (now begun) depth i × (i < length (now plan)) ⌝ }
+    ensures { λ r. ⌜ Advanced (code (now (job .entry)) base) i (now (plan .entry)) (now (plan .exit)) (now (begun .exit)) r ⌝ }
+{
+    let command = code_at(job, base, i);
+    match command {
         IF | WHILE => {
+            plan[i] = word(command, i + 1);
             begun[depth] = i as u16;
             depth + 1
         }
         ELSE => {
+            let o = innermost(begun, depth);
+            close(plan, i, word(ELSE, i + 1), o, word(IF, i + 1));
             begun[depth - 1] = i as u16;
             depth
         }
-        END => depth - 1,
-        _ => depth,
+        END => {
+            end_part(job, base, innermost(begun, depth), i, plan);
+            depth - 1
+        }
+        _ => {
+            plan[i] = word(command, i + 1);
+            depth
+        }
     }
 }
 
-// The first record that breaks check 8; the count where a block is not closed; one more where there is no fault.
-pub fn first_fault(job: &[u8], base: usize, count: usize) -> usize
-    requires { ⌜ (recordPlace base count ≤ length (now job)) × (count ≤ maxRecords) ⌝ }
-    ensures { λ r. ⌜ r ≡ firstFault (blockRule (code (now (job .entry)) base) count) (suc count) 0 ⌝ }
+// The first record that breaks check 8; the count where a block is not closed; one more where there is no fault, and the plan is whole.
+pub fn first_fault(job: &[u8], base: usize, count: usize, plan: &mut [u32]) -> usize
+    requires { ⌜ (recordPlace base count ≤ length (now job)) × (count ≤ maxRecords) × (count < length (now plan)) ⌝ }
+    ensures { λ r. ⌜ Scanned (code (now (job .entry)) base) count (now (plan .entry)) (now (plan .exit)) r ⌝ }
 {
     let mut begun = [0u16; MAX_DEPTH];
     let mut depth = 0;
@@ -78,8 +127,13 @@ pub fn first_fault(job: &[u8], base: usize, count: usize) -> usize
         if !block_ok(job, base, &begun, depth, i) {
             return i;
         }
-        depth = advance(job, base, &mut begun, depth, i);
+        depth = advance(job, base, &mut begun, depth, i, plan);
         i += 1;
     }
-    if depth == 0 { count + 1 } else { count }
+    if depth == 0 {
+        plan[count] = END_MARK;
+        count + 1
+    } else {
+        count
+    }
 }

@@ -1,8 +1,8 @@
 // The checks of a job's bytes, in order of number.
 use crate::blocks;
-use crate::jumps;
 use crate::nodes::node_ok;
 use crate::nodes::parent_ok;
+use crate::plan::WORDS;
 use crate::records;
 use crate::sections::Layout;
 use crate::sections::counts_ok;
@@ -19,12 +19,13 @@ use rules::limits::BAD_PARENT;
 use rules::limits::BAD_RECORD;
 use rules::limits::BAD_VARIABLE;
 ghost use mathlib.Core.Path.{_≡_};
-ghost use Prim.Native.Nat.{_≤_};
+ghost use Prim.Native.Nat.{_≤_, _<_};
 ghost use lib.ListN.{length};
 ghost use Rattle.rules.specs.Limits.{maxRecords};
-ghost use Rattle.rules.specs.Check.{firstFault, checkRecords, checkBytes};
+ghost use Rattle.rules.specs.Bytes.{recordPlace};
+ghost use Rattle.rules.specs.Check.{firstFault, checkBytes};
 ghost use Rattle.job.specs.Layout.{layoutOf, Inside};
-ghost use Rattle.job.specs.Answer.{answer, ruleOf, Passable, Scannable, Prepared};
+ghost use Rattle.job.specs.Answer.{answer, ruleOf, Passable, Scannable, ScriptChecked, RecordsChecked, Prepared};
 
 // An accepted job with its layout, or the number that turns a job back, with the index of the first faulty record.
 pub enum Checked {
@@ -59,10 +60,44 @@ fn first_fault(job: &[u8], l: Layout, number: u8, count: usize) -> usize
     i
 }
 
+// A sound script, or the number that turns it back, with the index of the first faulty record.
+pub enum Script {
+    Sound,
+    Faulty { number: u8, index: usize },
+}
+
+// The checks 7 and 8, of `count` records from `base` on, and the plan of them.
+fn check_script(
+    bytes: &[u8],
+    base: usize,
+    count: usize,
+    variables: usize,
+    plan: &mut [u32],
+) -> Script
+    requires { ⌜ (recordPlace base count ≤ length (now bytes)) × (count ≤ maxRecords) × (count < length (now plan)) ⌝ }
+    ensures { λ r. ⌜ ScriptChecked (now (bytes .entry)) base count variables (now (plan .entry)) (now (plan .exit)) r ⌝ }
+{
+    let index = records::first_fault(bytes, base, count, variables);
+    if index < count {
+        return Script::Faulty {
+            number: BAD_RECORD,
+            index,
+        };
+    }
+    let index = blocks::first_fault(bytes, base, count, plan);
+    if index <= count {
+        return Script::Faulty {
+            number: BAD_BLOCK,
+            index,
+        };
+    }
+    Script::Sound
+}
+
 // The checks 4 to 8.
-fn check_records(job: &[u8], l: Layout) -> Checked
-    requires { ⌜ Inside (now job) l ⌝ }
-    ensures { λ r. ⌜ r ≡ answer l (checkRecords (now (job .entry)) (l .variables) (l .tree) (l .nodes) (l .script) (l .records)) ⌝ }
+fn check_records(job: &[u8], l: Layout, plan: &mut [u32]) -> Checked
+    requires { ⌜ Inside (now job) l × (maxRecords < length (now plan)) ⌝ }
+    ensures { λ r. ⌜ RecordsChecked (now (job .entry)) l (now (plan .entry)) (now (plan .exit)) r ⌝ }
 {
     let index = first_fault(job, l, BAD_VARIABLE, l.variables);
     if index < l.variables {
@@ -85,26 +120,17 @@ fn check_records(job: &[u8], l: Layout) -> Checked
             index,
         };
     }
-    let index = records::first_fault(job, l.script, l.records, l.variables);
-    if index < l.records {
-        return Checked::Refused {
-            number: BAD_RECORD,
-            index,
-        };
+    let script = check_script(job, l.script, l.records, l.variables, plan);
+    match script {
+        Script::Sound => Checked::Accepted(l),
+        Script::Faulty { number, index } => Checked::Refused { number, index },
     }
-    let index = blocks::first_fault(job, l.script, l.records);
-    if index <= l.records {
-        return Checked::Refused {
-            number: BAD_BLOCK,
-            index,
-        };
-    }
-    Checked::Accepted(l)
 }
 
 // The checks 1 to 8. For 1 to 3 the index is 0; for an unclosed block it is the number of records.
-pub fn check(job: &[u8]) -> Checked
-    ensures { λ r. ⌜ r ≡ answer (layoutOf (now (job .entry))) (checkBytes (now (job .entry))) ⌝ }
+fn check_bytes(job: &[u8], plan: &mut [u32]) -> Checked
+    requires { ⌜ maxRecords < length (now plan) ⌝ }
+    ensures { λ r. ⌜ Prepared (now (job .entry)) (now (plan .entry)) (now (plan .exit)) r ⌝ }
 {
     if !length_ok(job.len()) {
         return Checked::Refused {
@@ -125,18 +151,21 @@ pub fn check(job: &[u8]) -> Checked
             index: 0,
         };
     }
-    check_records(job, l)
+    check_records(job, l, plan)
 }
 
-// The checks 1 to 8, and for an accepted job where each record of its script goes. A refused job leaves `jumps` alone.
-pub fn prepare(job: &[u8], jumps: &mut [u16]) -> Checked
-    requires { ⌜ maxRecords ≤ length (now jumps) ⌝ }
-    ensures { λ r. ⌜ Prepared (now (job .entry)) (now (jumps .entry)) (now (jumps .exit)) r ⌝ }
+// The checks 1 to 8, and for an accepted job the plan of its script. Where 8 refuses a record, the plan holds the words of those before it; a job
+// that is refused before leaves it alone.
+pub fn prepare(job: &[u8], plan: &mut [u32; WORDS]) -> Checked
+    ensures { λ r. ⌜ Prepared (now (job .entry)) (now (plan .entry)) (now (plan .exit)) r ⌝ }
 {
-    let c = check(job);
-    let Checked::Accepted(l) = c else {
-        return c;
-    };
-    jumps::fill(job, l.script, l.records, jumps);
-    c
+    check_bytes(job, plan)
+}
+
+// The checks alone.
+pub fn check(job: &[u8]) -> Checked
+    ensures { λ r. ⌜ r ≡ answer (layoutOf (now (job .entry))) (checkBytes (now (job .entry))) ⌝ }
+{
+    let mut plan = [0u32; WORDS];
+    prepare(job, &mut plan)
 }

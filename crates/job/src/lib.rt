@@ -1,8 +1,8 @@
-// A job's bytes: the checks 1 to 8, the fields of an accepted job, and where the records of its script go.
+// A job's bytes: the checks 1 to 8, the fields of an accepted job, and the plan of its script.
 mod blocks;
 mod checks;
-mod jumps;
 pub mod nodes;
+pub mod plan;
 pub mod reads;
 pub mod records;
 pub mod rows;
