@@ -1,15 +1,15 @@
 -- What the checks hand back, from the rules' definition of the checks. Assumes nothing.
 use mathlib.Core.Path.{_≡_}
-use mathlib.Core.Bool.{Bool, true, cond}
+use mathlib.Core.Bool.{Bool, cond}
 use mathlib.Core.List.{List}
-use Prim.Native.Nat.{ℕ, suc, _<_, _≤_}
+use Prim.Native.Nat.{ℕ, suc, _<_}
 use lib.Dec.{eqb}
-use Rattle.rules.specs.Limits.{badVariable, badParent}
+use Rattle.rules.specs.Limits.{badVariable}
 use Rattle.rules.specs.Limits.{badRecord, badBlock}
 use Rattle.rules.specs.Bytes.{scriptAt, recordCount, recordPlace}
 use Rattle.rules.specs.Blocks.{blockRule}
 use Rattle.rules.specs.Check as Check
-use Rattle.rules.specs.Check.{requireEach, checkRecords, checkBytes, variableRule, parentRule, nodeRule, recordRule, code}
+use Rattle.rules.specs.Check.{requireEach, checkRecords, checkBytes, variableRule, parentRule, recordRule, code}
 use Rattle.job.specs.declared.sections.Layout.{Layout}
 use Rattle.job.specs.declared.checks.Checked.{Checked}
 use Rattle.job.specs.declared.checks.Checked.the-variants.{Accepted, Refused}
@@ -23,25 +23,23 @@ unfoldable pub answer : Layout → Check.Checked → Checked
 answer l Check.accepted = Accepted l
 answer l (Check.refused k i) = Refused k i
 
--- the rule of the check of a number, 4 to 6, for record i of its section
+-- the rule of the check of a number, 4 or 5, for record i of its section
 unfoldable pub ruleOf : List ℕ → Layout → ℕ → ℕ → Bool
-ruleOf b l k i = cond (eqb k badVariable) (variableRule b i) (cond (eqb k badParent) (parentRule b (l .tree) i) (nodeRule b (l .tree) i))
+ruleOf b l k i = cond (eqb k badVariable) (variableRule b i) (parentRule b (l .tree) i)
 
 -- how many records that section holds
 unfoldable pub countOf : Layout → ℕ → ℕ
 countOf l k = cond (eqb k badVariable) (l .variables) (l .nodes)
 
--- record i can be put to the check of a number; 6 asks that 5 was passed
+-- record i can be put to the check of a number
 pub record Passable (b : List ℕ) (l : Layout) (k i : ℕ) : Type 0 where
   pub inside : Inside b l
   pub index : i < countOf l k
-  pub parents : (k ≡ badVariable → ⊥) → (k ≡ badParent → ⊥) → (j : ℕ) → j ≤ i → parentRule b (l .tree) j ≡ true
 
 -- n records can
 pub record Scannable (b : List ℕ) (l : Layout) (k n : ℕ) : Type 0 where
   pub inside : Inside b l
   pub count : n ≡ countOf l k
-  pub parents : (k ≡ badVariable → ⊥) → (k ≡ badParent → ⊥) → (i : ℕ) → i < n → parentRule b (l .tree) i ≡ true
 
 -- the checks 7 and 8, of rs script records from script on among vars variables
 abbrev pub checkScript : List ℕ → ℕ → ℕ → ℕ → Check.Checked → Check.Checked

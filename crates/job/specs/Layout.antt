@@ -1,12 +1,9 @@
 -- The layout of a job: where its sections start and how many records they hold. Assumes nothing.
-use mathlib.Core.Path.{_≡_}
-use mathlib.Core.Bool.{true}
-use Prim.Native.Nat.{ℕ, _+_, _*_, _≤_, _<_}
+use Prim.Native.Nat.{ℕ, _+_, _*_, _≤_}
 use mathlib.Core.List.{List}
 use lib.ListN.{length}
 use Rattle.rules.specs.Limits.{maxNodes, maxRecords, trailerSize, variableSize, nodeSize, recordSize}
-use Rattle.rules.specs.Bytes.{variablesAt, nodesAt, scriptAt, trailerAt, variableCount, nodeCount, recordCount, nodePlace}
-use Rattle.rules.specs.Check.{parentRule}
+use Rattle.rules.specs.Bytes.{variablesAt, nodesAt, scriptAt, trailerAt, variableCount, nodeCount, recordCount}
 use Rattle.job.specs.declared.sections.Layout.{Layout}
 use Rattle.job.specs.declared.sections.Offsets.{Offsets}
 
@@ -32,9 +29,3 @@ pub record Inside (b : List ℕ) (l : Layout) : Type 0 where
   pub records : l .script + recordSize * l .records ≤ length b
   pub few : l .nodes ≤ maxNodes
   pub short : l .records ≤ maxRecords
-
--- node i lies within the bytes, and the parents are right as far as there
-pub record Rooted (b : List ℕ) (base i : ℕ) : Type 0 where
-  pub inside : nodePlace base i + nodeSize ≤ length b
-  pub few : i < maxNodes
-  pub parents : (k : ℕ) → k ≤ i → parentRule b base k ≡ true

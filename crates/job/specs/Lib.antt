@@ -1,5 +1,6 @@
 -- What the contracts of this crate cite besides the rules.
 pub mod Layout
+pub mod Siblings
 pub mod Fields
 pub mod Parts
 pub mod Plan

@@ -1,6 +1,6 @@
 // The checks of a job's bytes, in order of number.
 use crate::blocks;
-use crate::nodes::node_ok;
+use crate::nodes;
 use crate::nodes::parent_ok;
 use crate::plan::WORDS;
 use crate::records;
@@ -33,19 +33,19 @@ pub enum Checked {
     Refused { number: u8, index: usize },
 }
 
-// The checks 4 to 6, by number, of record i of its section.
+// The checks 4 and 5, by number, of record i of its section.
 fn passes(job: &[u8], l: Layout, number: u8, i: usize) -> bool
     requires { ⌜ Passable (now job) l number i ⌝ }
     ensures { λ r. ⌜ r ≡ ruleOf (now (job .entry)) l number i ⌝ }
 {
-    match number {
-        BAD_VARIABLE => variable_ok(job, i),
-        BAD_PARENT => parent_ok(job, l.tree, i),
-        _ => node_ok(job, l.tree, i),
+    if number == BAD_VARIABLE {
+        variable_ok(job, i)
+    } else {
+        parent_ok(job, l.tree, i)
     }
 }
 
-// The first record of its section that fails the check of a number, 4 to 6, or the count.
+// The first record of its section that fails the check of a number, 4 or 5, or the count.
 fn first_fault(job: &[u8], l: Layout, number: u8, count: usize) -> usize
     requires { ⌜ Scannable (now job) l number count ⌝ }
     ensures { λ r. ⌜ r ≡ firstFault (ruleOf (now (job .entry)) l number) count 0 ⌝ }
@@ -113,7 +113,7 @@ fn check_records(job: &[u8], l: Layout, plan: &mut [u32]) -> Checked
             index,
         };
     }
-    let index = first_fault(job, l, BAD_NODE, l.nodes);
+    let index = nodes::first_fault(job, l.tree, l.nodes);
     if index < l.nodes {
         return Checked::Refused {
             number: BAD_NODE,

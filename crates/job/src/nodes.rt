@@ -4,17 +4,18 @@ use crate::reads::signed_at;
 use rules::levels::PUBLIC;
 use rules::levels::is_level;
 use rules::levels::not_above;
+use rules::limits::MAX_NODES;
 use rules::limits::NO_PARENT;
 use rules::limits::NODE_SIZE;
 ghost use mathlib.Core.Path.{_≡_};
-ghost use Prim.Native.Nat.{_+_, _<_, _≤_};
-ghost use lib.ListN.{length};
+ghost use Prim.Native.Nat.{suc, _+_, _<_, _≤_};
+ghost use lib.ListN.{length, getD};
 ghost use Rattle.rules.specs.Limits.{nodeSize};
 ghost use Rattle.rules.specs.Bytes.{nodePlace};
-ghost use Rattle.rules.specs.Check.{parent, parentRule, labelRule, nearest, leftRule, childRule, nodeRule};
+ghost use Rattle.rules.specs.Check.{parent, parentRule, labelRule, nearest, leftRule, childRule, nodeRule, firstFault};
 ghost use Rattle.rules.specs.Job.{labelOf};
 ghost use Rattle.job.specs.Fields.{levelsOf};
-ghost use Rattle.job.specs.Layout.{Rooted};
+ghost use Rattle.job.specs.Siblings.{Linked, Rooted, Lasts, behind};
 
 pub fn parent_at(job: &[u8], base: usize, i: usize) -> usize
     requires { ⌜ nodePlace base i + nodeSize ≤ length (now job) ⌝ }
@@ -76,13 +77,29 @@ enum Found {
     Nothing,
 }
 
-// Whether node i exists at least where its left sibling does: the nearest earlier record with the same parent, which comes after the parent.
-fn left_ok(job: &[u8], base: usize, i: usize) -> bool
-    requires { ⌜ (i ≡ 0 → ⊥) × Rooted (now job) base i ⌝ }
+fn wide(x: u16) -> usize
+    ensures { λ r. ⌜ (r ≡ x) × (r < 65536) ⌝ }
+{
+    x as usize
+}
+
+// Where the search for a child of p starts: behind the last one that was passed, or behind p where none was.
+fn start(last: &[u16], p: usize) -> usize
+    requires { ⌜ p < length (now last) ⌝ }
+    ensures { λ r. ⌜ r ≡ behind (getD (now (last .entry)) p 0) p ⌝ }
+{
+    let child = wide(last[p]);
+    if child < p { p + 1 } else { child + 1 }
+}
+
+// Whether node i exists at least where its left sibling does: the nearest earlier record with the same parent, which comes after the parent. The
+// records between it and node i are not searched, since the last child of each node is known: the search takes one turn whatever the order is.
+fn left_ok(job: &[u8], base: usize, last: &[u16], i: usize) -> bool
+    requires { ⌜ (i ≡ 0 → ⊥) × Rooted (now job) base i × Lasts (now job) base i (now last) ⌝ }
     ensures { λ r. ⌜ r ≡ leftRule (now (job .entry)) base i (nearest (now (job .entry)) base (parent (now (job .entry)) base i) i) ⌝ }
 {
     let p = parent_at(job, base, i);
-    let mut k = i;
+    let mut k = start(last, p);
     let left = loop {
         k -= 1;
         if k == p {
@@ -101,8 +118,8 @@ fn left_ok(job: &[u8], base: usize, i: usize) -> bool
     }
 }
 
-fn child_ok(job: &[u8], base: usize, i: usize) -> bool
-    requires { ⌜ (i ≡ 0 → ⊥) × Rooted (now job) base i ⌝ }
+fn child_ok(job: &[u8], base: usize, last: &[u16], i: usize) -> bool
+    requires { ⌜ (i ≡ 0 → ⊥) × Rooted (now job) base i × Lasts (now job) base i (now last) ⌝ }
     ensures { λ r. ⌜ r ≡ childRule (now (job .entry)) base i ⌝ }
 {
     let p = parent_at(job, base, i);
@@ -114,12 +131,12 @@ fn child_ok(job: &[u8], base: usize, i: usize) -> bool
     if !not_above(own.existence, above.structure) {
         return false;
     }
-    left_ok(job, base, i)
+    left_ok(job, base, last, i)
 }
 
-// Check 6, of node i, which has passed check 5 as have all before it.
-pub fn node_ok(job: &[u8], base: usize, i: usize) -> bool
-    requires { ⌜ Rooted (now job) base i ⌝ }
+// Check 6, of node i, which has passed check 5 as have all before it; `last` has the last child of each.
+fn node_ok(job: &[u8], base: usize, last: &[u16], i: usize) -> bool
+    requires { ⌜ Rooted (now job) base i × Lasts (now job) base i (now last) ⌝ }
     ensures { λ r. ⌜ r ≡ nodeRule (now (job .entry)) base i ⌝ }
 {
     if !label_ok(job, base, i) {
@@ -128,6 +145,34 @@ pub fn node_ok(job: &[u8], base: usize, i: usize) -> bool
     if i == 0 {
         not_above(levels_at(job, base, i).existence, PUBLIC)
     } else {
-        child_ok(job, base, i)
+        child_ok(job, base, last, i)
     }
+}
+
+// Node i is passed: it is the last child of its parent so far.
+fn pass(job: &[u8], base: usize, last: &mut [u16], i: usize)
+    requires { ⌜ Rooted (now job) base i × Lasts (now job) base i (now last) ⌝ }
+    ensures { λ _. ⌜ Lasts (now (job .entry)) base (suc i) (now (last .exit)) ⌝ }
+{
+    if i != 0 {
+        let p = parent_at(job, base, i);
+        last[p] = i as u16;
+    }
+}
+
+// Check 6: the first of `count` nodes that fails it, or the count.
+pub fn first_fault(job: &[u8], base: usize, count: usize) -> usize
+    requires { ⌜ Linked (now job) base count ⌝ }
+    ensures { λ r. ⌜ r ≡ firstFault (nodeRule (now (job .entry)) base) count 0 ⌝ }
+{
+    let mut last = [0u16; MAX_NODES];
+    let mut i = 0;
+    while i < count {
+        if !node_ok(job, base, &last, i) {
+            return i;
+        }
+        pass(job, base, &mut last, i);
+        i += 1;
+    }
+    i
 }

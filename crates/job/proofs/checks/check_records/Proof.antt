@@ -41,7 +41,7 @@ past6 c = past5 (c .before .before .before) ∙ through badNode _ _ _ (c .before
 
 first-fault-requires : tie.Need-first-fault-requires
 unfolding countOf
-first-fault-requires c κs = record { inside = c .before .before .pre .0; count = refl; parents = λ n m. absurd (n refl) }
+first-fault-requires c κs = record { inside = c .before .before .pre .0; count = refl }
 
 returns : tie.Need-returns
 unfolding checkRecords ruleOf answer
@@ -51,7 +51,7 @@ returns c =
 
 first-fault-requires-2 : tie.Need-first-fault-requires-2
 unfolding countOf
-first-fault-requires-2 c κs = record { inside = c .before .before .before .before .before .pre .0; count = refl; parents = λ n m. absurd (m refl) }
+first-fault-requires-2 c κs = record { inside = c .before .before .before .before .before .pre .0; count = refl }
 
 returns-2 : tie.Need-returns-2
 unfolding ruleOf answer
@@ -61,9 +61,10 @@ returns-2 c =
 
 -- check 5 was passed
 first-fault-requires-3 : tie.Need-first-fault-requires-3
-unfolding countOf ruleOf
+unfolding ruleOf
 first-fault-requires-3 c κs =
-    let p = all-pass _ _ (c .before .before .first-fault2 .ensures) (c .if2 .left) in record { inside = c .before .before .before .before .before .before .before .before .pre .0; count = refl; parents = λ n m. p }
+    let q = c .before .before .before .before .before .before .before .before .pre .0 in
+    record { inside = q .nodes; few = q .few; parents = all-pass _ _ (c .before .before .first-fault2 .ensures) (c .if2 .left) }
 
 returns-3 : tie.Need-returns-3
 unfolding ruleOf answer

@@ -1,7 +1,6 @@
 -- `first_fault` meets its contract: each record passed is right. Assumes nothing.
 use mathlib.Core.Path.{sym, _∙_}
 use Prim.Native.Nat.{_-_}
-use native.Mathlib.Omega.{arith}
 use borrow.Author.Tests.{not-true, not-false}
 use Rattle.rules.proofs.Search.{Scan, scan-start, scan-next, scan-stop, scan-end}
 use Rattle.job.specs.Answer.{ruleOf}
@@ -21,7 +20,7 @@ loop-holds c = scan-start _ _
 passes-requires : tie.Need-passes-requires Inv-loop μ-loop
 passes-requires c κs =
     let q = c .before .before .before .pre in
-    record { inside = q .inside; index = search needs; parents = λ n m j l. q .parents n m j (omega arith) }
+    record { inside = q .inside; index = search needs }
 
 returns : tie.Need-returns Inv-loop μ-loop
 returns c = scan-stop _ _ (c .before .before .before .loop .inv) (search needs) (sym (c .before .passes .ensures) ∙ not-true _ (c .if1 .taken))

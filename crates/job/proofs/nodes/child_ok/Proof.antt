@@ -12,13 +12,13 @@ use Rattle.job.proofs.nodes.child_ok.Statement.{statement}
 use Rattle.job.proofs.nodes.child_ok.Tie as tie
 
 -- what the two tests are of
-below : (c : tie.After-not-above) → let a = c .before .before .before .before .before .args in
+below : (c : tie.After-not-above) → let a = c .before .before .before .before .before .before .args in
     let b = a .job .now in
     notAbove (existence b (a .base) (parent b (a .base) (a .i))) (existence b (a .base) (a .i)) ≡ c .not-above .result
 unfolding levelsOf
 below c = rw (c .not-above .ensures, c .before .levels-at2 .ensures, c .before .before .levels-at .ensures, c .before .before .before .parent-at .ensures .0)
 
-listed : (c : tie.After-not-above2) → let a = c .before .before .before .before .before .before .before .args in
+listed : (c : tie.After-not-above2) → let a = c .before .before .before .before .before .before .before .before .args in
     let b = a .job .now in
     notAbove (existence b (a .base) (a .i)) (structure b (a .base) (parent b (a .base) (a .i))) ≡ c .not-above2 .result
 unfolding levelsOf
@@ -26,8 +26,8 @@ listed c = rw (c .not-above2 .ensures, c .before .before .before .levels-at2 .en
 
 levels-at-requires-2 : tie.Need-levels-at-requires-2
 levels-at-requires-2 c κs =
-    let q = c .before .before .before .pre in
-    let h : c .before .parent-at .result < c .before .before .before .args .i = rw (c .before .parent-at .ensures .0) (parent-before _ _ _ (q .0) (q .1 .parents _ (omega arith))) in
+    let q = c .before .before .before .before .pre in
+    let h : c .before .parent-at .result < c .before .before .before .before .args .i = rw (c .before .parent-at .ensures .0) (parent-before _ _ _ (q .0) (q .1 .parents _ (omega arith))) in
     omega (arith, q .1 .inside)
 
 returns : tie.Need-returns

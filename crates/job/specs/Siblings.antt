@@ -1,0 +1,37 @@
+-- What the search for a left sibling goes by: the nodes before it and the last child of each. Assumes nothing.
+use mathlib.Core.Path.{_≡_}
+use mathlib.Core.Bool.{true, cond}
+use mathlib.Core.Option.{Option, none, some}
+use mathlib.Core.List.{List}
+use Prim.Native.Nat.{ℕ, zero, suc, _+_, _≤_, _<_}
+use lib.Dec.{ltb}
+use lib.ListN.{length, getD}
+use Rattle.rules.specs.Limits.{maxNodes, nodeSize}
+use Rattle.rules.specs.Bytes.{nodePlace}
+use Rattle.rules.specs.Check.{parentRule, nearest}
+
+-- n nodes lie within the bytes, and their parents are right
+pub record Linked (b : List ℕ) (base n : ℕ) : Type 0 where
+  pub inside : nodePlace base n ≤ length b
+  pub few : n ≤ maxNodes
+  pub parents : (k : ℕ) → k < n → parentRule b base k ≡ true
+
+-- node i lies within the bytes, and the parents are right as far as there
+pub record Rooted (b : List ℕ) (base i : ℕ) : Type 0 where
+  pub inside : nodePlace base i + nodeSize ≤ length b
+  pub few : i < maxNodes
+  pub parents : (k : ℕ) → k ≤ i → parentRule b base k ≡ true
+
+-- a child by its record; 0, which is the root's, stands for none
+unfoldable pub child : ℕ → Option ℕ
+child zero = none
+child (suc k) = some (suc k)
+
+-- the list has for each node the last of its children among the first i nodes
+pub record Lasts (b : List ℕ) (base i : ℕ) (xs : List ℕ) : Type 0 where
+  pub size : length xs ≡ maxNodes
+  pub each : (p : ℕ) → p < maxNodes → nearest b base p i ≡ child (getD xs p 0)
+
+-- where the search for a child of p starts, by the last one: behind it, or behind p where there is none
+unfoldable pub behind : ℕ → ℕ → ℕ
+behind last p = cond (ltb last p) (suc p) (suc last)
