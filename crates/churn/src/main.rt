@@ -13,7 +13,7 @@ fn line(name: &[u8], n: u64) {
 }
 
 fn main() {
-    let mut words = [0u32; 4096];
+    let mut words = [0u32; table::WORDS];
     let r = rounds::repeat(&mut words, ROUNDS);
     line(b"rounds ", wide(ROUNDS));
     line(b"operations ", r.operations);

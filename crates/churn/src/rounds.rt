@@ -14,9 +14,10 @@ use super::run;
 use super::run::Run;
 use table::FIRST;
 use table::RIGHT;
+use table::WORDS;
 
 // A child with 72 children, on a side of the cursor's node: their values are v, v + 1, .. in order. The cursor ends at the child.
-fn branch(words: &mut [u32; 4096], start: Run, side: u32, v: u32) -> Run
+fn branch(words: &mut [u32; WORDS], start: Run, side: usize, v: u32) -> Run
     requires { ⌜ (side < 2) × (v < 512) ⌝ }
 {
     let mut r = run::add(words, start, side, v, true);
@@ -33,7 +34,7 @@ fn branch(words: &mut [u32; 4096], start: Run, side: u32, v: u32) -> Run
 }
 
 // From a root alone to a full table.
-fn build(words: &mut [u32; 4096], start: Run) -> Run {
+fn build(words: &mut [u32; WORDS], start: Run) -> Run {
     let mut r = branch(words, start, FIRST, 1);
     let mut j: u32 = 1;
     while j < 7 {
@@ -44,7 +45,7 @@ fn build(words: &mut [u32; 4096], start: Run) -> Run {
 }
 
 // On to the next node in order; at the last one back to the root.
-fn next(words: &[u32; 4096], start: Run) -> Run {
+fn next(words: &[u32; WORDS], start: Run) -> Run {
     let down = run::try_side(words, start, FIRST);
     if down.ok {
         return down.run;
@@ -89,7 +90,7 @@ fn expected(i: u32, again: bool) -> u32
 }
 
 // Every node in order, from the root to the root.
-fn walk(words: &[u32; 4096], start: Run, again: bool) -> Run {
+fn walk(words: &[u32; WORDS], start: Run, again: bool) -> Run {
     let mut r = run::home(start);
     let mut i: u32 = 0;
     while i < 512 {
@@ -101,7 +102,7 @@ fn walk(words: &[u32; 4096], start: Run, again: bool) -> Run {
 }
 
 // The first, third and fifth child of the root go.
-fn prune(words: &mut [u32; 4096], start: Run) -> Run {
+fn prune(words: &mut [u32; WORDS], start: Run) -> Run {
     let mut r = run::home(start);
     r = run::remove(words, r, FIRST);
     r = run::must(run::try_side(words, r, FIRST));
@@ -113,7 +114,7 @@ fn prune(words: &mut [u32; 4096], start: Run) -> Run {
 }
 
 // A chain of 219 nodes in front of the cursor's children; the table is full then.
-fn refill(words: &mut [u32; 4096], start: Run) -> Run {
+fn refill(words: &mut [u32; WORDS], start: Run) -> Run {
     let mut r = start;
     let mut k: u32 = 0;
     while k < 219 {
@@ -125,7 +126,7 @@ fn refill(words: &mut [u32; 4096], start: Run) -> Run {
 }
 
 // The five children of the root go.
-fn clear(words: &mut [u32; 4096], start: Run) -> Run {
+fn clear(words: &mut [u32; WORDS], start: Run) -> Run {
     let mut r = run::home(start);
     let mut k: u32 = 0;
     while k < 5 {
@@ -136,7 +137,7 @@ fn clear(words: &mut [u32; 4096], start: Run) -> Run {
 }
 
 // One round, from a root alone to a root alone.
-fn round(words: &mut [u32; 4096], start: Run) -> Run {
+fn round(words: &mut [u32; WORDS], start: Run) -> Run {
     let mut r = build(words, start);
     r = run::add(words, r, FIRST, 0, false);
     r = run::home(r);
@@ -149,7 +150,7 @@ fn round(words: &mut [u32; 4096], start: Run) -> Run {
 }
 
 // A number of rounds, from the tree of one node record.
-pub fn repeat(words: &mut [u32; 4096], n: u32) -> Run {
+pub fn repeat(words: &mut [u32; WORDS], n: u32) -> Run {
     let job = [255u8, 255, 0, 0, 0, 0, 0, 0, 0, 0, 0, 0];
     table::records::load(&job, 0, 1, words);
     let mut r = Run {

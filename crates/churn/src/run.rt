@@ -2,17 +2,21 @@
 ghost use mathlib.Core.Path.{_≡_};
 ghost use mathlib.Core.Bool.{true, false};
 ghost use Prim.Native.Nat.{_+_, _%_, _^_, _<_};
+use table::FIRST;
+use table::NIL;
+use table::Taken;
+use table::WORDS;
 use table::node;
 use table::shape;
 use table::walk;
 
-pub const PLACES: u32 = 512;
+pub const PLACES: usize = 512;
 
 // The cursor, the free places, and what was counted so far.
 pub struct Run {
-    pub at: u32,
-    pub used: u32,
-    pub free: u32,
+    pub at: usize,
+    pub used: usize,
+    pub free: usize,
     pub operations: u64,
     pub added: u64,
     pub refused: u64,
@@ -27,7 +31,7 @@ fn more(n: u64) -> u64
 }
 
 // A place of the table.
-fn place(at: u32) -> u32
+fn place(at: usize) -> usize
     ensures { λ r. ⌜ r < 512 ⌝ }
 {
     if at < PLACES { at } else { 0 }
@@ -60,7 +64,7 @@ pub struct Moved {
     pub run: Run,
 }
 
-fn arrive(run: Run, to: u32) -> Moved {
+fn arrive(run: Run, to: usize) -> Moved {
     let mut r = run;
     r.operations = more(run.operations);
     if to < PLACES {
@@ -71,7 +75,7 @@ fn arrive(run: Run, to: u32) -> Moved {
 }
 
 // Tries to go to the first child or the right sibling.
-pub fn try_side(words: &[u32; 4096], run: Run, side: u32) -> Moved
+pub fn try_side(words: &[u32; WORDS], run: Run, side: usize) -> Moved
     requires { ⌜ side < 2 ⌝ }
 {
     let to = walk::beside(words, PLACES, place(run.at), side);
@@ -79,7 +83,7 @@ pub fn try_side(words: &[u32; 4096], run: Run, side: u32) -> Moved
 }
 
 // Tries to go up.
-pub fn try_up(words: &[u32; 4096], run: Run) -> Moved {
+pub fn try_up(words: &[u32; WORDS], run: Run) -> Moved {
     let to = walk::parent(words, PLACES, place(run.at));
     arrive(run, to)
 }
@@ -91,8 +95,18 @@ pub fn must(m: Moved) -> Run
     judge(m.run, m.ok)
 }
 
-// Adds a node of a value on a side, which must come out as the last argument says.
-pub fn add(words: &mut [u32; 4096], run: Run, side: u32, value: u32, well: bool) -> Run
+// The place of the parent that nodes on a side of the one at `at` have, or no place.
+fn parent_on(words: &[u32; WORDS], at: usize, side: usize) -> usize
+    requires { ⌜ at < 512 ⌝ }
+{
+    if side == FIRST {
+        return at;
+    }
+    walk::parent(words, PLACES, at)
+}
+
+// Tries to add a node of a value on a side: there is none beside the root.
+fn attempt(words: &mut [u32; WORDS], run: Run, side: usize, value: u32) -> Taken
     requires { ⌜ side < 2 ⌝ }
 {
     let n = shape::NewNode {
@@ -101,33 +115,54 @@ pub fn add(words: &mut [u32; 4096], run: Run, side: u32, value: u32, well: bool)
         content: 0,
         structure: 0,
     };
-    let got = shape::add(words, PLACES, run.used, run.free, place(run.at), side, n);
+    let at = place(run.at);
+    let above = parent_on(words, at, side);
+    if above >= PLACES {
+        return Taken {
+            place: NIL,
+            free: run.free,
+            used: run.used,
+        };
+    }
+    shape::add(words, PLACES, run.used, run.free, at, side, above, n)
+}
+
+// Adds a node of a value on a side, which must come out as the last argument says.
+pub fn add(words: &mut [u32; WORDS], run: Run, side: usize, value: u32, well: bool) -> Run
+    requires { ⌜ side < 2 ⌝ }
+{
+    let got = attempt(words, run, side, value);
+    let ok = got.place < PLACES;
     let mut r = run;
     r.operations = more(run.operations);
     r.used = got.used;
     r.free = got.free;
-    if got.ok {
+    if ok {
         r.added = more(run.added);
     } else {
         r.refused = more(run.refused);
     }
-    judge(r, got.ok == well)
+    judge(r, ok == well)
 }
 
-// Removes what stands on a side.
-pub fn remove(words: &mut [u32; 4096], run: Run, side: u32) -> Run
+// Removes what must stand on a side.
+pub fn remove(words: &mut [u32; WORDS], run: Run, side: usize) -> Run
     requires { ⌜ side < 2 ⌝ }
 {
-    let free = shape::remove(words, PLACES, run.free, place(run.at), side);
+    let at = place(run.at);
+    let old = walk::beside(words, PLACES, at, side);
     let mut r = run;
     r.operations = more(run.operations);
+    if old >= PLACES {
+        return judge(r, false);
+    }
     r.removed = more(run.removed);
-    r.free = free;
+    r.free = shape::remove(words, PLACES, run.free, at, side, old);
     r
 }
 
 // The node must have a number of children.
-pub fn children(words: &[u32; 4096], run: Run, n: u32) -> Run {
+pub fn children(words: &[u32; WORDS], run: Run, n: u32) -> Run {
     let found = node::children(words, PLACES, place(run.at));
     let mut r = run;
     r.operations = more(run.operations);
@@ -135,7 +170,7 @@ pub fn children(words: &[u32; 4096], run: Run, n: u32) -> Run {
 }
 
 // The node must have a value.
-pub fn value(words: &[u32; 4096], run: Run, v: u32) -> Run {
+pub fn value(words: &[u32; WORDS], run: Run, v: u32) -> Run {
     let found = node::value(words, PLACES, place(run.at));
     let mut r = run;
     r.operations = more(run.operations);

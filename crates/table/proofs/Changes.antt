@@ -7,7 +7,7 @@ use native.Mathlib.Nat.{le-refl}
 use lib.IntN.{ℤ}
 use Rattle.rules.specs.Number.{signed}
 use Rattle.rules.specs.Tree.{Label, noLabel, Forest, Side, sibling, count, Place, change, insert, remove, withValue, setValue}
-use Rattle.table.specs.Cells.{Cell, cell, Table, gone}
+use Rattle.table.specs.Cells.{Cell, cell, Table, ByteLevels, gone}
 use Rattle.table.specs.Holds.{Placed, empty, node, erase, head, Spare, more, hit, times, spareTimes, Holds}
 use Rattle.table.specs.Steps.{withWord, Put}
 use Rattle.table.proofs.Counting.{hit-same, differ}
@@ -29,13 +29,13 @@ loose x = node x noLabel empty empty
 
 module _ {n used free : ℕ} {t : Forest} {s : Spare} where
   -- the loose place x becomes the first node at the end of the way
-  pub grow : {m m₁ m₂ m₃ : Table} {d : Side} {c x : ℕ} {a : Label} {o f : Placed} {k : Way} (l : Label)
+  pub grow : {m m₁ m₂ m₃ : Table} {d : Side} {c x : ℕ} {a : Label} {o f : Placed} {k : Way} (l : Label) → ByteLevels l
       → Focus m n used free t (loose x) (step d c a o k) f s → x < used → (parentOf (step d c a o k) ≡ gone → ⊥)
       → Put m m₁ x (cell gone (head f) (parentOf (step d c a o k)) 0 l) → Put m₁ m₂ c (withLink d x (m₁ c))
       → Put m₂ m₃ (parentOf (step d c a o k)) (withCount (suc (m₂ (parentOf (step d c a o k)) .children)) (m₂ (parentOf (step d c a o k))))
       → Focus m₃ n used free (change (pathOf (step d c a o k)) (insert l) t) empty (step d c a o k) (node x l empty f) s
   unfolding count insert
-  grow {m} {m₁} {m₂} {m₃} {d} {c} {x} {a} {o} {f} {k} l h lt ne p₁ p₂ p₃ =
+  grow {m} {m₁} {m₂} {m₃} {d} {c} {x} {a} {o} {f} {k} l bytes h lt ne p₁ p₂ p₃ =
       let K = step d c a o k in
       let u = parentOf K in
       let j = count (erase f) in
@@ -59,6 +59,7 @@ module _ {n used free : ℕ} {t : Forest} {s : Spare} where
           p₃ .off x (notWay x u (omega arith) uK) ∙ p₂ .off x (notWay x c (omega arith) cK) ∙ p₁ .on,
           tt,
           stored m m₃ (le-refl used) u f (λ y q. ag y (omega arith)) (h .stored),
+          bytes,
         );
         above = recount m₂ m₃ used u suc p₃ ne x j K refl (λ _ _. refl) onWay a₂;
         freed = freed m m₃ (le-refl used) s (λ y q. ag y (omega arith)) (h .freed);
@@ -118,8 +119,9 @@ module _ {n used free : ℕ} {t : Forest} {s : Spare} where
   -- the node at the end of the way gets another value
   pub revalue : {m m′ : Table} {x : ℕ} {a : Label} {w c r : Placed} (k : Way) (v : ℤ) → Focus m n used free t w k (node x a c r) s
       → Put m m′ x (withNumber v (m x)) → Focus m′ n used free (change (pathOf k) (setValue v) t) w k (node x (withValue v a) c r) s
-  unfolding count setValue
+  unfolding count setValue withValue
   revalue {m} {m′} {x} {a} {w} {c} {r} k v h p =
+      let b = h .stored .4 in
       let xx : 0 < hit x x = omega (arith, hit-same x) in
       let ag : (y : ℕ) → 0 < times y c + times y r + wayTimes y k + spareTimes y s → m′ y ≡ m y =
       λ y q. p .off y (differ (λ y. times y c + times y r + wayTimes y k + spareTimes y s) (λ y. hit y x) (λ y. omega (arith, h .once y)) q xx) in
@@ -131,6 +133,7 @@ module _ {n used free : ℕ} {t : Forest} {s : Spare} where
           p .on ∙ ap (withNumber v) (h .stored .1),
           stored m m′ (le-refl used) x c (λ y q. ag y (omega arith)) (h .stored .2),
           stored m m′ (le-refl used) (parentOf k) r (λ y q. ag y (omega arith)) (h .stored .3),
+          record { existence = b .existence; content = b .content; structure = b .structure },
         );
         above = same-above m m′ (le-refl used) x (suc (count (erase r))) k (λ y q. ag y (omega arith)) (h .above);
         freed = freed m m′ (le-refl used) s (λ y q. ag y (omega arith)) (h .freed);
@@ -141,9 +144,9 @@ module _ {n used free : ℕ} {t : Forest} {s : Spare} where
       }
 
 -- a value is set
-pub value-set : {m m′ : Table} {n used free x : ℕ} {t : Forest} {p : Place} (v : ℕ) → Holds m n used free x t p → Put m m′ x (withWord 5 v (m x))
+pub value-set : {m m′ : Table} {n used free x : ℕ} {t : Forest} {p : Place} (v : ℕ) → Holds m n used free x t p → Put m m′ x (withWord 4 v (m x))
     → Holds m′ n used free x (change p (setValue (signed v)) t) p
-unfolding withWord
+unfolding withWord withValue
 value-set {m′ = m′} {n} {used} {free} {x} {t} v h e =
     let a = seen h in
     subst (λ q. Holds m′ n used free x (change q (setValue (signed v)) t) q) (a .is-path) (whole (a .k) (revalue (a .k) (signed v) (a .focus) e))

@@ -2,18 +2,18 @@
 -- them. Assumes nothing.
 use mathlib.Core.Path.{_≡_, refl, ap, _∙_}
 use mathlib.Core.List.{List}
-use Prim.Native.Nat.{ℕ, zero, suc, _+_, _*_, _<_, _≤_}
+use Prim.Native.Nat.{ℕ, zero, suc, _%_, _<_, _≤_}
 use native.Mathlib.Omega.{arith}
 use native.Mathlib.Decide.{ℕ-discrete}
 use lib.Dec.{ltb}
 use borrow.Author.Tests.{ltb-true, ltb-false}
 use lib.ListN.{length, getD, set, length-set}
 use lib.Seq.{getD-set-same, getD-set-other}
-use Rattle.rules.specs.Tree.{Forest, Place}
+use Rattle.rules.specs.Tree.{Label, Forest, Place, count}
 use Rattle.rules.proofs.Tests.{Test, holds, fails, test}
 use Rattle.table.specs.declared.lent.Node.{Node}
-use Rattle.table.specs.Cells.{Table, cells}
-use Rattle.table.specs.Holds.{Placed, times, Holds}
+use Rattle.table.specs.Cells.{cell, Table, ByteLevels, gone, cells}
+use Rattle.table.specs.Holds.{Placed, empty, node, erase, head, Stored, Spare, end, more, Linked, Free, times, Holds}
 use Rattle.table.specs.Lent.{nodeOf, cellOf, blank, nodesTable, stored, putNode, loaded}
 use Rattle.table.proofs.Counting.{none-beyond, free-beyond}
 use Rattle.table.proofs.Frames as Frames
@@ -69,8 +69,58 @@ module _ {m m′ : Table} {n used free at : ℕ} {t : Forest} {p : Place} (agree
         each = h .each;
       }
 
+-- a table with the levels of every cell cut to bytes
+abbrev narrow : Table → Table
+narrow m x = cellOf (nodeOf (m x))
+
+module _ (m : Table) (used : ℕ) where
+  bytes-kept : (l : Label) → ByteLevels l
+      → record { value = l .value; existence = l .existence % 256; content = l .content % 256; structure = l .structure % 256 } ≡ l
+  bytes-kept l b =
+      let e : l .existence % 256 ≡ l .existence = omega (arith, b .existence) in
+      let c : l .content % 256 ≡ l .content = omega (arith, b .content) in
+      let s : l .structure % 256 ≡ l .structure = omega (arith, b .structure) in
+      λ i. record { value = l .value; existence = e i; content = c i; structure = s i }
+
+  narrow-stored : (u : ℕ) (f : Placed) → Stored m used u f → Stored (narrow m) used u f
+  narrow-stored u empty h = tt
+  narrow-stored u (node x l c r) h = (
+    h .0,
+    ap (λ a. cellOf (nodeOf a)) (h .1) ∙ ap (cell (head c) (head r) u (count (erase c))) (bytes-kept l (h .4)),
+    narrow-stored x c (h .2),
+    narrow-stored u r (h .3),
+    h .4,
+  )
+
+  narrow-linked : (f : Placed) → Linked m used f → Linked (narrow m) used f
+  narrow-linked empty h = tt
+  narrow-linked (node x l c r) h = (h .0, h .1, h .2, narrow-linked c (h .3), narrow-linked r (h .4))
+
+  narrow-freed : (s : Spare) → Free m used s → Free (narrow m) used s
+  narrow-freed end h = tt
+  narrow-freed (more x c r s) h =
+      (h .0, h .1, h .2, h .3, narrow-linked c (h .4), narrow-linked r (h .5), narrow-freed s (h .6))
+
+narrowed : {m : Table} {n used free at : ℕ} {t : Forest} {p : Place} → Holds m n used free at t p → Holds (narrow m) n used free at t p
+narrowed {m} {used = used} h =
+    record {
+      few = h .few;
+      room = h .room;
+      placed = h .placed;
+      spare = h .spare;
+      is-tree = h .is-tree;
+      is-root = h .is-root;
+      alone = h .alone;
+      stored = narrow-stored m used gone (h .placed) (h .stored);
+      here = h .here;
+      live = h .live;
+      freed = narrow-freed m used (h .spare) (h .freed);
+      leads = h .leads;
+      each = h .each;
+    }
+
 -- the lent table holds what the words hold
 pub lent : (ws : List ℕ) (ns : List Node) {n used free at : ℕ} {t : Forest} {p : Place} → n ≤ length ns → Holds (cells ws) n used free at t p
     → Holds (nodesTable (stored ws n ns)) n used free at t p
 unfolding nodesTable
-lent ws ns long h = agrees (λ x q. ap cellOf (stored-at ws _ ns long x (omega (arith, h .room)))) h
+lent ws ns long h = agrees (λ x q. ap cellOf (stored-at ws _ ns long x (omega (arith, h .room)))) (narrowed h)

@@ -52,13 +52,13 @@ module _ {m : Table} {n used free : ℕ} {t : Forest} {w : Placed} {s : Spare} w
     pub down : (d : Side) {c r : Placed} → Focus m n used free t w k (node x l c r) s
         → Focus m n used free t w (step d x l (across d (node x l c r)) k) (beside d (node x l c r)) s
     unfolding count
-    down child {c} {r} h = from (step child x l r k) c h (h .stored .2) (h .stored .0, h .stored .1, h .stored .3, h .above) (λ y. omega arith) refl
-    down sibling {c} {r} h = from (step sibling x l c k) r h (h .stored .3) (h .stored .0, h .stored .1, h .stored .2, h .above) (λ y. omega arith) refl
+    down child {c} {r} h = from (step child x l r k) c h (h .stored .2) (h .stored .0, h .stored .1, h .stored .3, h .above, h .stored .4) (λ y. omega arith) refl
+    down sibling {c} {r} h = from (step sibling x l c k) r h (h .stored .3) (h .stored .0, h .stored .1, h .stored .2, h .above, h .stored .4) (λ y. omega arith) refl
 
     pub back : (d : Side) {o f : Placed} → Focus m n used free t w (step d x l o k) f s → Focus m n used free t w k (nodeOn d x l f o) s
     unfolding count
-    back child {o} {f} h = from k (node x l f o) h (h .above .0, h .above .1, h .stored, h .above .2) (h .above .3) (λ y. omega arith) refl
-    back sibling {o} {f} h = from k (node x l o f) h (h .above .0, h .above .1, h .above .2, h .stored) (h .above .3) (λ y. omega arith) refl
+    back child {o} {f} h = from k (node x l f o) h (h .above .0, h .above .1, h .stored, h .above .2, h .above .4) (h .above .3) (λ y. omega arith) refl
+    back sibling {o} {f} h = from k (node x l o f) h (h .above .0, h .above .1, h .above .2, h .stored, h .above .4) (h .above .3) (λ y. omega arith) refl
 
 -- the view from the cursor's node
 pub record At (m : Table) (n used free x : ℕ) (t : Forest) (p : Place) : Type 0 where

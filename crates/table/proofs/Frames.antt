@@ -9,8 +9,13 @@ use Rattle.table.proofs.Counting.{hit-same}
 module _ (m m′ : Table) {b b′ : ℕ} (le : b ≤ b′) where
   pub stored : (u : ℕ) (f : Placed) → ((y : ℕ) → 0 < times y f → m′ y ≡ m y) → Stored m b u f → Stored m′ b′ u f
   stored u empty ag h = tt
-  stored u (node x l c r) ag h =
-      (omega arith, ag x (omega (arith, hit-same x)) ∙ h .1, stored x c (λ y q. ag y (omega arith)) (h .2), stored u r (λ y q. ag y (omega arith)) (h .3))
+  stored u (node x l c r) ag h = (
+    omega arith,
+    ag x (omega (arith, hit-same x)) ∙ h .1,
+    stored x c (λ y q. ag y (omega arith)) (h .2),
+    stored u r (λ y q. ag y (omega arith)) (h .3),
+    h .4,
+  )
 
   pub linked : (f : Placed) → ((y : ℕ) → 0 < times y f → m′ y ≡ m y) → Linked m b f → Linked m′ b′ f
   linked empty ag h = tt

@@ -2,21 +2,19 @@
 use mathlib.Core.Path.{_≡_, refl, sym, ap, ap₂, subst, _∙_}
 use mathlib.Core.Bool.{true, cond}
 use mathlib.Core.List.{List}
-use Prim.Native.Nat.{ℕ, zero, suc, _+_, _-_, _*_, _/_, _%_, _<_, _≤_}
+use Prim.Native.Nat.{ℕ, zero, suc, _-_, _<_, _≤_}
 use native.Mathlib.Omega.{arith}
 use native.Mathlib.Decide.{ℕ-discrete}
 use lib.Dec.{eqb, ltb}
 use borrow.Author.Tests.{eq-eqb, ne-eqb, ltb-true}
-use Rattle.rules.specs.Limits.{maxNodes, nodeSize, noParent}
-use Rattle.rules.specs.Bytes.{byte, half, full}
+use Rattle.rules.specs.Limits.{maxNodes, noParent}
 use Rattle.rules.specs.Tree.{tree, nil, root}
-use Rattle.rules.specs.Check.{parent, existence, content, structure, parentRule}
+use Rattle.rules.specs.Check.{parent, parentRule}
 use Rattle.rules.specs.Job.{labelOf, childrenOf, treeOf}
-use Rattle.table.specs.Cells.{Table, labelIn, labelWith}
+use Rattle.table.specs.Cells.{Table}
 use Rattle.table.specs.Holds.{erase}
 use Rattle.table.specs.Promises.{Loaded}
 use Rattle.table.specs.Steps.{Cleared, Entered}
-use Rattle.table.proofs.Effects.{packed}
 use Rattle.table.proofs.Kids.{kids, kids-none, kids-hit, kids-miss}
 use Rattle.table.proofs.Loading.{Loading, load-none, load-step, load-end}
 
@@ -48,18 +46,6 @@ module _ (b : List ℕ) (base : ℕ) where
       subst (λ k. Loading (parent b base) (labelOf b base) m′ n k (x - 1)) j
       (load-step (parent b base) (labelOf b base) (x - 1) (omega arith) (omega arith) (parent-first rule (x - 1) (omega arith) (omega arith))
       (subst (λ v. Loading (parent b base) (labelOf b base) m n (n - x) v) i h) e)
-
-  -- a record's parent and label are read from its place, base + 12 * y
-  pub read : {m m′ : Table} {p v : ℕ} (d x y : ℕ) → y ≡ x → p ≡ half b (base + nodeSize * y)
-      → (d % 256 ≡ byte b (base + nodeSize * y + 2)) × (d / 256 % 256 ≡ byte b (base + nodeSize * y + 3))
-      × (d / 65536 % 256 ≡ byte b (base + nodeSize * y + 4))
-      → v ≡ full b (base + nodeSize * y + 8) → Entered p x (labelIn d v) m m′ → Entered (parent b base x) x (labelOf b base x) m m′
-  unfolding parent labelOf existence content structure
-  read {m} {m′} {p} {v} d x y e i j k h =
-      let l : labelIn d v ≡ labelOf b base x =
-      (rw e at (packed d v j)) ∙ ap (λ z. labelWith z (existence b base x) (content b base x) (structure b base x)) (rw e at k) in
-      let u : p ≡ parent b base x = rw e at i in
-      subst (λ z. Entered z x (labelOf b base x) m m′) u (subst (λ z. Entered p x z m m′) l h)
 
   -- the lists are the job's
   children-hit : (p n i : ℕ) → parent b base i ≡ p

@@ -30,12 +30,14 @@ module _ (m m′ : Table) {b b′ : ℕ} (le : b ≤ b′) where
     ag x (omega (arith, hit-same x)) ∙ w .1,
     stored m m′ le (parentOf k) o (λ y q. ag y (omega arith)) (w .2),
     same-above x (suc (count (erase o))) k (λ y q. ag y (omega arith)) (w .3),
+    w .4,
   )
   same-above h j (step sibling x l o k) ag w = (
     omega arith,
     ag x (omega (arith, hit-same x)) ∙ w .1,
     stored m m′ le x o (λ y q. ag y (omega arith)) (w .2),
     same-above x (suc j) k (λ y q. ag y (omega arith)) (w .3),
+    w .4,
   )
 
 -- the parent stands on the way
@@ -55,6 +57,7 @@ module _ (m m′ : Table) (b h j : ℕ) where
         p .on ∙ ap (withLink child h′) (w .1),
         stored m m′ (le-refl b) (parentOf k) o (λ y q. ag y (omega arith)) (w .2),
         same-above m m′ (le-refl b) x (suc (count (erase o))) k (λ y q. ag y (omega arith)) (w .3),
+        w .4,
       )
   relink sibling x l o k h′ once p w =
       let ag : (y : ℕ) → 0 < times y o + wayTimes y k → m′ y ≡ m y =
@@ -63,6 +66,7 @@ module _ (m m′ : Table) (b h j : ℕ) where
         p .on ∙ ap (withLink sibling h′) (w .1),
         stored m m′ (le-refl b) x o (λ y q. ag y (omega arith)) (w .2),
         same-above m m′ (le-refl b) x (suc j) k (λ y q. ag y (omega arith)) (w .3),
+        w .4,
       )
 
 -- the parent's count changes from j to g j
@@ -77,6 +81,7 @@ module _ (m m′ : Table) (b u : ℕ) (g : ℕ → ℕ) (p : Put m m′ u (withC
         subst (λ z. m′ z ≡ withCount (g (m z .children)) (m z)) (sym e) (p .on) ∙ ap (λ a. withCount (g (a .children)) a) (w .1),
         stored m m′ (le-refl b) (parentOf k) o (λ y q. ag y (omega arith)) (w .2),
         same-above m m′ (le-refl b) x (suc (count (erase o))) k (λ y q. ag y (omega arith)) (w .3),
+        w .4,
       )
   recount h j (step sibling x l o k) e gs once w =
       let there = parent-there m b x (suc j) k (w .3) (λ z. ne (sym e ∙ z)) in
@@ -86,6 +91,7 @@ module _ (m m′ : Table) (b u : ℕ) (g : ℕ → ℕ) (p : Put m m′ u (withC
         ag x (omega (arith, hit-same x)) ∙ w .1,
         stored m m′ (le-refl b) x o (λ y q. ag y (omega arith)) (w .2),
         subst (λ z. Above m′ b x z k) (gs j (le-refl j)) (recount x (suc j) k e (λ i z. gs i (omega arith)) (λ y. omega (arith, once y)) (w .3)),
+        w .4,
       )
 
 -- a table that agrees on all places holds what was held

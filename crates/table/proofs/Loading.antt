@@ -7,7 +7,7 @@ use native.Mathlib.Nat.{le-refl}
 use native.Mathlib.Decide.{ℕ-discrete, decLe}
 use Rattle.rules.specs.Limits.{maxNodes}
 use Rattle.rules.specs.Tree.{Label, tree, nil, root, count}
-use Rattle.table.specs.Cells.{cell, Table, gone}
+use Rattle.table.specs.Cells.{cell, Table, ByteLevels, gone}
 use Rattle.table.specs.Holds.{Placed, empty, node, erase, head, Stored, end, hit, times, Holds}
 use Rattle.table.specs.Steps.{withWord, Put, Cleared, Entered, under, alone}
 use Rattle.table.proofs.Counting.{hit-same, hit-other}
@@ -24,19 +24,21 @@ record Prepended (m m′ : Table) (x p : ℕ) (l : Label) : Type 0 where
   first : m′ p .first ≡ x
   children : m′ p .children ≡ suc (m p .children)
   same : (y : ℕ) → (y ≡ x → ⊥) → (y ≡ p → ⊥) → m′ y ≡ m y
+  bytes : ByteLevels l
 
 prepended : {m m′ : Table} {x p : ℕ} {l : Label} → p < x → m p .children < 4294967295 → Entered p x l m m′ → Prepended m m′ x p l
 unfolding withWord
-prepended {m} {x = x} {p} lt few (under m₁ m₂ lt′ q₁ q₂ q₃) =
+prepended {m} {x = x} {p} lt few (under m₁ m₂ b lt′ q₁ q₂ q₃) =
     let at-p = q₂ .on ∙ ap (withWord 0 x) (q₁ .off p (λ e. omega arith)) in
     let same-count : m₂ p .children ≡ m p .children = ap (λ a. a .children) at-p in
     record {
       new = q₃ .off x (λ e. omega arith) ∙ q₂ .off x (λ e. omega arith) ∙ q₁ .on;
-      first = ap (λ a. a .first) (q₃ .on ∙ ap (withWord 4 _) at-p);
+      first = ap (λ a. a .first) (q₃ .on ∙ ap (withWord 5 _) at-p);
       children = ap (λ a. a .children) (q₃ .on) ∙ one-more (m₂ p .children) (omega arith) ∙ ap suc same-count;
       same = λ y nx np. q₃ .off y np ∙ q₂ .off y np ∙ q₁ .off y nx;
+      bytes = b;
     }
-prepended lt few (alone ge q) = absurd (omega arith)
+prepended lt few (alone b ge q) = absurd (omega arith)
 
 module _ (par : ℕ → ℕ) (lab : ℕ → Label) where
   pub record Loading (m : Table) (b k j : ℕ) : Type 0 where
@@ -91,7 +93,7 @@ module _ (par : ℕ → ℕ) (lab : ℕ → Label) where
       list′ i lt (yes z) =
           let next = h .heads (par x) (omega arith) ∙ ap (λ v. head (kids par lab v k (suc x))) z in
           rw (kids-hit par lab i k x z)
-          (hb, q .new ∙ cell≡ (h .heads x (le-refl (suc x))) next z (h .counts x (le-refl (suc x))), kept x (le-refl (suc x)), kept i (omega arith))
+          (hb, q .new ∙ cell≡ (h .heads x (le-refl (suc x))) next z (h .counts x (le-refl (suc x))), kept x (le-refl (suc x)), kept i (omega arith), q .bytes)
       list′ i lt (no z) = rw (kids-miss par lab i k x z) (kept i (omega arith))
 
   -- the root is entered, and the tree stands
@@ -100,9 +102,9 @@ module _ (par : ℕ → ℕ) (lab : ℕ → Label) where
     abbrev first : Placed
     first = kids par lab 0 k 1
 
-    root-put : Entered p 0 (lab 0) m m′ → Put m m′ 0 (cell (m 0 .first) gone gone (m 0 .children) (lab 0))
-    root-put (under m₁ m₂ lt q₁ q₂ q₃) = absurd (omega arith)
-    root-put (alone ge q) = q
+    root-put : Entered p 0 (lab 0) m m′ → Put m m′ 0 (cell (m 0 .first) gone gone (m 0 .children) (lab 0)) × ByteLevels (lab 0)
+    root-put (under m₁ m₂ b lt q₁ q₂ q₃) = absurd (omega arith)
+    root-put (alone b ge q) = (q, b)
 
     once : (y : ℕ) → y < suc k → Dec (y ≡ 0) → hit y 0 + times y first ≡ 1
     once y lt (yes z) = rw z (omega (arith, hit-same 0, spread par lab 0 k 1 rule, among-below 0 1 k (le-refl 1)))
@@ -124,9 +126,10 @@ module _ (par : ℕ → ℕ) (lab : ℕ → Label) where
           live = omega arith;
           stored = (
             omega arith,
-            q .on ∙ cell≡ (h .heads 0 (le-refl 1)) refl refl (h .counts 0 (le-refl 1)),
-            keep m m′ (suc k) 0 k 1 (λ y z. q .off y (λ v. omega arith)) (h .lists 0 (le-refl 1)),
+            q .0 .on ∙ cell≡ (h .heads 0 (le-refl 1)) refl refl (h .counts 0 (le-refl 1)),
+            keep m m′ (suc k) 0 k 1 (λ y z. q .0 .off y (λ v. omega arith)) (h .lists 0 (le-refl 1)),
             tt,
+            q .1,
           );
           freed = tt;
           leads = refl;

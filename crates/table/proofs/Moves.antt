@@ -6,7 +6,7 @@ use mathlib.Core.Option.{some}
 use Prim.Native.Nat.{ℕ, _≤_}
 use native.Mathlib.Omega.{arith}
 use Rattle.rules.specs.Tree.{Label, Forest, tree, Side, child, sibling, along, Place, root, to, up, sub, exists, label, count}
-use Rattle.table.specs.Cells.{Table, gone, link}
+use Rattle.table.specs.Cells.{Table, ByteLevels, gone, link, parentOn}
 use Rattle.table.specs.Holds.{Placed, empty, node, erase, head, beside, Spare, Holds}
 use Rattle.table.specs.Promises.{Leads, outside, missing, found}
 use Rattle.table.proofs.Counting.{few-siblings}
@@ -91,3 +91,13 @@ module _ {m : Table} {n used free x : ℕ} {t : Forest} {p : Place} (h : Holds m
   to-parent =
       subst (λ q. Leads m n used free t (up q) (m x .parent)) (at .is-path)
       (subst (λ z. Leads m n used free t (up (pathOf (at .k))) z) (sym (ap (λ a. a .parent) (at .focus .stored .1))) (climb (at .k) _ (at .focus)))
+
+  -- the parent that nodes on a side have
+  pub to-above : (d : Side) → Leads m n used free t (up (to d p)) (parentOn d x (m x))
+  unfolding up
+  to-above child = found p (omega (arith, h .live, h .room)) refl h
+  to-above sibling = to-parent
+
+  -- a stored level is a byte
+  pub levels : ByteLevels (m x .label)
+  levels = subst ByteLevels (sym (ap (λ a. a .label) (at .focus .stored .1))) (at .focus .stored .4)

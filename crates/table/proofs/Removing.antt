@@ -1,25 +1,22 @@
--- A node is removed from a side of the cursor's node: the view goes to that side, the first node there goes, and the view comes back. Where
--- nothing stands, the tree stays as it is; and where a node stands, it has a parent. Assumes nothing.
-use mathlib.Core.Path.{_≡_, refl, sym, ap, subst, _∙_}
+-- A node is removed from a side of the cursor's node, where it has a parent: the view goes to that side, the first node there goes, and the view
+-- comes back. Assumes nothing.
+use mathlib.Core.Path.{_≡_, sym, ap, subst, _∙_}
+use mathlib.Core.Option.{some}
 use Prim.Native.Nat.{ℕ, _-_, _<_, _≤_}
 use native.Mathlib.Omega.{arith}
 use Rattle.rules.specs.Tree.{Label, Forest, sibling, Place, to, change, remove}
-use Rattle.table.specs.Cells.{Table, gone, sideOf, link, parentOn}
-use Rattle.table.specs.Holds.{Placed, empty, node, head, Spare, Holds}
+use Rattle.table.specs.Cells.{Table, gone, wordOf, sideOf, parentOn}
+use Rattle.table.specs.Holds.{Placed, empty, node, head, Spare, end, more, Holds}
+use Rattle.table.specs.Promises.{Leads}
 use Rattle.table.specs.Steps.{withWord, Put, Detached}
-use Rattle.table.proofs.Ways.{Way, step, pathOf, parentOf, plug-change}
+use Rattle.table.proofs.Ways.{Way, step, pathOf, parentOf}
 use Rattle.table.proofs.Focus.{Focus}
+use Rattle.table.proofs.Unique.{one-lead}
+use Rattle.table.proofs.Moves.{to-side}
 use Rattle.table.proofs.Links.{withLink, withCount}
 use Rattle.table.proofs.Changes.{prune, withParent}
-use Rattle.table.proofs.Sides.{return, link-above, parent-above, has-parent, at, view-on}
-use Rattle.table.proofs.Words.{with-link}
-
--- where nothing stands, a removal changes nothing
-idle : {m : Table} {n used free : ℕ} {t : Forest} {w : Placed} {s : Spare} (k : Way) (f : Placed) → Focus m n used free t w k f s → n ≤ head f
-    → change (pathOf k) remove t ≡ t
-unfolding remove
-idle k empty h ge = ap (change (pathOf k) remove) (sym (h .is-tree)) ∙ plug-change k remove empty empty refl ∙ h .is-tree
-idle k (node x l c r) h ge = absurd (omega (arith, h .stored .0, h .room))
+use Rattle.table.proofs.Sides.{return, link-above, parent-above, has-parent, at, forest-on, view-on}
+use Rattle.table.proofs.Words.{with-link, fits}
 
 -- the node at y is removed
 module _ {m m′ : Table} {n used free x y u : ℕ} {t : Forest} {l : Label} {o : Placed} {k : Way} {s : Spare} (side : ℕ) (lt : side < 2) where
@@ -38,24 +35,25 @@ module _ {m m′ : Table} {n used free x y u : ℕ} {t : Forest} {l : Label} {o 
       subst (λ v. Holds m′ n used v x (change (to d (pathOf k)) remove t) (pathOf k)) (sym e)
       (return d k (prune h (λ i. omega (arith, h .few)) passed cut stacked counted))
 
+-- what leads to the free places fits a word
+free-fits : {m : Table} {n used free : ℕ} {t : Forest} {w f : Placed} {k : Way} {s : Spare} → Focus m n used free t w k f s → wordOf free ≡ free
+free-fits {s = end} h = fits _ (omega (arith, h .leads))
+free-fits {s = more x c r s} h = fits _ (omega (arith, h .leads, h .freed .0, h .room, h .few))
+
 -- removal on a side of the cursor's node
-module _ {m : Table} {n used free x y u : ℕ} {t : Forest} {p : Place} (h : Holds m n used free x t p) (side : ℕ) (lt : side < 2)
-    (e : y ≡ link (sideOf side) (m x)) (z : u ≡ parentOn (sideOf side) x (m x)) where
-  pub removed : {m′ : Table} → y < n → u < n → Detached side m m′ x u y free → Holds m′ n used y x (change (to (sideOf side) p) remove t) p
-  removed {m′} ly lu g =
+module _ {m : Table} {n used free x y u : ℕ} {t : Forest} {p : Place} (h : Holds m n used free x t p) (side : ℕ) (lt : side < 2) (ly : y < n)
+    (e : Leads m n used free t (some (to (sideOf side) p)) y) (z : u ≡ parentOn (sideOf side) x (m x)) where
+  is-head : y ≡ head (forest-on h (sideOf side))
+  is-head = one-lead e (to-side h (sideOf side)) ly ∙ link-above (sideOf side) (view-on h (sideOf side))
+
+  pub removed : {m′ : Table} → u < n → Detached side m m′ x u y (wordOf free) → Holds m′ n used y x (change (to (sideOf side) p) remove t) p
+  removed {m′} lu g =
       let f = view-on h (sideOf side) in
       subst (λ q. Holds m′ n used y x (change (to (sideOf side) q) remove t) q) (at h .is-path)
-      (cut-off side lt _ f (e ∙ link-above (sideOf side) f) ly (z ∙ parent-above (sideOf side) f) lu g)
+      (cut-off side lt _ f is-head ly (z ∙ parent-above (sideOf side) f) lu (rw (free-fits f) at g))
 
-  -- nothing to remove, or no node without a parent there
-  pub removed-none : n ≤ y → Holds m n used free x (change (to (sideOf side) p) remove t) p
-  removed-none ge =
+  -- no node without a parent stands there
+  pub removed-never : n ≤ u → Holds m n used free x (change (to (sideOf side) p) remove t) p
+  removed-never ge =
       let f = view-on h (sideOf side) in
-      let i = idle _ _ f (omega (arith, e, link-above (sideOf side) f)) in
-      subst (λ q. Holds m n used free x (change (to (sideOf side) q) remove t) p) (at h .is-path)
-      (subst (λ v. Holds m n used free x v p) (sym i) h)
-
-  pub removed-never : y < n → n ≤ u → Holds m n used free x (change (to (sideOf side) p) remove t) p
-  removed-never ly ge =
-      let f = view-on h (sideOf side) in
-      absurd (omega (arith, has-parent (sideOf side) (at h .k) _ f (omega (arith, e, link-above (sideOf side) f)), z, parent-above (sideOf side) f))
+      absurd (omega (arith, has-parent (sideOf side) (at h .k) _ f (omega (arith, is-head)), z, parent-above (sideOf side) f))

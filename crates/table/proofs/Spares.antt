@@ -1,7 +1,6 @@
 -- Taking a free place. The first one of the stack is replaced by the forests that hang from it, its right siblings and then its children; where
 -- the stack is empty, the first place that was never used comes. All places are live exactly when there is neither. Assumes nothing.
 use mathlib.Core.Path.{_≡_, refl, sym, ap, _∙_}
-use mathlib.Core.Bool.{Bool, true, false, true≢false}
 use Prim.Native.Nat.{ℕ, _+_, _<_, _≤_}
 use native.Mathlib.Omega.{arith}
 use native.Mathlib.Nat.{le-refl}
@@ -131,14 +130,14 @@ module _ {m : Table} {n used free : ℕ} {t : Forest} {k : Way} {f : Placed} {s 
       each y z (yes q) = rw q (omega (arith, hit-same used))
       each y z (no q) = omega (arith, h .each y (omega arith))
 
-  pub handed : {m′ : Table} {ok : Bool} {x free′ used′ : ℕ} → Took m n used free m′ ok x free′ used′ → ok ≡ true → Handed m′ n used′ free′ x t k f
-  handed {m′} {free′ = free′} (again m₁ e lt p₁ p₂ i j u) z =
+  pub handed : {m′ : Table} {x free′ used′ : ℕ} → Took m n used free m′ x free′ used′ → x < n → Handed m′ n used′ free′ x t k f
+  handed {m′} {free′ = free′} (again m₁ e lt p₁ p₂ j u) z =
       let b = h .leads in
       let q : Handed m′ n used free′ (top s) t k f =
       pop s (rw (← b) at h) (rw (← b) at lt) (rw (← b) at p₁) (rw (← b) at p₂) in
       rw (j, u, ← b) q
-  handed (fresh ge lt same i j e u) z = rw (j, e, u) (begin same lt)
-  handed (full ge le same i e u) z = absurd (true≢false (sym z ∙ i))
+  handed (fresh ge lt same j e u) z = rw (j, e, u) (begin same lt)
+  handed (full ge le same j e u) z = absurd (omega (arith, h .few))
 
   -- a place is found exactly where not every place holds a live node
   once : (y : ℕ) → y < used → times y (plug k f) + spareTimes y s ≡ 1
@@ -160,15 +159,13 @@ module _ {m : Table} {n used free : ℕ} {t : Forest} {k : Way} {f : Placed} {s 
       let q = some-spare s (h .freed) (rw (← h .leads) at lt) in
       omega (arith, ap size (h .is-tree), size-less m used gone (plug k f) s tree-stored once (top s) (q .0) (q .1))
 
-  pub found-room : {m′ : Table} {ok : Bool} {x free′ used′ : ℕ} → Took m n used free m′ ok x free′ used′ → ok ≡ ltb (size t) n
-  found-room (again m₁ e lt p₁ p₂ i j u) = i ∙ sym (lt-ltb (size t) n (omega (arith, size-below lt, h .room)))
-  found-room (fresh ge lt same i j e u) = i ∙ sym (lt-ltb (size t) n (omega (arith, size-is ge)))
-  found-room (full ge le same i e u) = i ∙ sym (le-ltb (size t) n (omega (arith, size-is ge)))
+  pub found-room : {m′ : Table} {x free′ used′ : ℕ} → Took m n used free m′ x free′ used′ → ltb x n ≡ ltb (size t) n
+  found-room (again m₁ e lt p₁ p₂ j u) = lt-ltb _ n (omega arith) ∙ sym (lt-ltb (size t) n (omega (arith, size-below lt, h .room)))
+  found-room (fresh ge lt same j e u) = lt-ltb _ n (omega arith) ∙ sym (lt-ltb (size t) n (omega (arith, size-is ge)))
+  found-room (full ge le same j e u) = le-ltb _ n (omega (arith, h .few)) ∙ sym (le-ltb (size t) n (omega (arith, size-is ge)))
 
   -- nothing changes where there is none
-  pub refused : {m′ : Table} {ok : Bool} {x free′ used′ : ℕ} → Took m n used free m′ ok x free′ used′ → ok ≡ false
-      → Focus m′ n used′ free′ t empty k f s
-  refused (again m₁ e lt p₁ p₂ i j u) z = absurd (true≢false (sym i ∙ z))
-  refused (fresh ge lt same i j e u) z = absurd (true≢false (sym i ∙ z))
-  refused (full ge le same i e u) z =
-      rw (e, u) (unchanged h (λ y _. same y))
+  pub refused : {m′ : Table} {x free′ used′ : ℕ} → Took m n used free m′ x free′ used′ → n ≤ x → Focus m′ n used′ free′ t empty k f s × (x ≡ gone)
+  refused (again m₁ e lt p₁ p₂ j u) z = absurd (omega arith)
+  refused (fresh ge lt same j e u) z = absurd (omega arith)
+  refused (full ge le same j e u) z = (rw (e, u) (unchanged h (λ y _. same y)), j)

@@ -1,14 +1,18 @@
 -- A table holds at most one tree, and no two of its nodes share a place. The links from place 0 on tell the whole tree; and a place that led
 -- to two nodes would stand twice in it. Assumes nothing.
 use mathlib.Core.Path.{_≡_, refl, sym, ap, subst, _∙_}
+use mathlib.Core.Bool.{true≢false}
+use mathlib.Core.Option.{Option, Option·some-ne-none, Option·some-injective}
 use Prim.Native.Nat.{ℕ, _<_, _≤_}
 use native.Mathlib.Omega.{arith}
-use Rattle.rules.specs.Tree.{Label, Forest, Side, child, sibling, Place, root, to}
+use Rattle.rules.specs.Tree.{Label, Forest, Side, child, sibling, Place, root, to, sub, exists}
 use Rattle.table.specs.Cells.{Table, gone}
 use Rattle.table.specs.Holds.{Placed, empty, node, erase, head, beside, part, Stored, Spare, hit, times, Holds}
+use Rattle.table.specs.Promises.{Leads, outside, missing, found}
 use Rattle.table.proofs.Counting.{hit-same}
 use Rattle.table.proofs.Ways.{Way, plug, replug, plug-times, Some, some-node, split}
 use Rattle.table.proofs.Focus.{Focus}
+use Rattle.table.proofs.Moves.{stands}
 
 node≡ : {x x′ : ℕ} {l l′ : Label} {c c′ r r′ : Placed} → x ≡ x′ → l ≡ l′ → c ≡ c′ → r ≡ r′ → node x l c r ≡ node x′ l′ c′ r′
 node≡ p q s z = λ i. node (p i) (q i) (s i) (z i)
@@ -128,3 +132,14 @@ module _ {m : Table} {n used free x : ℕ} {t : Forest} {p : Place} where
 
   pub own-node : {x′ : ℕ} → Holds m n used free x t p → Holds m n used free x′ t p → x ≡ x′
   own-node h h′ = sym (h .here) ∙ ap (λ f. head (part p f)) (one-placing h h′) ∙ h′ .here
+
+-- a move leads to one place
+pub one-lead : {m : Table} {n used free r r′ : ℕ} {t : Forest} {o : Option Place} → Leads m n used free t o r → Leads m n used free t o r′ → r < n
+    → r ≡ r′
+one-lead (outside ge e) l lt = absurd (omega arith)
+one-lead (missing q ge e z) l lt = absurd (omega arith)
+one-lead (found q lt′ e h) (outside ge e′) lt = absurd (Option·some-ne-none q (sym e ∙ e′))
+one-lead {t = t} (found q lt′ e h) (missing q′ ge e′ z) lt =
+    absurd (true≢false (sym (stands h) ∙ ap (λ v. exists (sub v t)) (Option·some-injective q q′ (sym e ∙ e′)) ∙ z))
+one-lead {m} {n} {used} {free} {r′ = r′} {t} (found q lt′ e h) (found q′ lt″ e′ h′) lt =
+    own-node h (subst (λ v. Holds m n used free r′ t v) (Option·some-injective q′ q (sym e′ ∙ e)) h′)

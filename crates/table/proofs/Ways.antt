@@ -4,7 +4,7 @@ use mathlib.Core.Path.{_≡_, refl, ap, _∙_}
 use Prim.Native.Nat.{ℕ, suc, _+_, _<_, _≤_}
 use native.Mathlib.Omega.{arith}
 use Rattle.rules.specs.Tree.{Label, Forest, tree, Side, child, sibling, along, Place, root, to, sub, onSide, change, count}
-use Rattle.table.specs.Cells.{cell, Table, gone}
+use Rattle.table.specs.Cells.{cell, Table, ByteLevels, gone}
 use Rattle.table.specs.Holds.{Placed, empty, node, erase, head, beside, part, Stored, hit, times}
 
 -- a way, innermost first: what is below it stands on a side of the node with this place and label, and the forest on the other side
@@ -42,9 +42,9 @@ wayTimes y (step d x l o k) = hit y x + times y o + wayTimes y k
 abbrev pub Above : Table → ℕ → ℕ → ℕ → Way → Type 0
 Above m b h j home = (h ≡ 0) × (j ≡ 1)
 Above m b h j (step child x l o k) =
-    (x < b) × (m x ≡ cell h (head o) (parentOf k) j l) × Stored m b (parentOf k) o × Above m b x (suc (count (erase o))) k
+    (x < b) × (m x ≡ cell h (head o) (parentOf k) j l) × Stored m b (parentOf k) o × Above m b x (suc (count (erase o))) k × ByteLevels l
 Above m b h j (step sibling x l o k) =
-    (x < b) × (m x ≡ cell (head o) h (parentOf k) (count (erase o)) l) × Stored m b x o × Above m b x (suc j) k
+    (x < b) × (m x ≡ cell (head o) h (parentOf k) (count (erase o)) l) × Stored m b x o × Above m b x (suc j) k × ByteLevels l
 
 -- the tree above and the forest below, of the whole
 module _ (m : Table) (b : ℕ) where
@@ -54,17 +54,17 @@ module _ (m : Table) (b : ℕ) where
   unplug home f h z j = (h, (z, j))
   unplug (step child x l o k) f h z j =
       let q = unplug k (node x l f o) h z j in
-      (q .0 .2, (q .0 .0, q .0 .1, q .0 .3, q .1))
+      (q .0 .2, (q .0 .0, q .0 .1, q .0 .3, q .1, q .0 .4))
   unplug (step sibling x l o k) f h z j =
       let q = unplug k (node x l o f) h z j in
-      (q .0 .3, (q .0 .0, q .0 .1, q .0 .2, q .1))
+      (q .0 .3, (q .0 .0, q .0 .1, q .0 .2, q .1, q .0 .4))
 
   pub replug : (k : Way) (f : Placed) → Stored m b (parentOf k) f → Above m b (head f) (count (erase f)) k
       → Stored m b gone (plug k f) × (head (plug k f) ≡ 0) × (count (erase (plug k f)) ≡ 1)
   unfolding count
   replug home f h w = (h, w .0, w .1)
-  replug (step child x l o k) f h w = replug k (node x l f o) (w .0, w .1, h, w .2) (w .3)
-  replug (step sibling x l o k) f h w = replug k (node x l o f) (w .0, w .1, w .2, h) (w .3)
+  replug (step child x l o k) f h w = replug k (node x l f o) (w .0, w .1, h, w .2, w .4) (w .3)
+  replug (step sibling x l o k) f h w = replug k (node x l o f) (w .0, w .1, w .2, h, w .4) (w .3)
 
 pub plug-times : (y : ℕ) (k : Way) (f : Placed) → times y (plug k f) ≡ times y f + wayTimes y k
 plug-times y home f = omega arith

@@ -3,6 +3,7 @@ use mathlib.Core.Path.{_≡_, refl, ap, _∙_}
 use mathlib.Core.List.{List}
 use mathlib.Core.Bool.{cond}
 use Prim.Native.Nat.{ℕ, zero, suc, _+_, _*_, _<_, _≤_}
+use Rattle.rules.specs.Number.{range}
 use native.Mathlib.Omega.{arith}
 use native.Mathlib.Numerals.{add-one}
 use native.Mathlib.Decide.{ℕ-discrete}
@@ -10,55 +11,63 @@ use lib.Dec.{eqb}
 use lib.ListN.{length, set}
 use lib.Seq.{getD-set-same, getD-set-other}
 use borrow.Author.Tests.{eq-eqb, ne-eqb, lt-ltb}
-use Rattle.rules.specs.Tree.{withValue}
-use Rattle.table.specs.Cells.{Cell, cell, Table, word, labelIn, cells, sideOf, link}
-use Rattle.table.specs.Steps.{withLevels, withWord, Put, oneMore}
+use Rattle.table.specs.Cells.{Cell, cell, Table, cellSize, word, wordOf, labelWith, cells, sideOf, link}
+use Rattle.table.specs.Steps.{withWord, Put, oneMore}
 use Rattle.table.proofs.Links.{withLink}
 
-cell≡ : {f f′ r r′ u u′ d d′ j j′ v v′ : ℕ} → f ≡ f′ → r ≡ r′ → u ≡ u′ → d ≡ d′ → j ≡ j′ → v ≡ v′
-    → cell f r u j (labelIn d v) ≡ cell f′ r′ u′ j′ (labelIn d′ v′)
-cell≡ p q s d j v = λ i. cell (p i) (q i) (s i) (j i) (labelIn (d i) (v i))
-
 -- the cell at x, by its words
-spelled : (b : List ℕ) (x : ℕ) (g : ℕ → ℕ) → ((i : ℕ) → i < 8 → word b x i ≡ g i) → cells b x ≡ cell (g 0) (g 1) (g 2) (g 4) (labelIn (g 3) (g 5))
+spelled : (b : List ℕ) (x : ℕ) (g : ℕ → ℕ) → ((i : ℕ) → i < cellSize → word b x i ≡ g i)
+    → cells b x ≡ cell (g 0) (g 1) (g 2) (g 5) (labelWith (g 4) (g 3) (g 6) (g 7))
 unfolding cells
 spelled b x g h =
-    cell≡ (h 0 (omega arith)) (h 1 (omega arith)) (h 2 (omega arith)) (h 3 (omega arith)) (h 4 (omega arith)) (h 5 (omega arith))
+    λ i.
+    cell (h 0 (omega arith) i) (h 1 (omega arith) i) (h 2 (omega arith) i) (h 5 (omega arith) i)
+    (labelWith (h 4 (omega arith) i) (h 3 (omega arith) i) (h 6 (omega arith) i) (h 7 (omega arith) i))
 
-module _ (b : List ℕ) (x : ℕ) (h : 8 * x + 8 ≤ length b) where
-  here : (j v i : ℕ) → j < 6 → word (set b (8 * x + j) v) x i ≡ cond (eqb i j) v (word b x i)
+module _ (b : List ℕ) (x : ℕ) (h : cellSize * x + cellSize ≤ length b) where
+  here : (j v i : ℕ) → j < cellSize → word (set b (cellSize * x + j) v) x i ≡ cond (eqb i j) v (word b x i)
   here j v i lt = go (ℕ-discrete i j)
     where
-      go : Dec (i ≡ j) → word (set b (8 * x + j) v) x i ≡ cond (eqb i j) v (word b x i)
-      go (yes q) = rw (eq-eqb i j q, q) (getD-set-same b (8 * x + j) v 0 (omega arith))
-      go (no q) = rw (ne-eqb i j q) (getD-set-other b (8 * x + j) (8 * x + i) v 0 (λ z. q (omega arith)))
+      go : Dec (i ≡ j) → word (set b (cellSize * x + j) v) x i ≡ cond (eqb i j) v (word b x i)
+      go (yes q) = rw (eq-eqb i j q, q) (getD-set-same b (cellSize * x + j) v 0 (omega arith))
+      go (no q) = rw (ne-eqb i j q) (getD-set-other b (cellSize * x + j) (cellSize * x + i) v 0 (λ z. q (omega arith)))
 
-  one-word : (j v : ℕ) → j < 6 → cells (set b (8 * x + j) v) x ≡ withWord j v (cells b x)
-  unfolding cells withWord withLevels withValue
-  one-word zero v lt = spelled (set b (8 * x + 0) v) x (λ i. cond (eqb i 0) v (word b x i)) (λ i _. here 0 v i lt)
-  one-word (suc zero) v lt = spelled (set b (8 * x + 1) v) x (λ i. cond (eqb i 1) v (word b x i)) (λ i _. here 1 v i lt)
-  one-word (suc (suc zero)) v lt = spelled (set b (8 * x + 2) v) x (λ i. cond (eqb i 2) v (word b x i)) (λ i _. here 2 v i lt)
-  one-word (suc (suc (suc zero))) v lt = spelled (set b (8 * x + 3) v) x (λ i. cond (eqb i 3) v (word b x i)) (λ i _. here 3 v i lt)
-  one-word (suc (suc (suc (suc zero)))) v lt = spelled (set b (8 * x + 4) v) x (λ i. cond (eqb i 4) v (word b x i)) (λ i _. here 4 v i lt)
-  one-word (suc (suc (suc (suc (suc zero))))) v lt = spelled (set b (8 * x + 5) v) x (λ i. cond (eqb i 5) v (word b x i)) (λ i _. here 5 v i lt)
-  one-word (suc (suc (suc (suc (suc (suc k)))))) v lt = absurd (omega arith)
+  by-words : (j v : ℕ) → j < cellSize → cells (set b (cellSize * x + j) v) x
+      ≡ (let g : ℕ → ℕ = λ i. cond (eqb i j) v (word b x i) in cell (g 0) (g 1) (g 2) (g 5) (labelWith (g 4) (g 3) (g 6) (g 7)))
+  by-words j v lt = spelled (set b (cellSize * x + j) v) x (λ i. cond (eqb i j) v (word b x i)) (λ i _. here j v i lt)
 
-  elsewhere : (j v y : ℕ) → j < 6 → (y ≡ x → ⊥) → cells (set b (8 * x + j) v) y ≡ cells b y
+  one-word : (j v : ℕ) → j < cellSize → cells (set b (cellSize * x + j) v) x ≡ withWord j v (cells b x)
+  unfolding cells withWord
+  one-word zero v lt = by-words 0 v lt
+  one-word (suc zero) v lt = by-words 1 v lt
+  one-word (suc (suc zero)) v lt = by-words 2 v lt
+  one-word (suc (suc (suc zero))) v lt = by-words 3 v lt
+  one-word (suc (suc (suc (suc zero)))) v lt = by-words 4 v lt
+  one-word (suc (suc (suc (suc (suc zero))))) v lt = by-words 5 v lt
+  one-word (suc (suc (suc (suc (suc (suc zero)))))) v lt = by-words 6 v lt
+  one-word (suc (suc (suc (suc (suc (suc (suc zero))))))) v lt = by-words 7 v lt
+  one-word (suc (suc (suc (suc (suc (suc (suc (suc k)))))))) v lt = absurd (omega arith)
+
+  elsewhere : (j v y : ℕ) → j < cellSize → (y ≡ x → ⊥) → cells (set b (cellSize * x + j) v) y ≡ cells b y
   unfolding cells
   elsewhere j v y lt ne =
-      spelled (set b (8 * x + j) v) y (word b y) (λ i hi. getD-set-other b (8 * x + j) (8 * y + i) v 0 (λ q. ne (omega arith)))
+      spelled (set b (cellSize * x + j) v) y (word b y)
+      (λ i hi. getD-set-other b (cellSize * x + j) (cellSize * y + i) v 0 (λ q. ne (omega arith)))
 
-  pub put-word : (j v : ℕ) → j < 6 → Put (cells b) (cells (set b (8 * x + j) v)) x (withWord j v (cells b x))
+  pub put-word : (j v : ℕ) → j < cellSize → Put (cells b) (cells (set b (cellSize * x + j) v)) x (withWord j v (cells b x))
   put-word j v lt = record { on = one-word j v lt; off = λ y. elsewhere j v y lt }
 
 -- two changes of one cell
 pub twice : {m m₁ m₂ : Table} {x : ℕ} {a : Cell} (f : Cell → Cell) → Put m m₁ x a → Put m₁ m₂ x (f (m₁ x)) → Put m m₂ x (f a)
 twice f p q = record { on = q .on ∙ ap f (p .on); off = λ y ne. q .off y ne ∙ p .off y ne }
 
-pub filled : {m m₁ m₂ m₃ m₄ : Table} {x r u : ℕ} (d v : ℕ) → Put m m₁ x (withWord 1 r (m x)) → Put m₁ m₂ x (withWord 2 u (m₁ x))
-    → Put m₂ m₃ x (withWord 3 d (m₂ x)) → Put m₃ m₄ x (withWord 5 v (m₃ x)) → Put m m₄ x (cell (m x .first) r u (m x .children) (labelIn d v))
-unfolding withWord withLevels withValue
-filled {r = r} {u} d v p q s z = twice (withWord 5 v) (twice (withWord 3 d) (twice (withWord 2 u) p q) s) z
+-- a cell is filled, word by word
+pub filled : {m m₁ m₂ m₃ m₄ m₅ m₆ : Table} {x r u : ℕ} (v : ℕ) {e c s : ℕ} → Put m m₁ x (withWord 1 r (m x)) → Put m₁ m₂ x (withWord 2 u (m₁ x))
+    → Put m₂ m₃ x (withWord 3 e (m₂ x)) → Put m₃ m₄ x (withWord 4 v (m₃ x)) → Put m₄ m₅ x (withWord 6 c (m₄ x))
+    → Put m₅ m₆ x (withWord 7 s (m₅ x)) → Put m m₆ x (cell (m x .first) r u (m x .children) (labelWith v e c s))
+unfolding withWord
+filled {u = u} v {e} {c} {s} p₁ p₂ p₃ p₄ p₅ p₆ =
+    twice (withWord 7 s) (twice (withWord 6 c) (twice (withWord 4 v) (twice (withWord 3 e) (twice (withWord 2 u) p₁ p₂) p₃) p₄) p₅) p₆
 
 -- links by their word
 pub link-word : (b : List ℕ) (x j : ℕ) → j < 2 → word b x j ≡ link (sideOf j) (cells b x)
@@ -76,3 +85,8 @@ with-link (suc (suc j)) v a lt = absurd (omega arith)
 pub one-more : (j : ℕ) → j < 4294967295 → oneMore j ≡ suc j
 unfolding oneMore
 one-more j lt = ap (λ t. cond t (j + 1) j) (lt-ltb j 4294967295 lt) ∙ add-one j
+
+-- a number below 2 ^ 32 is its own word
+pub fits : (x : ℕ) → x < range → wordOf x ≡ x
+unfolding wordOf
+fits x lt = omega arith

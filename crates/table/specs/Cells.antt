@@ -1,10 +1,11 @@
--- The table's words, eight to a place of one slice, and the cell that they spell. Assumes nothing.
+-- The table's words, `cellSize` to a place of one slice, and the cell that they spell. Assumes nothing.
 use mathlib.Core.List.{List}
-use Prim.Native.Nat.{ℕ, zero, suc, _+_, _*_, _/_, _%_, _<_, _≤_}
+use Prim.Native.Nat.{ℕ, zero, suc, _+_, _*_, _%_, _<_, _≤_}
 use lib.ListN.{getD, length}
 use Rattle.rules.specs.Limits.{maxNodes, noParent}
-use Rattle.rules.specs.Number.{signed}
+use Rattle.rules.specs.Number.{range, signed}
 use Rattle.rules.specs.Tree.{Label, Side, child, sibling}
+use Rattle.table.specs.declared.shape.NewNode.{NewNode}
 
 -- what a link holds where it leads to no node: a number that is no place
 abbrev pub gone : ℕ
@@ -25,22 +26,35 @@ cell f r u j l = record { first = f; right = r; parent = u; children = j; label 
 abbrev pub Table : Type 0
 Table = ℕ → Cell
 
+-- how many words a cell has
+abbrev pub cellSize : ℕ
+cellSize = 8
+
 -- word j of place x
 abbrev pub word : List ℕ → ℕ → ℕ → ℕ
-word b x j = getD b (8 * x + j) 0
+word b x j = getD b (cellSize * x + j) 0
 
--- the label of a word of levels, which has one in each of its three low bytes, and of the 32 bits of a value
-abbrev pub labelIn : ℕ → ℕ → Label
-labelIn levels value =
-    record { value = signed value; existence = levels % 256; content = levels / 256 % 256; structure = levels / 65536 % 256 }
-
--- the table that a slice of words spells: first child, right sibling, parent, levels, count of children, value; two words are free
-unfoldable pub cells : List ℕ → Table
-cells b x = cell (word b x 0) (word b x 1) (word b x 2) (word b x 4) (labelIn (word b x 3) (word b x 5))
+-- a place as a word
+unfoldable pub wordOf : ℕ → ℕ
+wordOf x = x % range
 
 -- the label of a value's 32 bits and three levels
 abbrev pub labelWith : ℕ → ℕ → ℕ → ℕ → Label
 labelWith v e c s = record { value = signed v; existence = e; content = c; structure = s }
+
+-- the label of a new node
+abbrev pub labelNew : NewNode → Label
+labelNew d = labelWith (d .value) (d .existence) (d .content) (d .structure)
+
+-- the levels of a label are bytes
+pub record ByteLevels (l : Label) : Type 0 where
+  pub existence : l .existence < 256
+  pub content : l .content < 256
+  pub structure : l .structure < 256
+
+-- the table that a slice of words spells: first child, right sibling, parent, existence, value, count of children, content, structure
+unfoldable pub cells : List ℕ → Table
+cells b x = cell (word b x 0) (word b x 1) (word b x 2) (word b x 5) (labelWith (word b x 4) (word b x 3) (word b x 6) (word b x 7))
 
 -- the side that the link in word j leads to
 unfoldable pub sideOf : ℕ → Side
@@ -59,6 +73,6 @@ parentOn sibling x a = a .parent
 
 -- a slice with room for n places, "1 to 512", of which x is one
 pub record Within (b : List ℕ) (n x : ℕ) : Type 0 where
-  pub long : 8 * n ≤ length b
+  pub long : cellSize * n ≤ length b
   pub few : n ≤ maxNodes
   pub inside : x < n

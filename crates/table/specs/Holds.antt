@@ -6,7 +6,7 @@ use mathlib.Core.Bool.{Bool, true, false}
 use lib.Dec.{eqb}
 use Rattle.rules.specs.Limits.{maxNodes}
 use Rattle.rules.specs.Tree.{Label, Forest, nil, tree, Side, child, sibling, Place, root, to, count}
-use Rattle.table.specs.Cells.{cell, Table, gone}
+use Rattle.table.specs.Cells.{cell, Table, ByteLevels, gone}
 
 -- siblings from left to right, as in Forest, each with its place in the table
 pub data Placed : Type 0 where
@@ -34,11 +34,11 @@ abbrev pub part : Place → Placed → Placed
 part root f = f
 part (to d p) f = beside d (part p f)
 
--- the table stores the forest, whose nodes have the parent u: their places are below `used`, and the cell at each is the node's
+-- the table stores the forest, whose nodes have the parent u: their places are below `used`, the cell at each is the node's, and levels are bytes
 abbrev pub Stored : Table → ℕ → ℕ → Placed → Type 0
 Stored m used u empty = Unit
 Stored m used u (node x l c r) =
-    (x < used) × (m x ≡ cell (head c) (head r) u (count (erase c)) l) × Stored m used x c × Stored m used u r
+    (x < used) × (m x ≡ cell (head c) (head r) u (count (erase c)) l) × Stored m used x c × Stored m used u r × ByteLevels l
 
 -- the free places: a stack of forests that were removed, each here by its first place with what hangs below it and to its right
 pub data Spare : Type 0 where

@@ -1,13 +1,13 @@
 -- A lent table: a slice of node records, one to a place, each of which says what the cell of its place says. Assumes nothing.
 use mathlib.Core.List.{List}
-use Prim.Native.Nat.{ℕ, zero, suc, _+_, _*_}
+use Prim.Native.Nat.{ℕ, zero, suc, _+_, _*_, _%_}
 use lib.ListN.{getD, set}
 use lib.IntN.{pos}
 use Rattle.rules.specs.Number.{bits}
 use Rattle.table.specs.declared.lent.Node.{Node}
-use Rattle.table.specs.Cells.{Cell, Table, cells}
+use Rattle.table.specs.Cells.{Cell, Table, cellSize, cells}
 
--- the record of a cell, and the cell of a record
+-- the record of a cell, which has a byte for each level; and the cell of a record
 abbrev pub nodeOf : Cell → Node
 nodeOf a =
     record {
@@ -16,9 +16,9 @@ nodeOf a =
       parent = a .parent;
       children = a .children;
       value = a .label .value;
-      existence = a .label .existence;
-      content = a .label .content;
-      structure = a .label .structure;
+      existence = a .label .existence % 256;
+      content = a .label .content % 256;
+      structure = a .label .structure % 256;
     }
 
 abbrev pub cellOf : Node → Cell
@@ -44,11 +44,12 @@ abbrev pub stored : List ℕ → ℕ → List Node → List Node
 stored ws zero ns = ns
 stored ws (suc n) ns = set (stored ws n ns) n (nodeOf (cells ws n))
 
--- words with those of place x those of a record; the place's two free words stay
+-- words with those of place x those of a record
 unfoldable pub putNode : List ℕ → ℕ → Node → List ℕ
 putNode ws x d =
-    set (set (set (set (set (set ws (8 * x) (d .first)) (8 * x + 1) (d .right)) (8 * x + 2) (d .parent))
-    (8 * x + 3) (d .existence + d .content * 256 + d .structure * 65536)) (8 * x + 4) (d .children)) (8 * x + 5) (bits (d .value))
+    set (set (set (set (set (set (set (set ws (cellSize * x) (d .first)) (cellSize * x + 1) (d .right)) (cellSize * x + 2) (d .parent))
+    (cellSize * x + 3) (d .existence)) (cellSize * x + 4) (bits (d .value))) (cellSize * x + 5) (d .children)) (cellSize * x + 6) (d .content))
+    (cellSize * x + 7) (d .structure)
 
 -- the first n places become those of the first n records; the others stay
 abbrev pub loaded : List Node → ℕ → List ℕ → List ℕ

@@ -1,6 +1,6 @@
 -- What the functions over the table promise of every tree that it holds. Assumes nothing.
 use mathlib.Core.Path.{_≡_}
-use mathlib.Core.Bool.{Bool, true, false}
+use mathlib.Core.Bool.{true, false}
 use mathlib.Core.Option.{Option, none, some}
 use mathlib.Core.List.{List}
 use Prim.Native.Nat.{ℕ, _+_, _*_, _<_, _≤_}
@@ -9,8 +9,8 @@ use lib.Dec.{ltb}
 use Rattle.rules.specs.Limits.{maxNodes, nodeSize}
 use Rattle.rules.specs.Check.{parentRule}
 use Rattle.rules.specs.Job.{treeOf}
-use Rattle.rules.specs.Tree.{Label, Forest, Side, Place, root, to, up, sub, exists, size, change, insert}
-use Rattle.table.specs.Cells.{Table, gone}
+use Rattle.rules.specs.Tree.{Label, Forest, Side, Place, root, to, sub, exists, size, change, insert}
+use Rattle.table.specs.Cells.{Table, cellSize, gone}
 use Rattle.table.specs.Holds.{Holds}
 
 -- P holds of every tree and place that the table holds with the cursor at x
@@ -23,24 +23,24 @@ pub data Leads (m : Table) (n used free : ℕ) (t : Forest) (o : Option Place) (
   missing : (q : Place) → n ≤ r → o ≡ some q → exists (sub q t) ≡ false → Leads m n used free t o r
   found : (q : Place) → r < n → o ≡ some q → Holds m n used free r t q → Leads m n used free t o r
 
--- whether a node can come under a parent, in a table of n places: there is one, and not every place holds a live node
-unfoldable pub canAdd : ℕ → Forest → Option Place → Bool
-canAdd n t none = false
-canAdd n t (some q) = ltb (size t) n
+-- no cell behind the first n has changed
+pub record Behind (n : ℕ) (m m′ : Table) : Type 0 where
+  pub same : (y : ℕ) → n ≤ y → m′ y ≡ m y
 
--- A new node with the label l on the side d of the cursor's node. It gets a place of the table where no node stands, and nothing changes but in
--- the tree; where it cannot be added, the tree stays.
-pub record Added (d : Side) (l : Label) (m m′ : Table) (n used free at : ℕ) (ok : Bool) (x free′ used′ : ℕ) (t : Forest) (p : Place) : Type 0 where
-  pub when : ok ≡ canAdd n t (up (to d p))
-  pub kept : ok ≡ false → Holds m′ n used′ free′ at t p
-  pub done : ok ≡ true → Holds m′ n used′ free′ at (change (to d p) (insert l) t) p
-  pub stands : ok ≡ true → Holds m′ n used′ free′ x (change (to d p) (insert l) t) (to d p)
-  pub vacant : ok ≡ true → (q : Place) → Holds m n used free x t q → ⊥
+-- A new node with the label l on the side d of the cursor's node. It gets a place x of the table where no node stands, and nothing changes but in
+-- the tree; there is no place for it where every one holds a live node, and the tree stays then.
+pub record Added (d : Side) (l : Label) (m m′ : Table) (n used free at x free′ used′ : ℕ) (t : Forest) (p : Place) : Type 0 where
+  pub when : ltb x n ≡ ltb (size t) n
+  pub none : n ≤ x → x ≡ gone
+  pub kept : n ≤ x → Holds m′ n used′ free′ at t p
+  pub done : x < n → Holds m′ n used′ free′ at (change (to d p) (insert l) t) p
+  pub stands : x < n → Holds m′ n used′ free′ x (change (to d p) (insert l) t) (to d p)
+  pub vacant : x < n → (q : Place) → Holds m n used free x t q → ⊥
 
 -- n node records of a job, of which there is one, from base on, and room for as many places
 pub record Loadable (job words : List ℕ) (base n : ℕ) : Type 0 where
   pub whole : base + nodeSize * n ≤ length job
-  pub long : 8 * n ≤ length words
+  pub long : cellSize * n ≤ length words
   pub some : 1 ≤ n
   pub few : n ≤ maxNodes
 

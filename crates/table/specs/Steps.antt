@@ -1,24 +1,28 @@
 -- What the table's private functions do to its cells. Assumes nothing.
 use mathlib.Core.Path.{_≡_}
-use mathlib.Core.Bool.{Bool, true, false, cond}
-use Prim.Native.Nat.{ℕ, zero, suc, _+_, _-_, _/_, _%_, _<_, _≤_}
+use mathlib.Core.Bool.{cond}
+use Prim.Native.Nat.{ℕ, zero, suc, _+_, _-_, _<_, _≤_}
 use lib.Dec.{ltb}
+use lib.IntN.{ℤ}
 use Rattle.rules.specs.Number.{signed}
-use Rattle.rules.specs.Tree.{Label, withValue}
-use Rattle.table.specs.Cells.{Cell, cell, Table, gone, sideOf, link}
+use Rattle.rules.specs.Tree.{Label}
+use Rattle.table.specs.Cells.{Cell, cell, Table, ByteLevels, gone, sideOf, link}
 
--- a label with the levels of a word
-unfoldable pub withLevels : ℕ → Label → Label
-withLevels d l = record { value = l .value; existence = d % 256; content = d / 256 % 256; structure = d / 65536 % 256 }
+-- a cell with another label
+abbrev relabelled : Cell → ℤ → ℕ → ℕ → ℕ → Cell
+relabelled a v e c s =
+    cell (a .first) (a .right) (a .parent) (a .children) (record { value = v; existence = e; content = c; structure = s })
 
 -- a cell with word j another
 unfoldable pub withWord : ℕ → ℕ → Cell → Cell
 withWord zero v a = cell v (a .right) (a .parent) (a .children) (a .label)
 withWord (suc zero) v a = cell (a .first) v (a .parent) (a .children) (a .label)
 withWord (suc (suc zero)) v a = cell (a .first) (a .right) v (a .children) (a .label)
-withWord (suc (suc (suc zero))) v a = cell (a .first) (a .right) (a .parent) (a .children) (withLevels v (a .label))
-withWord (suc (suc (suc (suc zero)))) v a = cell (a .first) (a .right) (a .parent) v (a .label)
-withWord (suc (suc (suc (suc (suc j))))) v a = cell (a .first) (a .right) (a .parent) (a .children) (withValue (signed v) (a .label))
+withWord (suc (suc (suc zero))) v a = relabelled a (a .label .value) v (a .label .content) (a .label .structure)
+withWord (suc (suc (suc (suc zero)))) v a = relabelled a (signed v) (a .label .existence) (a .label .content) (a .label .structure)
+withWord (suc (suc (suc (suc (suc zero))))) v a = cell (a .first) (a .right) (a .parent) v (a .label)
+withWord (suc (suc (suc (suc (suc (suc zero)))))) v a = relabelled a (a .label .value) (a .label .existence) v (a .label .structure)
+withWord (suc (suc (suc (suc (suc (suc (suc j))))))) v a = relabelled a (a .label .value) (a .label .existence) (a .label .content) v
 
 -- the cell at x has become a, and no other cell has changed
 pub record Put (m m′ : Table) (x : ℕ) (a : Cell) : Type 0 where
@@ -31,11 +35,12 @@ oneMore j = cond (ltb j 4294967295) (j + 1) j
 
 -- the place y, with the label l, was linked in front of what stands on a side of the node at x, under the parent u
 pub record Attached (side : ℕ) (l : Label) (m m′ : Table) (x u y : ℕ) : Type 0 where
+  pub bytes : ByteLevels l
   pub m₁ : Table
   pub m₂ : Table
   pub placed : Put m m₁ y (cell gone (link (sideOf side) (m x)) u 0 l)
   pub linked : Put m₁ m₂ x (withWord side y (m₁ x))
-  pub counted : Put m₂ m′ u (withWord 4 (oneMore (m₂ u .children)) (m₂ u))
+  pub counted : Put m₂ m′ u (withWord 5 (oneMore (m₂ u .children)) (m₂ u))
 
 -- the first node on a side of the one at x, which stands at y, was taken out from under the parent u; its parent word leads to e
 pub record Detached (side : ℕ) (m m′ : Table) (x u y e : ℕ) : Type 0 where
@@ -45,7 +50,7 @@ pub record Detached (side : ℕ) (m m′ : Table) (x u y e : ℕ) : Type 0 where
   pub passed : Put m m₁ x (withWord side (m y .right) (m x))
   pub cut : Put m₁ m₂ y (withWord 1 gone (m₁ y))
   pub stacked : Put m₂ m₃ y (withWord 2 e (m₂ y))
-  pub counted : Put m₃ m′ u (withWord 4 (m₃ u .children - 1) (m₃ u))
+  pub counted : Put m₃ m′ u (withWord 5 (m₃ u .children - 1) (m₃ u))
 
 -- the forest that x leads to, if any, has gone onto the stack that e leads to; r leads to it now
 pub data Pushed (m : Table) (n x e : ℕ) (m′ : Table) (r : ℕ) : Type 0 where
@@ -53,12 +58,11 @@ pub data Pushed (m : Table) (n x e : ℕ) (m′ : Table) (r : ℕ) : Type 0 wher
   none : n ≤ x → ((y : ℕ) → m′ y ≡ m y) → r ≡ e → Pushed m n x e m′ r
 
 -- a place x was taken: the first of the free places, or else the first that was never used; or there is none
-pub data Took (m : Table) (n used free : ℕ) (m′ : Table) (ok : Bool) (x free′ used′ : ℕ) : Type 0 where
+pub data Took (m : Table) (n used free : ℕ) (m′ : Table) (x free′ used′ : ℕ) : Type 0 where
   again : (m₁ : Table) (e : ℕ) → free < n → Pushed m n (m free .right) (m free .parent) m₁ e → Pushed m₁ n (m free .first) e m′ free′
-      → ok ≡ true → x ≡ free → used′ ≡ used → Took m n used free m′ ok x free′ used′
-  fresh : n ≤ free → used < n → ((y : ℕ) → m′ y ≡ m y) → ok ≡ true → x ≡ used → free′ ≡ free → used′ ≡ used + 1
-      → Took m n used free m′ ok x free′ used′
-  full : n ≤ free → n ≤ used → ((y : ℕ) → m′ y ≡ m y) → ok ≡ false → free′ ≡ free → used′ ≡ used → Took m n used free m′ ok x free′ used′
+      → x ≡ free → used′ ≡ used → Took m n used free m′ x free′ used′
+  fresh : n ≤ free → used < n → ((y : ℕ) → m′ y ≡ m y) → x ≡ used → free′ ≡ free → used′ ≡ used + 1 → Took m n used free m′ x free′ used′
+  full : n ≤ free → n ≤ used → ((y : ℕ) → m′ y ≡ m y) → x ≡ gone → free′ ≡ free → used′ ≡ used → Took m n used free m′ x free′ used′
 
 -- the first n places have no children
 unfoldable pub Cleared : Table → ℕ → Type 0
@@ -66,6 +70,6 @@ Cleared m n = (x : ℕ) → x < n → (m x .first ≡ gone) × (m x .children �
 
 -- the record x of a job, with the label l, was entered: in front of the children of its parent p, if that comes before it, or else by itself
 pub data Entered (p x : ℕ) (l : Label) (m m′ : Table) : Type 0 where
-  under : (m₁ m₂ : Table) → p < x → Put m m₁ x (cell (m x .first) (m p .first) p (m x .children) l) → Put m₁ m₂ p (withWord 0 x (m₁ p))
-      → Put m₂ m′ p (withWord 4 (oneMore (m₂ p .children)) (m₂ p)) → Entered p x l m m′
-  alone : x ≤ p → Put m m′ x (cell (m x .first) gone gone (m x .children) l) → Entered p x l m m′
+  under : (m₁ m₂ : Table) → ByteLevels l → p < x → Put m m₁ x (cell (m x .first) (m p .first) p (m x .children) l)
+      → Put m₁ m₂ p (withWord 0 x (m₁ p)) → Put m₂ m′ p (withWord 5 (oneMore (m₂ p .children)) (m₂ p)) → Entered p x l m m′
+  alone : ByteLevels l → x ≤ p → Put m m′ x (cell (m x .first) gone gone (m x .children) l) → Entered p x l m m′

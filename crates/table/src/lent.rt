@@ -2,12 +2,13 @@
 ghost use mathlib.Core.Path.{_≡_};
 ghost use Prim.Native.Nat.{_+_, _*_, _≤_};
 ghost use lib.ListN.{length};
-ghost use Rattle.table.specs.Cells.{cells};
+ghost use Rattle.table.specs.Cells.{cellSize, cells};
 ghost use Rattle.table.specs.Lent.{nodeOf, putNode, blank};
-use super::levels;
+use super::levels::low;
+use super::levels::wide;
 use rules::numbers;
 
-// A place of a lent table, as a record: it says what the place's cell says. C code may lend such records too.
+// A place of a lent table, as a record: it says what the place's cell says.
 #[repr(C)]
 pub struct Node {
     pub first: u32,
@@ -22,37 +23,40 @@ pub struct Node {
 
 // The record of place x.
 pub fn node_of(words: &[u32], x: usize) -> Node
-    requires { ⌜ 8 * x + 8 ≤ length (now words) ⌝ }
+    requires { ⌜ cellSize * x + cellSize ≤ length (now words) ⌝ }
     ensures { λ r. ⌜ r ≡ nodeOf (cells (now (words .entry)) x) ⌝ }
 {
-    let at = 8 * x;
-    let packed = words[at + 3];
+    let at = super::CELL * x;
     Node {
         first: words[at],
         right: words[at + 1],
         parent: words[at + 2],
-        children: words[at + 4],
-        value: numbers::signed(words[at + 5]),
-        existence: levels::existence(packed),
-        content: levels::content(packed),
-        structure: levels::structure(packed),
+        children: words[at + 5],
+        value: numbers::signed(words[at + 4]),
+        existence: low(words[at + 3]),
+        content: low(words[at + 6]),
+        structure: low(words[at + 7]),
     }
 }
 
 // Makes the words of place x be those of a record.
 pub fn put(words: &mut [u32], x: usize, node: Node)
-    requires { ⌜ 8 * x + 8 ≤ length (now words) ⌝ }
+    requires { ⌜ cellSize * x + cellSize ≤ length (now words) ⌝ }
     ensures { λ _. ⌜ now (words .exit) ≡ putNode (now (words .entry)) x node ⌝ }
 {
-    let at = 8 * x;
-    let packed = levels::pack(node.existence, node.content, node.structure);
+    let at = super::CELL * x;
+    let existence = wide(node.existence);
     let value = numbers::bits(node.value);
+    let content = wide(node.content);
+    let structure = wide(node.structure);
     words[at] = node.first;
     words[at + 1] = node.right;
     words[at + 2] = node.parent;
-    words[at + 3] = packed;
-    words[at + 4] = node.children;
-    words[at + 5] = value;
+    words[at + 3] = existence;
+    words[at + 4] = value;
+    words[at + 5] = node.children;
+    words[at + 6] = content;
+    words[at + 7] = structure;
 }
 
 // The record of no numbers.

@@ -1,5 +1,5 @@
-// The node table: the tree of a run in one lent slice of words, eight to a place. A place is a number below `places`, the number of places lent;
-// a link to no node holds NIL, which is no place.
+// The node table: the tree of a run in one lent slice of words, CELL to a place. A place is a number below `places`, the number of places
+// lent; a link to no node holds NIL, which is no place.
 mod cells;
 pub mod lent;
 mod levels;
@@ -10,18 +10,24 @@ mod space;
 pub mod walk;
 
 pub use lent::Node;
+use rules::limits::MAX_NODES;
 
-pub const NIL: u32 = 65535;
+// How many words a place takes.
+pub const CELL: usize = 8;
+
+// How many words the largest table takes.
+pub const WORDS: usize = CELL * MAX_NODES;
+
+pub const NIL: usize = 65535;
 
 // The two sides of a node, by the word that has the link: its first child, its right sibling.
-pub const FIRST: u32 = 0;
+pub const FIRST: usize = 0;
 
-pub const RIGHT: u32 = 1;
+pub const RIGHT: usize = 1;
 
-// A place for a node, if there is one, and what leads to the free places and the first never-used place then.
+// The place of a new node, or NIL where there is none for it, and what leads to the free places and the first never-used place then.
 pub struct Taken {
-    pub ok: bool,
-    pub place: u32,
-    pub free: u32,
-    pub used: u32,
+    pub place: usize,
+    pub free: usize,
+    pub used: usize,
 }

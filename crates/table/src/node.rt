@@ -5,41 +5,40 @@ ghost use Rattle.rules.specs.Number.{signed};
 ghost use Rattle.rules.specs.Tree.{Forest, Place, sub, label, count, along, child, change, setValue};
 ghost use Rattle.table.specs.Cells.{cells, Within};
 ghost use Rattle.table.specs.Holds.{Holds};
-ghost use Rattle.table.specs.Promises.{Whenever};
+ghost use Rattle.table.specs.Promises.{Whenever, Behind};
 use super::cells;
-use super::levels;
 
 // The value, as its 32 bits.
-pub fn value(words: &[u32], places: u32, at: u32) -> u32
+pub fn value(words: &[u32], places: usize, at: usize) -> u32
     requires { ⌜ Within (now words) places at ⌝ }
     ensures { λ r. ⌜ Whenever (cells (now (words .entry))) places at (λ t p. label (sub p t) .value ≡ signed r) ⌝ }
 {
     cells::get(words, places, at, cells::VALUE)
 }
 
-pub fn existence(words: &[u32], places: u32, at: u32) -> u8
+pub fn existence(words: &[u32], places: usize, at: usize) -> u8
     requires { ⌜ Within (now words) places at ⌝ }
     ensures { λ r. ⌜ Whenever (cells (now (words .entry))) places at (λ t p. label (sub p t) .existence ≡ r) ⌝ }
 {
-    levels::existence(cells::get(words, places, at, cells::LEVELS))
+    cells::level(words, places, at, cells::EXISTENCE)
 }
 
-pub fn content(words: &[u32], places: u32, at: u32) -> u8
+pub fn content(words: &[u32], places: usize, at: usize) -> u8
     requires { ⌜ Within (now words) places at ⌝ }
     ensures { λ r. ⌜ Whenever (cells (now (words .entry))) places at (λ t p. label (sub p t) .content ≡ r) ⌝ }
 {
-    levels::content(cells::get(words, places, at, cells::LEVELS))
+    cells::level(words, places, at, cells::CONTENT)
 }
 
-pub fn structure(words: &[u32], places: u32, at: u32) -> u8
+pub fn structure(words: &[u32], places: usize, at: usize) -> u8
     requires { ⌜ Within (now words) places at ⌝ }
     ensures { λ r. ⌜ Whenever (cells (now (words .entry))) places at (λ t p. label (sub p t) .structure ≡ r) ⌝ }
 {
-    levels::structure(cells::get(words, places, at, cells::LEVELS))
+    cells::level(words, places, at, cells::STRUCTURE)
 }
 
 // How many children.
-pub fn children(words: &[u32], places: u32, at: u32) -> u32
+pub fn children(words: &[u32], places: usize, at: usize) -> u32
     requires { ⌜ Within (now words) places at ⌝ }
     ensures { λ r. ⌜ Whenever (cells (now (words .entry))) places at (λ t p. (count (along child (sub p t)) ≡ r) × (r ≤ places)) ⌝ }
 {
@@ -47,10 +46,11 @@ pub fn children(words: &[u32], places: u32, at: u32) -> u32
 }
 
 // Sets the value, given as its 32 bits.
-pub fn set_value(words: &mut [u32], places: u32, at: u32, v: u32)
+pub fn set_value(words: &mut [u32], places: usize, at: usize, v: u32)
     requires { ⌜ Within (now words) places at ⌝ }
     ensures { λ _. ⌜ ((used free : ℕ) (t : Forest) (p : Place) → Holds (cells (now (words .entry))) places used free at t p
         → Holds (cells (now (words .exit))) places used free at (change p (setValue (signed v)) t) p) ⌝ }
+    ensures { λ _. ⌜ Behind places (cells (now (words .entry))) (cells (now (words .exit))) ⌝ }
 {
     cells::store(words, places, at, cells::VALUE, v);
 }

@@ -7,22 +7,23 @@ ghost use Rattle.rules.specs.Limits.{maxNodes};
 ghost use Rattle.rules.specs.Bytes as Bytes;
 ghost use Rattle.rules.specs.Check.{parent};
 ghost use Rattle.rules.specs.Job.{labelOf};
-ghost use Rattle.table.specs.Cells.{cells, labelIn, Within};
-ghost use Rattle.table.specs.Promises.{Loadable, Loaded};
+ghost use Rattle.table.specs.Cells.{cellSize, labelNew, cells, Within};
+ghost use Rattle.table.specs.Promises.{Loadable, Loaded, Behind};
 ghost use Rattle.table.specs.Steps.{Cleared, Entered};
 use super::cells;
-use super::levels;
+use super::cells::word_of;
 use super::levels::wide;
+use super::shape::NewNode;
 
 // How many bytes a node record takes.
 const RECORD: usize = 12;
 
 // The 16-bit number at a place.
-fn half(job: &[u8], at: usize) -> u32
+fn half(job: &[u8], at: usize) -> usize
     requires { ⌜ at + 2 ≤ length (now job) ⌝ }
     ensures { λ r. ⌜ r ≡ Bytes.half (now (job .entry)) at ⌝ }
 {
-    wide(job[at]) + wide(job[at + 1]) * 256
+    cells::index(wide(job[at]) + wide(job[at + 1]) * 256)
 }
 
 // The 32-bit number at a place.
@@ -37,9 +38,10 @@ fn full(job: &[u8], at: usize) -> u32
 }
 
 // Leaves the first n places with no children.
-fn clear(words: &mut [u32], n: u32)
-    requires { ⌜ (8 * n ≤ length (now words)) × (n ≤ maxNodes) ⌝ }
+fn clear(words: &mut [u32], n: usize)
+    requires { ⌜ (cellSize * n ≤ length (now words)) × (n ≤ maxNodes) ⌝ }
     ensures { λ _. ⌜ Cleared (cells (now (words .exit))) n ⌝ }
+    ensures { λ _. ⌜ Behind n (cells (now (words .entry))) (cells (now (words .exit))) ⌝ }
 {
     let mut x = 0;
     while x < n {
@@ -49,36 +51,42 @@ fn clear(words: &mut [u32], n: u32)
 }
 
 // Enters the record x, under the parent p if that comes before it.
-fn place(words: &mut [u32], n: u32, x: u32, p: u32, packed: u32, value: u32)
+fn place(words: &mut [u32], n: usize, x: usize, p: usize, node: NewNode)
     requires { ⌜ Within (now words) n x ⌝ }
-    ensures { λ _. ⌜ Entered p x (labelIn packed value) (cells (now (words .entry))) (cells (now (words .exit))) ⌝ }
+    ensures { λ _. ⌜ Entered p x (labelNew node) (cells (now (words .entry))) (cells (now (words .exit))) ⌝ }
 {
     if p < x {
         let old = cells::get(words, n, p, super::FIRST);
-        cells::fill(words, n, x, old, p, packed, value);
-        cells::store(words, n, p, super::FIRST, x);
+        cells::fill(words, n, x, old, word_of(p), node);
+        cells::store(words, n, p, super::FIRST, word_of(x));
         cells::count_up(words, n, p);
     } else {
-        cells::fill(words, n, x, super::NIL, super::NIL, packed, value);
+        cells::fill(words, n, x, word_of(super::NIL), word_of(super::NIL), node);
     }
 }
 
 // Enters the node record x of n, from `base` on in the job.
-fn enter(job: &[u8], base: usize, n: u32, words: &mut [u32], x: u32)
+fn enter(job: &[u8], base: usize, n: usize, words: &mut [u32], x: usize)
     requires { ⌜ Loadable (now job) (now words) base n × (x < n) ⌝ }
     ensures { λ _. ⌜ Entered (parent (now (job .entry)) base x) x (labelOf (now (job .entry)) base x)
         (cells (now (words .entry))) (cells (now (words .exit))) ⌝ }
 {
-    let at = base + RECORD * cells::index(x);
-    let packed = levels::pack(job[at + 2], job[at + 3], job[at + 4]);
-    place(words, n, x, half(job, at), packed, full(job, at + 8));
+    let at = base + RECORD * x;
+    let node = NewNode {
+        value: full(job, at + 8),
+        existence: job[at + 2],
+        content: job[at + 3],
+        structure: job[at + 4],
+    };
+    place(words, n, x, half(job, at), node);
 }
 
 // Loads n node records, from `base` on in the job: their tree stands in the first n places, the root at place 0, and no place is free but those
 // never used.
-pub fn load(job: &[u8], base: usize, n: u32, words: &mut [u32])
+pub fn load(job: &[u8], base: usize, n: usize, words: &mut [u32])
     requires { ⌜ Loadable (now job) (now words) base n ⌝ }
     ensures { λ _. ⌜ Loaded (now (job .entry)) base n (cells (now (words .exit))) ⌝ }
+    ensures { λ _. ⌜ Behind n (cells (now (words .entry))) (cells (now (words .exit))) ⌝ }
 {
     clear(words, n);
     let mut x = n;

@@ -1,15 +1,16 @@
 // Nodes come and go: on a side of the cursor's node, which is in front of its children or right after it.
 ghost use mathlib.Core.Path.{_≡_};
+ghost use mathlib.Core.Option.{some};
 ghost use Prim.Native.Nat.{ℕ, _<_};
-ghost use Rattle.rules.specs.Tree.{Forest, Place, to, change};
+ghost use Rattle.rules.specs.Tree.{Forest, Place, to, up, change};
 ghost use Rattle.rules.specs.Tree as Tree;
-ghost use Rattle.table.specs.Cells.{cells, labelWith, sideOf, parentOn, Within};
+ghost use Rattle.table.specs.Cells.{cells, labelNew, wordOf, sideOf, parentOn, Within};
 ghost use Rattle.table.specs.Holds.{Holds};
-ghost use Rattle.table.specs.Promises.{Added};
+ghost use Rattle.table.specs.Promises.{Leads, Added, Behind};
 ghost use Rattle.table.specs.Steps.{Attached, Detached};
 use super::Taken;
 use super::cells;
-use super::levels;
+use super::cells::word_of;
 use super::space;
 
 // What a new node shows: its value, as its 32 bits, and its three levels.
@@ -21,86 +22,95 @@ pub struct NewNode {
 }
 
 // The place of the parent that nodes on a side of the one at `at` have.
-fn parent_on(words: &[u32], places: u32, at: u32, side: u32) -> u32
+fn parent_on(words: &[u32], places: usize, at: usize, side: usize) -> usize
     requires { ⌜ Within (now words) places at × (side < 2) ⌝ }
     ensures { λ r. ⌜ r ≡ parentOn (sideOf side) at (cells (now (words .entry)) at) ⌝ }
 {
     if side == super::FIRST {
         return at;
     }
-    cells::get(words, places, at, cells::PARENT)
+    cells::link(words, places, at, cells::PARENT)
 }
 
 // Links the place y in front of what stands on a side of the node at `at`, under the parent u.
-fn attach(words: &mut [u32], places: u32, at: u32, side: u32, u: u32, y: u32, node: NewNode)
+fn attach(
+    words: &mut [u32],
+    places: usize,
+    at: usize,
+    side: usize,
+    u: usize,
+    y: usize,
+    node: NewNode,
+)
     requires { ⌜ Within (now words) places at × ((side < 2) × ((u < places) × (y < places))) ⌝ }
-    ensures { λ _. ⌜ Attached side (labelWith (node .value) (node .existence) (node .content) (node .structure))
+    ensures { λ _. ⌜ Attached side (labelNew node)
         (cells (now (words .entry))) (cells (now (words .exit))) at u y ⌝ }
 {
     let old = cells::get(words, places, at, side);
-    let packed = levels::pack(node.existence, node.content, node.structure);
     cells::clear(words, places, y);
-    cells::fill(words, places, y, old, u, packed, node.value);
-    cells::store(words, places, at, side, y);
+    cells::fill(words, places, y, old, word_of(u), node);
+    cells::store(words, places, at, side, word_of(y));
     cells::count_up(words, places, u);
 }
 
 // Takes the node at y out from a side of the one at `at`, under the parent u, and puts it onto the free places that `free` leads to.
-fn detach(words: &mut [u32], places: u32, at: u32, side: u32, u: u32, y: u32, free: u32)
+fn detach(words: &mut [u32], places: usize, at: usize, side: usize, u: usize, y: usize, free: usize)
     requires { ⌜ Within (now words) places at × ((side < 2) × ((u < places) × (y < places))) ⌝ }
-    ensures { λ _. ⌜ Detached side (cells (now (words .entry))) (cells (now (words .exit))) at u y free ⌝ }
+    ensures { λ _. ⌜ Detached side (cells (now (words .entry))) (cells (now (words .exit))) at u y (wordOf free) ⌝ }
 {
     let next = cells::get(words, places, y, super::RIGHT);
     cells::store(words, places, at, side, next);
-    cells::store(words, places, y, super::RIGHT, super::NIL);
-    cells::store(words, places, y, cells::PARENT, free);
+    cells::store(words, places, y, super::RIGHT, word_of(super::NIL));
+    cells::store(words, places, y, cells::PARENT, word_of(free));
     cells::count_down(words, places, u);
 }
 
-// A new node in front of what stands on a side of the one at `at`. There is none beside the root, and none where every place holds a live node.
+// A new node in front of what stands on a side of the one at `at`, under the parent at `above`. There is no place for it where every place holds a
+// live node.
 pub fn add(
     words: &mut [u32],
-    places: u32,
-    used: u32,
-    free: u32,
-    at: u32,
-    side: u32,
+    places: usize,
+    used: usize,
+    free: usize,
+    at: usize,
+    side: usize,
+    above: usize,
     node: NewNode,
 ) -> Taken
-    requires { ⌜ Within (now words) places at × (side < 2) ⌝ }
+    requires { ⌜ Within (now words) places at × ((side < 2) × (above < places)) ⌝ }
     ensures { λ r. ⌜ ((t : Forest) (p : Place) → Holds (cells (now (words .entry))) places used free at t p
-        → Added (sideOf side) (labelWith (node .value) (node .existence) (node .content) (node .structure))
-        (cells (now (words .entry))) (cells (now (words .exit))) places used free at (r .ok) (r .place) (r .free) (r .used) t p) ⌝ }
+        → Leads (cells (now (words .entry))) places used free t (up (to (sideOf side) p)) above
+        → Added (sideOf side) (labelNew node)
+        (cells (now (words .entry))) (cells (now (words .exit))) places used free at (r .place) (r .free) (r .used) t p) ⌝ }
+    ensures { λ _. ⌜ Behind places (cells (now (words .entry))) (cells (now (words .exit))) ⌝ }
 {
-    let u = parent_on(words, places, at, side);
-    if u >= places {
-        return Taken {
-            ok: false,
-            place: 0,
-            free: free,
-            used: used,
-        };
-    }
     let got = space::take(words, places, used, free);
-    if got.ok {
-        attach(words, places, at, side, u, got.place, node);
+    let y = got.place;
+    if y < places {
+        attach(words, places, at, side, above, y, node);
     }
     got
 }
 
-// Removes the first node on a side of the one at `at`, if there is one, with its subtree; returns what leads to the free places then.
-pub fn remove(words: &mut [u32], places: u32, free: u32, at: u32, side: u32) -> u32
-    requires { ⌜ Within (now words) places at × (side < 2) ⌝ }
+// Removes the node at `old`, the first on a side of the one at `at`, with its subtree; returns what leads to the free places then.
+pub fn remove(
+    words: &mut [u32],
+    places: usize,
+    free: usize,
+    at: usize,
+    side: usize,
+    old: usize,
+) -> usize
+    requires { ⌜ Within (now words) places at × ((side < 2) × (old < places)) ⌝ }
     ensures { λ r. ⌜ ((used : ℕ) (t : Forest) (p : Place) → Holds (cells (now (words .entry))) places used free at t p
+        → Leads (cells (now (words .entry))) places used free t (some (to (sideOf side) p)) old
         → Holds (cells (now (words .exit))) places used r at (change (to (sideOf side) p) Tree.remove t) p) ⌝ }
+    ensures { λ _. ⌜ Behind places (cells (now (words .entry))) (cells (now (words .exit))) ⌝ }
 {
-    let y = cells::get(words, places, at, side);
     let u = parent_on(words, places, at, side);
-    if y < places {
-        if u < places {
-            detach(words, places, at, side, u, y, free);
-            return y;
-        }
+    if u < places {
+        detach(words, places, at, side, u, old, free);
+        return old;
     }
     free
 }

@@ -10,26 +10,26 @@ ghost use Rattle.table.specs.Promises.{Leads};
 use super::cells;
 
 // To the root.
-pub fn root() -> u32
+pub fn root() -> usize
     ensures { λ r. ⌜ ((m : Table) (n used free x : ℕ) (t : Forest) (p : Place) → Holds m n used free x t p → Holds m n used free r t Tree.root) ⌝ }
 {
     0
 }
 
 // Up to the parent.
-pub fn parent(words: &[u32], places: u32, at: u32) -> u32
+pub fn parent(words: &[u32], places: usize, at: usize) -> usize
     requires { ⌜ Within (now words) places at ⌝ }
     ensures { λ r. ⌜ ((used free : ℕ) (t : Forest) (p : Place) → Holds (cells (now (words .entry))) places used free at t p
         → Leads (cells (now (words .entry))) places used free t (up p) r) ⌝ }
 {
-    cells::get(words, places, at, cells::PARENT)
+    cells::link(words, places, at, cells::PARENT)
 }
 
 // Down to the first child, or on to the right sibling.
-pub fn beside(words: &[u32], places: u32, at: u32, side: u32) -> u32
+pub fn beside(words: &[u32], places: usize, at: usize, side: usize) -> usize
     requires { ⌜ Within (now words) places at × (side < 2) ⌝ }
     ensures { λ r. ⌜ ((used free : ℕ) (t : Forest) (p : Place) → Holds (cells (now (words .entry))) places used free at t p
         → Leads (cells (now (words .entry))) places used free t (some (to (sideOf side) p)) r) ⌝ }
 {
-    cells::get(words, places, at, side)
+    cells::link(words, places, at, side)
 }

@@ -7,11 +7,9 @@ use Rattle.table.proofs.cells.store.Statement.{statement}
 use Rattle.table.proofs.cells.store.Tie as tie
 
 returns : tie.Need-returns
-returns c =
-    let a = c .before .before .args in
-    rw (c .index .ensures) (put-word (now (a .words)) (a .x) (omega arith) (a .j) (a .v) (c .before .before .pre .1))
+returns c = let a = c .args in put-word (now (a .words)) (a .x) (omega arith) (a .j) (a .v) (c .pre .1)
 
 pub store-spec : {M : Type 1} → statement M
 store-spec =
     tie.close
-    (tie.spec (λ c. search needs) (λ c. search needs) (λ c κs. search needs) (λ c. search needs) (λ c. search needs) (λ c. search needs) returns)
+    (tie.spec (λ c. search needs) (λ c. search needs) (λ c. search needs) (λ c. search needs) (λ c. search needs) returns)

@@ -1,4 +1,5 @@
--- The invariant: the records from x on are linked, if the parent rule holds. The measure is x, the records that wait. Assumes nothing.
+-- The invariant: the records from x on are linked, if the parent rule holds, and the places behind n are as they were. The measure is x, the
+-- records that wait. Assumes nothing.
 use mathlib.Core.Path.{_≡_, refl, _∙_}
 use Prim.Native.Nat.{_≤_}
 use native.Mathlib.Omega.{arith}
@@ -6,6 +7,8 @@ use borrow.Author.Needs.{needs}
 use denote.Ref.{now}
 use lib.ListN.{length}
 use Rattle.table.specs.Cells.{cells}
+use Rattle.table.specs.Promises.{Behind}
+use Rattle.table.proofs.Effects.{then-behind, entered-behind}
 use Rattle.table.proofs.Jobs.{Rule, Linking, linking-start, linking-step, loaded}
 use Rattle.table.proofs.records.load.Statement.{statement}
 use Rattle.table.proofs.records.load.Tie as tie
@@ -13,6 +16,7 @@ use Rattle.table.proofs.records.load.Tie as tie
 abbrev Inv-loop : tie.InvT-loop
 Inv-loop job base n words₀ x₀ words x =
     (1 ≤ x) × (x ≤ n) × (length words ≡ length words₀) × (Rule job base n → Linking job base (cells words) n x)
+    × Behind n (cells words₀) (cells words)
 
 abbrev μ-loop : tie.MeasureT-loop
 μ-loop job base n words₀ x₀ words x = x
@@ -20,7 +24,7 @@ abbrev μ-loop : tie.MeasureT-loop
 loop-holds : tie.Need-loop-holds Inv-loop μ-loop
 loop-holds c =
     let s = c .before .before .before .before .before .before in
-    (s .pre .some, omega arith, refl, λ _. linking-start (now (s .args .job)) (s .args .base) (s .args .n) (c .before .before .clear .ensures))
+    (s .pre .some, omega arith, refl, λ _. linking-start (now (s .args .job)) (s .args .base) (s .args .n) (c .before .before .clear .ensures .0), record { same = λ _ _. refl })
 
 loop-again : tie.Need-loop-again Inv-loop μ-loop
 loop-again c =
@@ -34,6 +38,7 @@ loop-again c =
       λ r.
           linking-step (now (s .args .job)) (s .args .base) (turn .loop .x) (s .pre .few) (step .before .before .loop-test .taken) (i .1) r (i .3 r)
           (step .enter .ensures),
+      then-behind (i .4) (entered-behind (omega arith) (step .enter .ensures)),
     )
 
 returns : tie.Need-returns Inv-loop μ-loop
@@ -42,7 +47,10 @@ returns c =
     let turn = step .before .before .before in
     let s = turn .before .before .before .before .before .before .before in
     let e : turn .loop .x ≡ 1 = omega arith in
-    loaded (now (s .args .job)) (s .args .base) (s .args .n) (s .pre .some) (rw e at (turn .loop .inv .3)) (step .enter2 .ensures)
+    let i = turn .loop .inv in (
+      loaded (now (s .args .job)) (s .args .base) (s .args .n) (s .pre .some) (rw e at (i .3)) (step .enter2 .ensures),
+      then-behind (then-behind (turn .before .before .before .clear .ensures .1) (i .4)) (entered-behind (s .pre .some) (step .enter2 .ensures)),
+    )
 
 pub load-spec : {M : Type 1} → statement M
 load-spec =

@@ -1,6 +1,8 @@
 -- The stores in their order: the cell, and where there is a parent the link to it and the count. Assumes nothing.
+use native.Mathlib.Omega.{arith}
 use Rattle.table.specs.Cells.{cells}
 use Rattle.table.specs.Steps.{under, alone}
+use Rattle.table.proofs.Words.{fits}
 use borrow.Author.Needs.{needs}
 use Rattle.table.proofs.records.place.Statement.{statement}
 use Rattle.table.proofs.records.place.Tie as tie
@@ -8,17 +10,18 @@ use Rattle.table.proofs.records.place.Tie as tie
 returns : tie.Need-returns
 unfolding cells
 returns c =
-    let counted = c .before .before in
-    let linked = counted .before .before .before .before in
-    let whole = linked .before .before .before .before in
-    let old = whole .before .before in
-    under _ _ (old .before .before .if1 .taken) (rw (old .get .ensures) at (whole .fill .ensures)) (linked .store .ensures) (counted .count-up .ensures)
+    let s = c .before .before .before .before .before .before .before .before .before .before .before .before .before .before .before .before .before .before in
+    let lt = c .before .before .before .before .before .before .before .before .before .before .before .before .before .before .before .before .if1 .taken in
+    let whole = c .before .before .before .before .before .before .before .before .before .before .before .fill .ensures in
+    under _ _ (whole .1) lt (rw (c .before .before .before .before .before .before .before .before .before .before .before .before .before .before .get .ensures, c .before .before .before .before .before .before .before .before .before .before .before .before .word-of .ensures, fits (s .args .p) (omega (arith, s .pre .inside, s .pre .few))) at (whole .0))
+    (rw (c .before .before .before .before .before .before .before .word-of2 .ensures, fits (s .args .x) (omega (arith, s .pre .inside, s .pre .few))) at (c .before .before .before .before .before .before .store .ensures)) (c .before .before .count-up .ensures)
 
 returns-2 : tie.Need-returns-2
-returns-2 c = alone (c .before .before .before .before .if1 .left) (c .before .before .fill2 .ensures)
+returns-2 c =
+    let whole = c .before .before .fill2 .ensures in
+    alone (whole .1) (c .before .before .before .before .before .before .if1 .left) (rw (c .before .before .before .before .word-of3 .ensures, c .before .before .before .word-of4 .ensures, fits 65535 (omega arith)) at (whole .0))
 
 pub place-spec : {M : Type 1} → statement M
 place-spec =
     tie.close
-    (tie.spec (λ c κs. search needs) (λ c κs. search needs) (λ c κs. search needs) (λ c κs. search needs) (λ c κs. search needs) (λ c. search needs)
-    returns (λ c. search needs) returns-2)
+    (tie.spec (λ c κs. search needs) (λ c κs. search needs) (λ c κs. search needs) (λ c κs. search needs) (λ c κs. search needs) (λ c κs. search needs) (λ c κs. search needs) (λ c κs. search needs) (λ c κs. search needs) (λ c. search needs) returns (λ c. search needs) returns-2)

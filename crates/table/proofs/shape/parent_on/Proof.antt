@@ -14,7 +14,7 @@ returns-2 : tie.Need-returns-2
 unfolding sideOf cells
 returns-2 c =
     let e : c .before .before .before .args .side ≡ 1 = omega (arith, c .before .before .before .pre .1) in
-    rw e (c .get .ensures)
+    rw e (c .link .ensures)
 
 pub parent-on-spec : {M : Type 1} → statement M
 parent-on-spec =

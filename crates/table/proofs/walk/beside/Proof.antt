@@ -6,7 +6,7 @@ use Rattle.table.proofs.walk.beside.Statement.{statement}
 use Rattle.table.proofs.walk.beside.Tie as tie
 
 returns : tie.Need-returns
-returns c = λ used free t p h. rw (c .get .ensures, link-word _ _ _ (c .before .before .pre .1)) (to-side h _)
+returns c = λ used free t p h. rw (c .link .ensures, link-word _ _ _ (c .before .before .pre .1)) (to-side h _)
 
 pub beside-spec : {M : Type 1} → statement M
 beside-spec =

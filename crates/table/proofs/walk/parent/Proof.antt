@@ -7,7 +7,7 @@ use Rattle.table.proofs.walk.parent.Tie as tie
 
 returns : tie.Need-returns
 unfolding cells
-returns c = λ used free t p h. rw (c .get .ensures) (to-parent h)
+returns c = λ used free t p h. rw (c .link .ensures) (to-parent h)
 
 pub parent-spec : {M : Type 1} → statement M
 parent-spec =
