@@ -13,7 +13,7 @@ use Rattle.rules.specs.Tree.{Label, Forest, Place, count}
 use Rattle.rules.proofs.Tests.{Test, holds, fails, test}
 use Rattle.table.specs.declared.lent.Node.{Node}
 use Rattle.table.specs.Cells.{cell, Table, ByteLevels, gone, cells}
-use Rattle.table.specs.Holds.{Placed, empty, node, erase, head, Stored, Spare, end, more, Linked, Free, times, Holds}
+use Rattle.table.specs.Holds.{Placed, empty, node, erase, head, Stored, Spare, end, more, Linked, Free, Holds}
 use Rattle.table.specs.Lent.{nodeOf, cellOf, blank, nodesTable, stored, putNode, loaded}
 use Rattle.table.proofs.Counting.{none-beyond, free-beyond}
 use Rattle.table.proofs.Frames as Frames

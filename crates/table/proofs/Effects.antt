@@ -1,15 +1,14 @@
 -- What the private functions do, put together from what their calls do: words read are parts of cells, and stores follow one another. Assumes nothing.
 use mathlib.Core.Path.{_≡_, refl, ap, _∙_}
-use mathlib.Core.List.{List}
 use Prim.Native.Nat.{ℕ, _+_, _-_, _<_, _≤_}
 use native.Mathlib.Omega.{arith}
 use native.Mathlib.Decide.{ℕ-discrete}
-use lib.ListN.{length}
 use Rattle.rules.specs.Limits.{maxNodes}
 use Rattle.rules.specs.Tree.{Label}
-use Rattle.table.specs.Cells.{Cell, cell, Table, gone, wordOf, ByteLevels, sideOf, link, Within}
+use Rattle.table.specs.Cells.{cell, Table, gone, wordOf, ByteLevels, sideOf, link}
 use Rattle.table.specs.Promises.{Behind}
 use Rattle.table.specs.Steps.{withWord, Put, oneMore, Attached, Detached, Pushed, some, none, Took, again, fresh, full, Cleared, Entered, under, alone}
+use Rattle.table.proofs.Behind.{put-behind, then-behind, same-behind}
 use Rattle.table.proofs.Words.{twice, fits}
 
 pub attached : {m m₁ m₂ m₃ m′ : Table} {n x u y old : ℕ} {l : Label} (side : ℕ) → ByteLevels l → n ≤ maxNodes → u < n → y < n
@@ -37,10 +36,6 @@ pub reused : {m m₁ m′ : Table} {n used free right rest first e free′ : ℕ
     → free < n → Pushed m n right rest m₁ e → Pushed m₁ n first e m′ free′ → Took m n used free m′ free free′ used
 reused {m₁ = m₁} {e = e} i j k lt p q = again m₁ e lt (rw (i, j) at p) (rw k at q) refl refl
 
--- a slice of the same length has room for as many places
-pub within : {b b′ : List ℕ} {n x : ℕ} → length b′ ≡ length b → Within b n x → Within b′ n x
-within e h = record { long = omega arith; few = h .few; inside = h .inside }
-
 -- one place more has no children
 pub cleared-more : {m m′ : Table} {x : ℕ} → Cleared m x → Put m m′ x (withWord 5 0 (withWord 0 gone (m x))) → Cleared m′ (x + 1)
 unfolding Cleared withWord
@@ -51,15 +46,6 @@ cleared-more {m} {m′} {x} h p y lt = go (ℕ-discrete y x)
     go (no e) = let k = h y (omega arith) in let s = p .off y e in (ap (λ a. a .first) s ∙ k .0, ap (λ a. a .children) s ∙ k .1)
 
 -- what a step leaves alone: the cells behind the first n
-pub put-behind : {m m′ : Table} {n x : ℕ} {a : Cell} → x < n → Put m m′ x a → Behind n m m′
-put-behind lt p = record { same = λ y ge. p .off y (λ e. omega arith) }
-
-pub then-behind : {m m₁ m′ : Table} {n : ℕ} → Behind n m m₁ → Behind n m₁ m′ → Behind n m m′
-then-behind h k = record { same = λ y ge. k .same y ge ∙ h .same y ge }
-
-same-behind : {m m′ : Table} {n : ℕ} → ((y : ℕ) → m′ y ≡ m y) → Behind n m m′
-same-behind h = record { same = λ y _. h y }
-
 pub attached-behind : {side n x u y : ℕ} {l : Label} {m m′ : Table} → x < n → u < n → y < n → Attached side l m m′ x u y → Behind n m m′
 attached-behind lx lu ly g = then-behind (then-behind (put-behind ly (g .placed)) (put-behind lx (g .linked))) (put-behind lu (g .counted))
 

@@ -5,7 +5,7 @@ use Prim.Native.Nat.{ℕ, _+_, _<_, _≤_}
 use native.Mathlib.Omega.{arith}
 use native.Mathlib.Decide.{decLt}
 use Rattle.rules.specs.Limits.{maxNodes}
-use Rattle.rules.specs.Tree.{Label, Forest, Side, child, sibling, Place, to, count}
+use Rattle.rules.specs.Tree.{Label, Forest, Side, child, sibling, Place, count}
 use Rattle.table.specs.Cells.{Table, gone}
 use Rattle.table.specs.Holds.{Placed, empty, node, erase, head, beside, part, Stored, Spare, top, Free, times, spareTimes, Holds}
 use Rattle.table.proofs.Counting.{none-beyond, free-beyond}

@@ -8,7 +8,7 @@ use native.Mathlib.Decide.{ℕ-discrete}
 use lib.Dec.{eqb, ltb}
 use borrow.Author.Tests.{eq-eqb, ne-eqb, ltb-true}
 use Rattle.rules.specs.Limits.{maxNodes, noParent}
-use Rattle.rules.specs.Tree.{tree, nil, root}
+use Rattle.rules.specs.Tree.{tree, nil}
 use Rattle.rules.specs.Check.{parent, parentRule}
 use Rattle.rules.specs.Job.{labelOf, childrenOf, treeOf}
 use Rattle.table.specs.Cells.{Table}

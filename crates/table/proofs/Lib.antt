@@ -1,4 +1,5 @@
 -- The laws of the table: what its cells say of the tree that it holds, and what a change of them does to it. Those that callers cite come first.
+pub mod Behind
 pub mod Copies
 pub mod Moves
 pub mod Unique

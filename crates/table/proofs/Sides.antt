@@ -1,9 +1,8 @@
--- The two sides of the cursor's node: what its cell says of each, and that only the root has neither a parent nor a right sibling. Assumes nothing.
+-- The two sides of the cursor's node: what its cell says of each, and that a node with a sibling has a parent. Assumes nothing.
 use mathlib.Core.Path.{_≡_, refl, ap}
-use mathlib.Core.Option.{none, some}
 use Prim.Native.Nat.{ℕ, suc, _<_, _≤_}
 use native.Mathlib.Omega.{arith}
-use Rattle.rules.specs.Tree.{Label, Forest, Side, child, sibling, Place, up, count}
+use Rattle.rules.specs.Tree.{Label, Forest, Side, child, sibling, Place, count}
 use Rattle.table.specs.Cells.{Table, link, parentOn}
 use Rattle.table.specs.Holds.{Placed, empty, node, erase, head, beside, Spare, Holds}
 use Rattle.table.proofs.Ways.{Way, home, step, pathOf, parentOf}
@@ -26,19 +25,6 @@ module _ {m : Table} {n used free x : ℕ} {t : Forest} {w : Placed} {l : Label}
   parent-above sibling h = ap (λ a. a .parent) (h .above .1)
 
 module _ {m : Table} {n used free : ℕ} {t : Forest} {w : Placed} {s : Spare} where
-  -- only the root has no parent, and no right sibling
-  pub no-parent : (k : Way) (f : Placed) → Focus m n used free t w k f s → n ≤ parentOf k → up (pathOf k) ≡ none
-  unfolding up
-  no-parent home f h ge = refl
-  no-parent (step child x l o k) f h ge = absurd (omega (arith, h .above .0, h .room))
-  no-parent (step sibling x l o k) f h ge = no-parent k (node x l o f) (back sibling h) ge
-
-  pub some-parent : (k : Way) (f : Placed) → Focus m n used free t w k f s → parentOf k < n → (q : Place) × (up (pathOf k) ≡ some q)
-  unfolding up
-  some-parent home f h lt = absurd (omega (arith, h .few))
-  some-parent (step child x l o k) f h lt = (pathOf k, refl)
-  some-parent (step sibling x l o k) f h lt = some-parent k (node x l o f) (back sibling h) lt
-
   inner : (j : ℕ) (k : Way) (f : Placed) → Focus m n used free t w k f s → count (erase f) ≡ suc (suc j) → parentOf k < n
   unfolding count
   inner j home f h e = absurd (omega (arith, h .above .1))

@@ -8,7 +8,7 @@ use native.Mathlib.Decide.{ℕ-discrete}
 use lib.Dec.{ltb}
 use borrow.Author.Tests.{lt-ltb, le-ltb}
 use Rattle.rules.specs.Tree.{Forest, count, size}
-use Rattle.table.specs.Cells.{cell, Table, gone}
+use Rattle.table.specs.Cells.{Table, gone}
 use Rattle.table.specs.Holds.{Placed, empty, node, erase, head, Stored, Spare, end, more, top, Linked, Free, hit, times, spareTimes}
 use Rattle.table.specs.Steps.{Pushed, some, none, Took, again, fresh, full, withWord}
 use Rattle.table.proofs.Counting.{hit-same, hit-other, differ, none-beyond, free-beyond, size-all, size-less}

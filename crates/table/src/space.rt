@@ -1,5 +1,4 @@
 // The free places: a stack of removed forests, linked by the parent word of the first place of each, and then the places that were never used.
-ghost use mathlib.Core.Path.{_≡_};
 ghost use Prim.Native.Nat.{_*_, _≤_};
 ghost use lib.ListN.{length};
 ghost use Rattle.rules.specs.Limits.{maxNodes};

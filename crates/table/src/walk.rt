@@ -1,10 +1,9 @@
 // The cursor's moves: each gives the place of the node moved to, or a number that is no place where there is none.
-ghost use mathlib.Core.Path.{_≡_};
 ghost use mathlib.Core.Option.{some};
 ghost use Prim.Native.Nat.{ℕ, _<_};
 ghost use Rattle.rules.specs.Tree.{Forest, Place, to, up};
 ghost use Rattle.rules.specs.Tree as Tree;
-ghost use Rattle.table.specs.Cells.{Table, cells, sideOf, parentOn, Within};
+ghost use Rattle.table.specs.Cells.{Table, cells, sideOf, Within};
 ghost use Rattle.table.specs.Holds.{Holds};
 ghost use Rattle.table.specs.Promises.{Leads};
 use super::cells;

@@ -1,6 +1,6 @@
 -- One store to the value word sets the value. Assumes nothing.
 use Rattle.table.proofs.Changes.{value-set}
-use Rattle.table.proofs.Effects.{put-behind}
+use Rattle.table.proofs.Behind.{put-behind}
 use borrow.Author.Needs.{needs}
 use Rattle.table.proofs.node.set_value.Statement.{statement}
 use Rattle.table.proofs.node.set_value.Tie as tie

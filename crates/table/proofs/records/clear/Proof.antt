@@ -7,7 +7,8 @@ use lib.ListN.{length}
 use Rattle.table.specs.Cells.{cells}
 use Rattle.table.specs.Promises.{Behind}
 use Rattle.table.specs.Steps.{Cleared}
-use Rattle.table.proofs.Effects.{cleared-more, put-behind, then-behind}
+use Rattle.table.proofs.Behind.{put-behind, then-behind}
+use Rattle.table.proofs.Effects.{cleared-more}
 use borrow.Author.Needs.{needs}
 use Rattle.table.proofs.records.clear.Statement.{statement}
 use Rattle.table.proofs.records.clear.Tie as tie

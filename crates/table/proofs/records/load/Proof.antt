@@ -8,7 +8,8 @@ use denote.Ref.{now}
 use lib.ListN.{length}
 use Rattle.table.specs.Cells.{cells}
 use Rattle.table.specs.Promises.{Behind}
-use Rattle.table.proofs.Effects.{then-behind, entered-behind}
+use Rattle.table.proofs.Behind.{then-behind}
+use Rattle.table.proofs.Effects.{entered-behind}
 use Rattle.table.proofs.Jobs.{Rule, Linking, linking-start, linking-step, loaded}
 use Rattle.table.proofs.records.load.Statement.{statement}
 use Rattle.table.proofs.records.load.Tie as tie

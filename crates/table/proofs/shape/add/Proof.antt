@@ -1,7 +1,8 @@
 -- With a free place the node is linked in; else the tree stays. Assumes nothing.
 use Rattle.table.specs.Cells.{labelNew}
 use Rattle.table.proofs.Adding.{added, added-none}
-use Rattle.table.proofs.Effects.{then-behind, took-behind, attached-behind}
+use Rattle.table.proofs.Behind.{then-behind}
+use Rattle.table.proofs.Effects.{took-behind, attached-behind}
 use borrow.Author.Needs.{needs}
 use Rattle.table.proofs.shape.add.Statement.{statement}
 use Rattle.table.proofs.shape.add.Tie as tie
