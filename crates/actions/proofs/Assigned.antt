@@ -18,10 +18,13 @@ use Rattle.rules.specs.Run.{flow, boardFull, noVariable, variableAt, withVariab
 use Rattle.actions.specs.declared.memory.Memory.{Memory}
 use Rattle.actions.specs.declared.evaluate.Valued.{Valued}
 use Rattle.actions.specs.Board.{capacity, replaced}
-use Rattle.actions.specs.Shows.{Shows, Variables, slices}
-use Rattle.actions.specs.Acts.{Evaluates, Acts, effect}
+use Rattle.actions.specs.declared.control.Running.{Running}
+use Rattle.actions.specs.declared.control.Stepped.{Stepped}
+use Rattle.actions.specs.Shows.{Shows, Variables, slices, levelIn}
+use Rattle.actions.specs.Stands.{stepped, went}
+use Rattle.actions.specs.Acts.{Evaluates, Acts}
 use Rattle.actions.proofs.Board.{lines-many, replaced-long, replaced-rest, lines-on}
-use Rattle.actions.proofs.Doing.{flow-number, board-full-number, does-next, passes, refuses, stays}
+use Rattle.actions.proofs.Doing.{flow-number, board-full-number, does-next, passes, refuses, goes, stays}
 use Rattle.actions.proofs.Evaluation.{flow-test}
 
 -- a new value for the variable of index i, stored at j
@@ -50,63 +53,62 @@ variables-set {levels} {values} {n} {i} {j} {vs} u z h lt at long e =
 abbrev withLines : Memory → ℕ → Memory
 withLines m n = record { cursor = m .cursor; level = m .level; lines = n; free = m .free; used = m .used }
 
--- r is the value and the level of the expression e, and l is L
-module _ {words levels : List ℕ} {values : List ℤ} {places vars l : ℕ} {m : Memory} {e : Expression} {r : Valued} (pc : ℕ)
-    (x : Evaluates words levels values places vars m e r) (inside : m .cursor < places) (flows : l ≡ join (r .level) (join pc (m .level))) (b : List ℕ) where
+-- v is the value and the level of the expression e, and l is L
+module _ {words levels : List ℕ} {values : List ℤ} {places vars l : ℕ} (r : Running) {e : Expression} {v : Valued} (pc : ℕ)
+    (x : Evaluates words levels values places vars (r .memory) e v) (inside : r .memory .cursor < places)
+    (flows : l ≡ join (v .level) (join pc (levelIn (r .memory)))) (b : List ℕ) where
   -- command 1, at the index i
   module _ {i j : ℕ} (lt : i < vars) (at : j ≡ i) where
-    level-at : {μ : Run.Memory} → Shows places vars (slices words levels values b) m μ → (variableAt (μ .variables) i) .level ≡ getD levels j 0
+    level-at : {μ : Run.Memory} → Shows places vars (slices words levels values b) (r .memory) μ → (variableAt (μ .variables) i) .level ≡ getD levels j 0
     level-at s = s .variables .level i lt ∙ ap (λ k. getD levels k 0) (sym at)
 
-    pub no-assign : notAbove l (getD levels j 0) ≡ false
-        → Acts places vars (slices words levels values b) (slices words levels values b) m (effect 21 m)
-        (λ μ. Run.assign pc μ i (variableAt (μ .variables) i) e)
+    pub no-assign : {a : Stepped} → notAbove l (getD levels j 0) ≡ false → a ≡ stepped 21 r
+        → Acts places vars (slices words levels values b) (slices words levels values b) r a (λ μ. Run.assign pc μ i (variableAt (μ .variables) i) e)
     unfolding Run.assign
-    no-assign h = stays inside (λ μ s. refuses flow _ (flow-test pc x flows (level-at s) h b μ s) flow-number s)
+    no-assign h is = stays inside is (λ z. omega arith) (λ μ s. refuses flow _ (flow-test pc x flows (level-at s) h b μ s) flow-number s)
 
-    pub did-assign : (u : ℤ) → r .value ≡ u → vars ≤ length values → notAbove l (getD levels j 0) ≡ true
-        → Acts places vars (slices words levels values b) (slices words levels (set values j u) b) m (effect 0 m)
+    pub did-assign : {a : Stepped} → (u : ℤ) → v .value ≡ u → vars ≤ length values → notAbove l (getD levels j 0) ≡ true → a ≡ went r (r .memory)
+        → Acts places vars (slices words levels values b) (slices words levels (set values j u) b) r a
         (λ μ. Run.assign pc μ i (variableAt (μ .variables) i) e)
     unfolding Run.assign withVariables
-    did-assign u is long h =
-        record {
-          cursor = inside;
-          room = λ fits. fits;
-          kept = record { grown = omega arith; values = λ n k. getD-set-other values j n u (pos 0) (λ p. omega arith); board = refl };
-          acts = λ μ s.
-              passes flow (flow-test pc x flows (level-at s) h b μ s)
-              (does-next _ refl
-              (record { tree = s .tree; level = s .level; variables = variables-set u _ (s .variables) lt at long (x .value b μ s ∙ is); lines = s .lines }));
-        }
+    did-assign u same long h is =
+        goes (r .memory) is inside (λ fits. fits)
+        (record { grown = omega arith; cells = record { same = λ y h. refl }; values = λ n k. getD-set-other values j n u (pos 0) (λ p. omega arith); board = refl })
+        (λ μ s.
+        passes flow (flow-test pc x flows (level-at s) h b μ s)
+        (does-next _ refl
+        (record { tree = s .tree; level = s .level; variables = variables-set u _ (s .variables) lt at long (x .value b μ s ∙ same); lines = s .lines })))
 
   -- command 6
-  pub no-output : notAbove l 0 ≡ false
-      → Acts places vars (slices words levels values b) (slices words levels values b) m (effect 21 m) (λ μ. Run.output pc μ (capacity b) e)
+  pub no-output : {a : Stepped} → notAbove l 0 ≡ false → a ≡ stepped 21 r
+      → Acts places vars (slices words levels values b) (slices words levels values b) r a (λ μ. Run.output pc μ (capacity b) e)
   unfolding Run.output public
-  no-output h = stays inside (λ μ s. refuses flow _ (flow-test pc x flows refl h b μ s) flow-number s)
+  no-output h is = stays inside is (λ z. omega arith) (λ μ s. refuses flow _ (flow-test pc x flows refl h b μ s) flow-number s)
 
-  pub full-output : notAbove l 0 ≡ true → capacity b ≤ m .lines
-      → Acts places vars (slices words levels values b) (slices words levels values b) m (effect 24 m) (λ μ. Run.output pc μ (capacity b) e)
+  pub full-output : {a : Stepped} → notAbove l 0 ≡ true → capacity b ≤ r .memory .lines → a ≡ stepped 24 r
+      → Acts places vars (slices words levels values b) (slices words levels values b) r a (λ μ. Run.output pc μ (capacity b) e)
   unfolding Run.output public
-  full-output h full =
-      stays inside (λ μ s.
+  full-output h full is =
+      stays inside is (λ z. omega arith) (λ μ s.
       passes flow (flow-test pc x flows refl h b μ s)
       (refuses boardFull _ (le-ltb (length (μ .lines)) (capacity b) (omega (arith, lines-many (s .lines)))) board-full-number s))
 
-  pub did-output : (u : ℤ) → r .value ≡ u → notAbove l 0 ≡ true → m .lines < capacity b → (b′ : List ℕ) → b′ ≡ replaced b (m .lines) u
-      → Acts places vars (slices words levels values b) (slices words levels values b′) m (effect 0 (withLines m (m .lines + 1)))
-      (λ μ. Run.output pc μ (capacity b) e)
+  pub did-output : {a : Stepped} → (u : ℤ) → v .value ≡ u → notAbove l 0 ≡ true → r .memory .lines < capacity b → (b′ : List ℕ) → b′ ≡ replaced b (r .memory .lines) u
+      → a ≡ went r (withLines (r .memory) (r .memory .lines + 1))
+      → Acts places vars (slices words levels values b) (slices words levels values b′) r a (λ μ. Run.output pc μ (capacity b) e)
   unfolding Run.output withLine public
-  did-output u is h lt b′ put =
-      let room : 4 * m .lines + 4 ≤ length b = omega arith in
+  did-output u same h lt b′ put is =
+      let room : 4 * r .memory .lines + 4 ≤ length b = omega arith in
       rw put
+      (goes (withLines (r .memory) (r .memory .lines + 1)) is inside (λ fits. omega (arith, replaced-long b (r .memory .lines) u room))
+      (record { grown = omega arith; cells = record { same = λ y h. refl }; values = λ j k. refl; board = replaced-rest b (r .memory .lines) u room })
+      (λ μ s.
+      passes flow (flow-test pc x flows refl h b μ s)
+      (passes boardFull (lt-ltb (length (μ .lines)) (capacity b) (omega (arith, lines-many (s .lines))))
+      (does-next _ refl
       (record {
-        cursor = inside;
-        room = λ fits. omega (arith, replaced-long b (m .lines) u room);
-        kept = record { grown = omega arith; values = λ j k. refl; board = replaced-rest b (m .lines) u room };
-        acts = λ μ s.
-            passes flow (flow-test pc x flows refl h b μ s)
-            (passes boardFull (lt-ltb (length (μ .lines)) (capacity b) (omega (arith, lines-many (s .lines))))
-            (does-next _ refl
-            (record { tree = s .tree; level = s .level; variables = s .variables; lines = rw (x .value b μ s ∙ is) (lines-on b (m .lines) u room _ (s .lines)) })));
-      })
+        tree = s .tree;
+        level = s .level;
+        variables = s .variables;
+        lines = rw (x .value b μ s ∙ same) (lines-on b (r .memory .lines) u room _ (s .lines));
+      })))))

@@ -22,7 +22,8 @@ use Rattle.actions.specs.declared.control.Stepped.{Stepped}
 use Rattle.actions.specs.Guards.{Holds}
 use Rattle.actions.specs.Shows.{Slices}
 use Rattle.actions.specs.Acts.{Fits}
-use Rattle.actions.specs.Stands.{Stands, Passes, Enters}
+use Rattle.actions.specs.Stands.{Stands}
+use Rattle.actions.specs.Control.{Passes, Enters}
 
 -- one step more, with the guards g, at the record i
 abbrev after : Running → Guards → ℕ → Stepped

@@ -1,14 +1,12 @@
 -- Values and levels of operands and expressions that the slices show: an operand by its kind, from what the table's node and the variables' slices
 -- hold, and an expression by its operator, from its operands. Assumes nothing.
 use mathlib.Core.Path.{_≡_, refl, sym, ap, ap₂, subst, _∙_}
-use mathlib.Core.Bool.{Bool, true, false, _||_}
+use mathlib.Core.Bool.{Bool}
 use mathlib.Core.List.{List}
 use Prim.Native.Nat.{ℕ, zero, suc, _<_, _≤_}
 use native.Mathlib.Omega.{arith}
-use native.Mathlib.Decide.{ℕ-discrete}
-use lib.Dec.{eqb, ltb}
-use borrow.Author.Tests.{lt-ltb, ltb-true, ltb-false, ne-eqb}
-use lib.ListN.{getD, List·getD-eq-default}
+use borrow.Author.Tests.{lt-ltb}
+use lib.ListN.{getD}
 use lib.IntN.{ℤ, pos}
 use mir.Syntax.{w32}
 use mir.Val.{SFits}
@@ -16,11 +14,10 @@ use mir.Facts.{toZ-ofZ}
 use Rattle.rules.specs.Number.{half-range, signed}
 use Rattle.rules.specs.Level.{join, notAbove, public}
 use Rattle.rules.specs.Tree.{sub, label, count, along, child}
-use Rattle.rules.specs.Script.{Operand, Operator, Expression, both, apply, row, rows, rowOf}
+use Rattle.rules.specs.Script.{Operand, Operator, Expression, both, apply}
 use Rattle.rules.specs.Job.{operand, expression}
 use Rattle.rules.specs.Run as Run
 use Rattle.rules.specs.Run.{current, operandValue, operandLevel, value, levelOf, position, flowOf}
-use Rattle.rules.proofs.Tests.{Test, holds, fails, test}
 use Rattle.rules.proofs.Machine.{kept, read-as}
 use Rattle.rules.proofs.Number.{sum-fits, difference-fits, equal-fits, less-fits, mean-fits}
 use Rattle.table.specs.Cells.{cells}
@@ -29,7 +26,7 @@ use Rattle.job.specs.Fields.{expressionFrom}
 use Rattle.job.specs.declared.records.Fields.{Fields}
 use Rattle.actions.specs.declared.memory.Memory.{Memory}
 use Rattle.actions.specs.declared.evaluate.Valued.{Valued}
-use Rattle.actions.specs.Shows.{Shows, slices}
+use Rattle.actions.specs.Shows.{Shows, slices, levelIn}
 use Rattle.actions.specs.Acts.{Fits, Operates, Applies, Evaluates}
 
 -- a number that fits comes back from its bits
@@ -89,7 +86,7 @@ module _ {words levels : List ℕ} {values : List ℤ} {places vars : ℕ} {m : 
       }
 
   -- the working node's
-  pub node-value : {l : ℕ} {v : ℤ} (w c : ℕ) → Fits v → v ≡ signed w → l ≡ join (m .level) c
+  pub node-value : {l : ℕ} {v : ℤ} (w c : ℕ) → Fits v → v ≡ signed w → l ≡ join (levelIn m) c
       → Whenever (cells words) places (m .cursor) (λ t p. label (sub p t) .value ≡ signed w)
       → Whenever (cells words) places (m .cursor) (λ t p. label (sub p t) .content ≡ c)
       → Operates words levels values places vars m Operand.value (valued v l)
@@ -101,7 +98,7 @@ module _ {words levels : List ℕ} {values : List ℤ} {places vars : ℕ} {m : 
         level = λ b μ s. ap₂ join (s .level) (hc (m .used) (m .free) (μ .tree) (μ .cursor) (s .tree)) ∙ sym g;
       }
 
-  pub node-children : {l : ℕ} {v : ℤ} (w c : ℕ) → Fits v → v ≡ signed w → l ≡ join (m .level) c
+  pub node-children : {l : ℕ} {v : ℤ} (w c : ℕ) → Fits v → v ≡ signed w → l ≡ join (levelIn m) c
       → Whenever (cells words) places (m .cursor) (λ t p. (count (along child (sub p t)) ≡ w) × (w ≤ places))
       → Whenever (cells words) places (m .cursor) (λ t p. label (sub p t) .structure ≡ c)
       → Operates words levels values places vars m Operand.children (valued v l)
@@ -205,57 +202,12 @@ module _ {words levels : List ℕ} {values : List ℤ} {places vars : ℕ} {m : 
 
   -- L, from the level that was found
   pub flow-shown : {e : Expression} {r : Valued} (pc : ℕ) → Evaluates words levels values places vars m e r → (b : List ℕ) (μ : Run.Memory)
-      → Shows places vars (slices words levels values b) m μ → flowOf pc μ e ≡ join (r .level) (join pc (m .level))
+      → Shows places vars (slices words levels values b) m μ → flowOf pc μ e ≡ join (r .level) (join pc (levelIn m))
   unfolding flowOf position
   flow-shown pc x b μ s = ap₂ join (x .level b μ s) (ap (join pc) (s .level))
 
   -- and the rules' test of it against a level
   pub flow-test : {e : Expression} {r : Valued} {l k k′ : ℕ} {t : Bool} (pc : ℕ) → Evaluates words levels values places vars m e r
-      → l ≡ join (r .level) (join pc (m .level)) → k′ ≡ k → notAbove l k ≡ t → (b : List ℕ) (μ : Run.Memory)
+      → l ≡ join (r .level) (join pc (levelIn m)) → k′ ≡ k → notAbove l k ≡ t → (b : List ℕ) (μ : Run.Memory)
       → Shows places vars (slices words levels values b) m μ → notAbove (flowOf pc μ e) k′ ≡ t
   flow-test pc x flows i h b μ s = ap₂ notAbove (flow-shown pc x b μ s ∙ sym flows) i ∙ h
-
--- ---- which commands have an expression
-
--- two tests that agree below n
-abbrev Agree : (ℕ → Bool) → (ℕ → Bool) → ℕ → Type 0
-Agree f g zero = Unit {0}
-Agree f g (suc n) = Agree f g n × (f n ≡ g n)
-
-agree-at : (f g : ℕ → Bool) (n : ℕ) → Agree f g n → (k : ℕ) → k < n → f k ≡ g k
-agree-at f g zero a k l = absurd (omega (arith, l))
-agree-at f g (suc n) a k l = pick (ℕ-discrete k n) (agree-at f g n (a .0) k)
-  where
-    pick : Dec (k ≡ n) → (k < n → f k ≡ g k) → f k ≡ g k
-    pick (yes e) h = rw e (a .1)
-    pick (no e) h = h (omega (arith, l))
-
--- the seven numbers whose rows have an expression
-abbrev seven : ℕ → Bool
-seven k = (((((eqb k 1 || eqb k 2) || eqb k 4) || eqb k 6) || eqb k 11) || eqb k 12) || eqb k 15
-
-row-agrees : Agree seven (λ (k : ℕ). rowOf k .expression) 17
-unfolding rows
-row-agrees = (((((((((((((((((tt, refl), refl), refl), refl), refl), refl), refl), refl), refl), refl), refl), refl), refl), refl), refl), refl), refl)
-
-no-row : (k : ℕ) → 17 ≤ k → rowOf k .expression ≡ false
-unfolding rows
-no-row k l = rw (List·getD-eq-default rows (row false false false) {n = k} (omega (arith, l)))
-
-pub seven-rows : (k : ℕ) → seven k ≡ rowOf k .expression
-seven-rows k = pick (test (ltb k 17))
-  where
-    pick : Test (ltb k 17) → seven k ≡ rowOf k .expression
-    pick (holds e) = agree-at seven (λ (j : ℕ). rowOf j .expression) 17 row-agrees k (ltb-true k 17 e)
-    pick (fails e) =
-        let l = ltb-false k 17 e in
-        rw (
-          ne-eqb k 1 (λ q. omega (arith, l, q)),
-          ne-eqb k 2 (λ q. omega (arith, l, q)),
-          ne-eqb k 4 (λ q. omega (arith, l, q)),
-          ne-eqb k 6 (λ q. omega (arith, l, q)),
-          ne-eqb k 11 (λ q. omega (arith, l, q)),
-          ne-eqb k 12 (λ q. omega (arith, l, q)),
-          ne-eqb k 15 (λ q. omega (arith, l, q)),
-          no-row k l,
-        )

@@ -7,7 +7,8 @@ use mathlib.Core.List.{List}
 use Prim.Native.Nat.{ℕ, _%_, _<_, _≤_}
 use native.Mathlib.Omega.{arith}
 use lib.IntN.{ℤ}
-use lib.Dec.{ltb, leb, eqb}
+use lib.Dec.{leb, eqb}
+use borrow.Author.Tests.{lt-ltb, le-ltb}
 use mir.Syntax.{w32}
 use Rattle.rules.specs.Number.{bits, signed}
 use Rattle.rules.specs.Level.{join, notAbove}
@@ -20,13 +21,16 @@ use Rattle.rules.proofs.Machine.{kept}
 use Rattle.rules.proofs.Number.{signed-bits}
 use Rattle.table.specs.Cells.{cells, sideOf, labelWith}
 use Rattle.table.specs.Holds.{Holds}
-use Rattle.table.specs.Promises.{Whenever, Leads, canAdd, Added}
+use Rattle.table.specs.Promises.{Whenever, Leads, Behind, Added}
 use Rattle.table.proofs.Moves.{stands}
 use Rattle.actions.specs.declared.memory.Memory.{Memory}
 use Rattle.actions.specs.declared.evaluate.Valued.{Valued}
-use Rattle.actions.specs.Shows.{slices, Shows}
-use Rattle.actions.specs.Acts.{Does, Acts, effect, Evaluates, ParentOn, MayTouch, MayAdd, gate}
-use Rattle.actions.proofs.Doing.{flow-number, absent-number, table-full-number, low-number, does-next, does-stop, passes, refuses, does-as, stays}
+use Rattle.actions.specs.declared.control.Running.{Running}
+use Rattle.actions.specs.declared.control.Stepped.{Stepped}
+use Rattle.actions.specs.Shows.{slices, Shows, levelIn}
+use Rattle.actions.specs.Stands.{stepped, withMemory, went}
+use Rattle.actions.specs.Acts.{Does, Kept, Acts, Evaluates, ParentOn, MayTouch, MayAdd, gate}
+use Rattle.actions.proofs.Doing.{flow-number, absent-number, table-full-number, low-number, does-next, does-stop, passes, refuses, does-as, halts, goes, stays}
 use Rattle.actions.proofs.Evaluation.{read, flow-shown}
 use Rattle.actions.proofs.Touched.{there, nowhere, Under, under, no-parent, position-is}
 
@@ -45,12 +49,10 @@ module _ {places vars : ℕ} {w w′ l b : List ℕ} {v : List ℤ} {m : Memory}
   unfolding withTree
   with-tree s h = record { tree = h; level = s .level; variables = s .variables; lines = s .lines }
 
-  -- an action that changes no more
-  pub changes : {n : ℕ} {action : Run.Memory → Result Run.Memory} → m .cursor < places
-      → ((μ : Run.Memory) → Shows places vars (slices w l v b) m μ → Does (Shows places vars (slices w′ l v b) (withSpace m free used)) n μ (action μ))
-      → Acts places vars (slices w l v b) (slices w′ l v b) m (effect n (withSpace m free used)) action
-  changes inside f =
-      record { cursor = inside; room = λ h. h; kept = record { grown = omega arith; values = λ j h. refl; board = refl }; acts = f }
+-- an action that changes words and what leads to the free places touches nothing else
+words-only : {places vars n : ℕ} {w w′ l b : List ℕ} {v : List ℤ} → Behind places (cells w) (cells w′)
+    → Kept places vars (slices w l v b) (slices w′ l v b) n n
+words-only h = record { grown = omega arith; cells = h; values = λ j h. refl; board = refl }
 
 -- the place on a side of the cursor
 abbrev pub Beside : List ℕ → ℕ → Memory → ℕ → ℕ → Type 0
@@ -59,33 +61,35 @@ Beside w places m side old =
     → Leads (cells w) places used free t (some (to (sideOf side) p)) old
 
 -- removals
-module _ (pc side : ℕ) {places vars old : ℕ} {w l b : List ℕ} {v : List ℤ} {m : Memory} (inside : m .cursor < places)
-    (beside : Beside w places m side old) where
-  pub remove-absent : places ≤ old
-      → Acts places vars (slices w l v b) (slices w l v b) m (effect 22 m) (λ μ. removeAt pc μ (to (sideOf side) (μ .cursor)))
+module _ (r : Running) (pc side : ℕ) {places vars old : ℕ} {w l b : List ℕ} {v : List ℤ} (inside : r .memory .cursor < places)
+    (beside : Beside w places (r .memory) side old) where
+  pub remove-absent : {a : Stepped} → places ≤ old → a ≡ stepped 22 r
+      → Acts places vars (slices w l v b) (slices w l v b) r a (λ μ. removeAt pc μ (to (sideOf side) (μ .cursor)))
   unfolding removeAt
-  remove-absent ge = stays inside (λ μ s. refuses absent _ (nowhere (beside _ _ _ _ (s .tree)) ge) absent-number s)
+  remove-absent ge is = stays inside is (λ z. omega arith) (λ μ s. refuses absent _ (nowhere (beside _ _ _ _ (s .tree)) ge) absent-number s)
 
-  module _ {c : ℕ} {ok : Bool} (at : c ≡ join pc (m .level)) (lt : old < places) (may : MayTouch w places m c old ok) where
-    touched : {μ : Run.Memory} → Shows places vars (slices w l v b) m μ → mayTouch pc μ (sub (to (sideOf side) (μ .cursor)) (μ .tree)) ≡ ok
+  module _ {c : ℕ} {ok : Bool} (at : c ≡ join pc (levelIn (r .memory))) (lt : old < places) (may : MayTouch w places (r .memory) c old ok) where
+    touched : {μ : Run.Memory} → Shows places vars (slices w l v b) (r .memory) μ → mayTouch pc μ (sub (to (sideOf side) (μ .cursor)) (μ .tree)) ≡ ok
     touched {μ} s = sym (may .touch pc μ _ (position-is pc at s) (beside _ _ _ _ (s .tree)))
 
-    pub remove-refused : ok ≡ false
-        → Acts places vars (slices w l v b) (slices w l v b) m (effect 21 m) (λ μ. removeAt pc μ (to (sideOf side) (μ .cursor)))
+    pub remove-refused : {a : Stepped} → ok ≡ false → a ≡ stepped 21 r
+        → Acts places vars (slices w l v b) (slices w l v b) r a (λ μ. removeAt pc μ (to (sideOf side) (μ .cursor)))
     unfolding removeAt
-    remove-refused e =
-        stays inside (λ μ s. passes absent (stands (there (beside _ _ _ _ (s .tree)) lt)) (refuses flow _ (touched s ∙ e) flow-number s))
+    remove-refused e is =
+        stays inside is (λ z. omega arith) (λ μ s. passes absent (stands (there (beside _ _ _ _ (s .tree)) lt)) (refuses flow _ (touched s ∙ e) flow-number s))
 
-    pub removed : {w′ : List ℕ} {free : ℕ} → ok ≡ true
-        → ((used : ℕ) (t : Forest) (p : Place) → Holds (cells w) places used (m .free) (m .cursor) t p
-        → Holds (cells w′) places used free (m .cursor) (change (to (sideOf side) p) Tree.remove t) p)
-        → Acts places vars (slices w l v b) (slices w′ l v b) m (effect 0 (withSpace m free (m .used))) (λ μ. removeAt pc μ (to (sideOf side) (μ .cursor)))
+    pub removed : {w′ : List ℕ} {free : ℕ} {a : Stepped} → ok ≡ true
+        → ((used : ℕ) (t : Forest) (p : Place) → Holds (cells w) places used (r .memory .free) (r .memory .cursor) t p
+        → Leads (cells w) places used (r .memory .free) t (some (to (sideOf side) p)) old
+        → Holds (cells w′) places used free (r .memory .cursor) (change (to (sideOf side) p) Tree.remove t) p)
+        → Behind places (cells w) (cells w′) → a ≡ went r (withSpace (r .memory) free (r .memory .used))
+        → Acts places vars (slices w l v b) (slices w′ l v b) r a (λ μ. removeAt pc μ (to (sideOf side) (μ .cursor)))
     unfolding removeAt
-    removed e gone =
-        changes inside
+    removed e gone behind is =
+        goes _ is inside (λ h. h) (words-only behind)
         (λ μ s.
         passes absent (stands (there (beside _ _ _ _ (s .tree)) lt))
-        (passes flow (touched s ∙ e) (does-next _ refl (with-tree s (gone _ _ _ (s .tree))))))
+        (passes flow (touched s ∙ e) (does-next _ refl (with-tree s (gone _ _ _ (s .tree) (beside _ _ _ _ (s .tree)))))))
 
 -- the three tests in front of an insertion
 module _ {P : Run.Memory → Type 0} {k : ℕ} {μ : Run.Memory} where
@@ -107,23 +111,24 @@ module _ {P : Run.Memory → Type 0} {k : ℕ} {μ : Run.Memory} where
 abbrev pub Inserts : ℕ → ℕ → ℕ → ℕ → Expression → Run.Memory → Result Run.Memory
 Inserts pc side mark places e μ = insertAt pc μ places (to (sideOf side) (μ .cursor)) (up (to (sideOf side) (μ .cursor))) mark e
 
-module _ (pc side mark : ℕ) (e : Expression) {places vars above : ℕ} {w l b : List ℕ} {v : List ℤ} {m : Memory} (inside : m .cursor < places)
-    (on : ParentOn w places m side above) where
-  pub insert-absent : places ≤ above → Acts places vars (slices w l v b) (slices w l v b) m (effect 22 m) (Inserts pc side mark places e)
+module _ (r : Running) (pc side mark : ℕ) (e : Expression) {places vars above : ℕ} {w l b : List ℕ} {v : List ℤ}
+    (inside : r .memory .cursor < places) (on : ParentOn w places (r .memory) side above) where
+  pub insert-absent : {a : Stepped} → places ≤ above → a ≡ stepped 22 r → Acts places vars (slices w l v b) (slices w l v b) r a (Inserts pc side mark places e)
   unfolding insertAt
-  insert-absent ge =
-      stays inside
+  insert-absent ge is =
+      stays inside is (λ z. omega arith)
       (λ μ s.
       does-as (ap (λ o. insertAt pc μ places (to (sideOf side) (μ .cursor)) o mark e) (no-parent (sideOf side) (s .tree) (on .leads _ _ (s .tree)) ge))
       (does-stop absent absent-number s))
 
-  module _ {old c k : ℕ} (beside : Beside w places m side old) (at : c ≡ join pc (m .level)) (lt : above < places) (may : MayAdd w places m above old c k) where
+  module _ {old c k : ℕ} (beside : Beside w places (r .memory) side old) (at : c ≡ join pc (levelIn (r .memory))) (lt : above < places)
+      (may : MayAdd w places (r .memory) above old c k) where
     -- the parent's place
-    parent : {μ : Run.Memory} → Shows places vars (slices w l v b) m μ
-        → Under (cells w) places (m .used) (m .free) above (μ .tree) (up (to (sideOf side) (μ .cursor)))
+    parent : {μ : Run.Memory} → Shows places vars (slices w l v b) (r .memory) μ
+        → Under (cells w) places (r .memory .used) (r .memory .free) above (μ .tree) (up (to (sideOf side) (μ .cursor)))
     parent s = under (on .leads _ _ (s .tree)) lt
 
-    gated : {μ : Run.Memory} (s : Shows places vars (slices w l v b) m μ)
+    gated : {μ : Run.Memory} (s : Shows places vars (slices w l v b) (r .memory) μ)
         → k ≡ gate (notAbove (position pc μ) ((label (sub (parent s .place) (μ .tree))) .structure))
         (mayTouch pc μ (sub (to (sideOf side) (μ .cursor)) (μ .tree))) (notAbove ((label (current μ)) .existence) (position pc μ))
     unfolding current
@@ -134,53 +139,58 @@ module _ (pc side mark : ℕ) (e : Expression) {places vars above : ℕ} {w l b 
         (notAbove ((label (sub (μ .cursor) (μ .tree))) .existence) z)) i
 
     -- the insertion under that parent
-    as-under : {μ : Run.Memory} (s : Shows places vars (slices w l v b) m μ)
+    as-under : {μ : Run.Memory} (s : Shows places vars (slices w l v b) (r .memory) μ)
         → Inserts pc side mark places e μ ≡ insertAt pc μ places (to (sideOf side) (μ .cursor)) (some (parent s .place)) mark e
     as-under {μ} s = ap (λ o. insertAt pc μ places (to (sideOf side) (μ .cursor)) o mark e) (parent s .is)
 
-    pub insert-refused : (k ≡ 0 → ⊥) → Acts places vars (slices w l v b) (slices w l v b) m (effect k m) (Inserts pc side mark places e)
+    pub insert-refused : {a : Stepped} → (k ≡ 0 → ⊥) → a ≡ stepped k r → Acts places vars (slices w l v b) (slices w l v b) r a (Inserts pc side mark places e)
     unfolding insertAt
-    insert-refused ne = stays inside (λ μ s. does-as (as-under s) (gate-shut _ _ _ _ (gated s) ne s))
+    insert-refused ne is = stays inside is ne (λ μ s. does-as (as-under s) (gate-shut _ _ _ _ (gated s) ne s))
 
-    module _ (w′ : List ℕ) {ok : Bool} {x free used : ℕ} {new : Label} (zero : k ≡ 0)
-        (added : (t : Forest) (p : Place) → Holds (cells w) places (m .used) (m .free) (m .cursor) t p
-        → Added (sideOf side) new (cells w) (cells w′) places (m .used) (m .free) (m .cursor) ok x free used t p) where
-      room : {μ : Run.Memory} → Shows places vars (slices w l v b) m μ → ok ≡ ltb (size (μ .tree)) places
-      unfolding canAdd
-      room {μ} s = added _ _ (s .tree) .when ∙ ap (canAdd places (μ .tree)) (parent s .is)
+    module _ (w′ : List ℕ) {x free used : ℕ} {new : Label} (zero : k ≡ 0)
+        (added : (t : Forest) (p : Place) → Holds (cells w) places (r .memory .used) (r .memory .free) (r .memory .cursor) t p
+        → Leads (cells w) places (r .memory .used) (r .memory .free) t (up (to (sideOf side) p)) above
+        → Added (sideOf side) new (cells w) (cells w′) places (r .memory .used) (r .memory .free) (r .memory .cursor) x free used t p)
+        (behind : Behind places (cells w) (cells w′)) where
+      result : {μ : Run.Memory} → Shows places vars (slices w l v b) (r .memory) μ
+          → Added (sideOf side) new (cells w) (cells w′) places (r .memory .used) (r .memory .free) (r .memory .cursor) x free used (μ .tree) (μ .cursor)
+      result s = added _ _ (s .tree) (on .leads _ _ (s .tree))
 
-      pub insert-full : ok ≡ false → Acts places vars (slices w l v b) (slices w′ l v b) m (effect 23 (withSpace m free used)) (Inserts pc side mark places e)
+      pub insert-full : {a : Stepped} → places ≤ x → a ≡ stepped 23 (withMemory r (withSpace (r .memory) free used))
+          → Acts places vars (slices w l v b) (slices w′ l v b) r a (Inserts pc side mark places e)
       unfolding insertAt
-      insert-full i =
-          changes inside
-          (λ μ s.
-          does-as (as-under s)
-          (gate-open _ _ _ _ (gated s) zero (refuses tableFull _ (sym (room s) ∙ i) table-full-number (with-space s (added _ _ (s .tree) .kept i)))))
-
-      pub inserted : ((μ : Run.Memory) → Shows places vars (slices w l v b) m μ → new ≡ newLabel pc μ mark e) → ok ≡ true
-          → Acts places vars (slices w l v b) (slices w′ l v b) m (effect 0 (withSpace m free used)) (Inserts pc side mark places e)
-      unfolding insertAt
-      inserted labels i =
-          changes inside
+      insert-full i is =
+          halts _ is (λ z. omega arith) inside (λ h. h) (words-only behind)
           (λ μ s.
           does-as (as-under s)
           (gate-open _ _ _ _ (gated s) zero
-          (passes tableFull (sym (room s) ∙ i)
+          (refuses tableFull _ (sym (result s .when) ∙ le-ltb x places i) table-full-number (with-space s (result s .kept i)))))
+
+      pub inserted : {a : Stepped} → ((μ : Run.Memory) → Shows places vars (slices w l v b) (r .memory) μ → new ≡ newLabel pc μ mark e) → x < places
+          → a ≡ went r (withSpace (r .memory) free used) → Acts places vars (slices w l v b) (slices w′ l v b) r a (Inserts pc side mark places e)
+      unfolding insertAt
+      inserted labels i is =
+          goes _ is inside (λ h. h) (words-only behind)
+          (λ μ s.
+          does-as (as-under s)
+          (gate-open _ _ _ _ (gated s) zero
+          (passes tableFull (sym (result s .when) ∙ lt-ltb x places i)
           (does-next _ refl
           (with-tree s
-          (subst (λ n. Holds (cells w′) places used free (m .cursor) (change (to (sideOf side) (μ .cursor)) (Tree.insert n) (μ .tree)) (μ .cursor)) (labels μ s)
-          (added _ _ (s .tree) .done i)))))))
+          (subst
+          (λ n. Holds (cells w′) places used free (r .memory .cursor) (change (to (sideOf side) (μ .cursor)) (Tree.insert n) (μ .tree)) (μ .cursor))
+          (labels μ s) (result s .done i)))))))
 
--- r is the value and the level of the expression e, and k is L
-module _ {w l : List ℕ} {v : List ℤ} {places vars k : ℕ} {m : Memory} {e : Expression} {r : Valued} (pc : ℕ) (x : Evaluates w l v places vars m e r)
-    (flows : k ≡ join (r .level) (join pc (m .level))) (b : List ℕ) where
+-- y is the value and the level of the expression e, and k is L
+module _ {w l : List ℕ} {v : List ℤ} {places vars k : ℕ} (r : Running) {e : Expression} {y : Valued} (pc : ℕ)
+    (x : Evaluates w l v places vars (r .memory) e y) (flows : k ≡ join (y .level) (join pc (levelIn (r .memory)))) (b : List ℕ) where
   -- the value, by its bits
-  told : {n : ℕ} → n ≡ bits (kept w32 (r .value)) → (μ : Run.Memory) → Shows places vars (slices w l v b) m μ → signed n ≡ value μ e
+  told : {n : ℕ} → n ≡ bits (kept w32 (y .value)) → (μ : Run.Memory) → Shows places vars (slices w l v b) (r .memory) μ → signed n ≡ value μ e
   told i μ s = ap signed i ∙ ap (λ z. signed (bits z)) (read (x .fits)) ∙ signed-bits (record { sfits = x .fits }) ∙ sym (x .value b μ s)
 
   -- the label of a new node at the level c
-  pub new-label : {n c p q : ℕ} (mark : ℕ) → n ≡ bits (kept w32 (r .value)) → c ≡ join pc (m .level) → p ≡ join k (secretIf (eqb (mark % 2) 1))
-      → q ≡ join c (secretIf (leb 2 mark)) → (μ : Run.Memory) → Shows places vars (slices w l v b) m μ → labelWith n c p q ≡ newLabel pc μ mark e
+  pub new-label : {n c p q : ℕ} (mark : ℕ) → n ≡ bits (kept w32 (y .value)) → c ≡ join pc (levelIn (r .memory)) → p ≡ join k (secretIf (eqb (mark % 2) 1))
+      → q ≡ join c (secretIf (leb 2 mark)) → (μ : Run.Memory) → Shows places vars (slices w l v b) (r .memory) μ → labelWith n c p q ≡ newLabel pc μ mark e
   unfolding newLabel
   new-label mark i at ip iq μ s =
       λ j.
@@ -192,26 +202,29 @@ module _ {w l : List ℕ} {v : List ℤ} {places vars k : ℕ} {m : Memory} {e :
       }
 
   -- writes to a node of the content c
-  module _ {c : ℕ} (inside : m .cursor < places) (contents : Whenever (cells w) places (m .cursor) (λ t p. label (sub p t) .content ≡ c)) where
-    content-test : {t : Bool} → notAbove k c ≡ t → (μ : Run.Memory) → Shows places vars (slices w l v b) m μ
+  module _ {c : ℕ} (inside : r .memory .cursor < places)
+      (contents : Whenever (cells w) places (r .memory .cursor) (λ t p. label (sub p t) .content ≡ c)) where
+    content-test : {t : Bool} → notAbove k c ≡ t → (μ : Run.Memory) → Shows places vars (slices w l v b) (r .memory) μ
         → notAbove (flowOf pc μ e) ((label (current μ)) .content) ≡ t
     unfolding current
     content-test h μ s = ap₂ notAbove (flow-shown pc x b μ s ∙ sym flows) (contents _ _ _ _ (s .tree)) ∙ h
 
-    pub write-refused : notAbove k c ≡ false → Acts places vars (slices w l v b) (slices w l v b) m (effect 21 m) (λ μ. Run.write pc μ e)
+    pub write-refused : {a : Stepped} → notAbove k c ≡ false → a ≡ stepped 21 r
+        → Acts places vars (slices w l v b) (slices w l v b) r a (λ μ. Run.write pc μ e)
     unfolding Run.write
-    write-refused h = stays inside (λ μ s. refuses flow _ (content-test h μ s) flow-number s)
+    write-refused h is = stays inside is (λ z. omega arith) (λ μ s. refuses flow _ (content-test h μ s) flow-number s)
 
-    pub written : (w′ : List ℕ) {n : ℕ} → notAbove k c ≡ true → n ≡ bits (kept w32 (r .value))
-        → ((used free : ℕ) (t : Forest) (p : Place) → Holds (cells w) places used free (m .cursor) t p
-        → Holds (cells w′) places used free (m .cursor) (change p (setValue (signed n)) t) p)
-        → Acts places vars (slices w l v b) (slices w′ l v b) m (effect 0 m) (λ μ. Run.write pc μ e)
+    pub written : (w′ : List ℕ) {n : ℕ} {a : Stepped} → notAbove k c ≡ true → n ≡ bits (kept w32 (y .value))
+        → ((used free : ℕ) (t : Forest) (p : Place) → Holds (cells w) places used free (r .memory .cursor) t p
+        → Holds (cells w′) places used free (r .memory .cursor) (change p (setValue (signed n)) t) p)
+        → Behind places (cells w) (cells w′) → a ≡ went r (r .memory)
+        → Acts places vars (slices w l v b) (slices w′ l v b) r a (λ μ. Run.write pc μ e)
     unfolding Run.write
-    written w′ h i set =
-        changes inside
+    written w′ h i set behind is =
+        goes (r .memory) is inside (λ z. z) (words-only behind)
         (λ μ s.
         passes flow (content-test h μ s)
         (does-next _ refl
         (with-tree s
-        (subst (λ z. Holds (cells w′) places (m .used) (m .free) (m .cursor) (change (μ .cursor) (setValue z) (μ .tree)) (μ .cursor)) (told i μ s)
+        (subst (λ z. Holds (cells w′) places (r .memory .used) (r .memory .free) (r .memory .cursor) (change (μ .cursor) (setValue z) (μ .tree)) (μ .cursor)) (told i μ s)
         (set _ _ _ _ (s .tree))))))

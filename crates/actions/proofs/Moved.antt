@@ -4,10 +4,10 @@ use mathlib.Core.Path.{_≡_, refl, sym, ap, ap₂, subst, _∙_}
 use mathlib.Core.Bool.{true, false}
 use mathlib.Core.Option.{Option, none, some}
 use mathlib.Core.List.{List}
-use Prim.Native.Nat.{ℕ, _<_, _≤_}
+use Prim.Native.Nat.{ℕ, _%_, _<_, _≤_}
 use native.Mathlib.Omega.{arith}
 use lib.IntN.{ℤ}
-use Rattle.rules.specs.Level.{Level, join, notAbove}
+use Rattle.rules.specs.Level.{Level, public, join, notAbove}
 use Rattle.rules.specs.Tree.{noLabel, Forest, nil, tree, Place, root, to, up, child, sibling, sub, label, exists, count}
 use Rattle.rules.specs.Run as Run
 use Rattle.rules.specs.Run.{Result, stop, flow, absent, need, moveTo, goTo}
@@ -17,10 +17,12 @@ use Rattle.table.specs.Holds.{node, empty, end, hit, Holds}
 use Rattle.table.specs.Promises.{Whenever, Leads, outside, missing, found}
 use Rattle.table.proofs.Moves.{stands}
 use Rattle.actions.specs.declared.memory.Memory.{Memory}
-use Rattle.actions.specs.declared.memory.Effect.{Effect}
-use Rattle.actions.specs.Shows.{Slices, slices, Shows}
-use Rattle.actions.specs.Acts.{Does, Acts, effect, withCursor, movedTo, moveOf, Target}
-use Rattle.actions.proofs.Doing.{flow-number, absent-number, does-next, passes, refuses, does-as, kept-refl, stops}
+use Rattle.actions.specs.declared.control.Running.{Running}
+use Rattle.actions.specs.declared.control.Stepped.{Stepped}
+use Rattle.actions.specs.Shows.{Slices, slices, Shows, levelIn}
+use Rattle.actions.specs.Stands.{stepped}
+use Rattle.actions.specs.Acts.{Does, Acts, withCursor, movedTo, moveOf, Target}
+use Rattle.actions.proofs.Doing.{flow-number, absent-number, does-next, passes, refuses, does-as, kept-refl, goes, stays, stops}
 
 -- in a memory that is shown, the action is a move to the node at a place of the table, with a level
 pub record Moves (places : ℕ) (x : Slices) (m : Memory) (pc place level : ℕ) (μ : Run.Memory) (action : Result Run.Memory) : Type 0 where
@@ -30,30 +32,32 @@ pub record Moves (places : ℕ) (x : Slices) (m : Memory) (pc place level : ℕ)
   pub same : l ≡ level
   pub is : action ≡ moveTo pc μ p l
 
-module _ {places vars : ℕ} {x : Slices} {m : Memory} {pc place level : ℕ} where
+module _ {places vars : ℕ} {x : Slices} (r : Running) {pc place level : ℕ} where
   -- where the context is not above the cursor's level, and where it is
-  went : {μ : Run.Memory} {z : Result Run.Memory} → notAbove pc (m .level) ≡ true → Shows places vars x m μ → Moves places x m pc place level μ z
-      → Does (Shows places vars x (withCursor m place level)) 0 μ z
+  there : {μ : Run.Memory} {z : Result Run.Memory} → notAbove pc (levelIn (r .memory)) ≡ true → level < 256 → Shows places vars x (r .memory) μ
+      → Moves places x (r .memory) pc place level μ z → Does (Shows places vars x (withCursor (r .memory) place level)) 0 μ z
   unfolding moveTo Run.withCursor
-  went e s a =
+  there e small s a =
+      let low : level ≡ level % 256 = omega arith in
       does-as (a .is)
       (passes flow (ap (notAbove pc) (s .level) ∙ e)
-      (does-next _ refl (record { tree = a .tree; level = a .same; variables = s .variables; lines = s .lines })))
+      (does-next _ refl (record { tree = a .tree; level = a .same ∙ low; variables = s .variables; lines = s .lines })))
 
-  held : {μ : Run.Memory} {z : Result Run.Memory} → notAbove pc (m .level) ≡ false → Shows places vars x m μ → Moves places x m pc place level μ z
-      → Does (Shows places vars x m) 21 μ z
+  held : {μ : Run.Memory} {z : Result Run.Memory} → notAbove pc (levelIn (r .memory)) ≡ false → Shows places vars x (r .memory) μ
+      → Moves places x (r .memory) pc place level μ z → Does (Shows places vars x (r .memory)) 21 μ z
   unfolding moveTo
   held e s a = does-as (a .is) (refuses flow _ (ap (notAbove pc) (s .level) ∙ e) flow-number s)
 
   -- the cursor goes there, where the context is not above its level
-  pub acts-move : {r : Effect} {action : Run.Memory → Result Run.Memory} → m .cursor < places → place < places → r ≡ movedTo pc m place level
-      → ((μ : Run.Memory) → Shows places vars x m μ → Moves places x m pc place level μ (action μ)) → Acts places vars x x m r action
+  pub acts-move : {a : Stepped} {action : Run.Memory → Result Run.Memory} → r .memory .cursor < places → place < places
+      → (a ≡ movedTo pc r place level) × (level < 256)
+      → ((μ : Run.Memory) → Shows places vars x (r .memory) μ → Moves places x (r .memory) pc place level μ (action μ)) → Acts places vars x x r a action
   unfolding movedTo
-  acts-move {r} {action} inside there i a = subst (λ z. Acts places vars x x m z action) (sym i) (by (test (notAbove pc (m .level))))
+  acts-move {a} {action} inside lt (i, small) f = by (test (notAbove pc (levelIn (r .memory))))
     where
-      by : Test (notAbove pc (m .level)) → Acts places vars x x m (movedTo pc m place level) action
-      by (holds e) = rw e (record { cursor = there; room = λ h. h; kept = kept-refl; acts = λ μ s. went e s (a μ s) })
-      by (fails e) = rw e (record { cursor = inside; room = λ h. h; kept = kept-refl; acts = λ μ s. held e s (a μ s) })
+      by : Test (notAbove pc (levelIn (r .memory))) → Acts places vars x x r a action
+      by (holds e) = goes (withCursor (r .memory) place level) (i ∙ rw e) lt (λ h. h) kept-refl (λ μ s. there e small s (f μ s))
+      by (fails e) = stays inside (i ∙ rw e) (λ z. omega arith) (λ μ s. held e s (f μ s))
 
 module _ (pc : ℕ) (μ : Run.Memory) {o : Option Place} where
   -- to no node
@@ -70,25 +74,27 @@ module _ (pc : ℕ) (μ : Run.Memory) {o : Option Place} where
   unfolding goTo need
   arrives i e = rw (i, e)
 
-module _ {w l b : List ℕ} {v : List ℤ} {places vars : ℕ} {m : Memory} (pc : ℕ) {place : ℕ} {o : Place → Option Place} where
+module _ {w l b : List ℕ} {v : List ℤ} {places vars : ℕ} (r : Running) {a : Stepped} (pc : ℕ) {place : ℕ} {o : Place → Option Place}
+    (inside : r .memory .cursor < places) (target : Target w places (r .memory) place o) where
   -- a link that leads to no place
-  pub acts-absent : m .cursor < places → places ≤ place → Target w places m place o
-      → Acts places vars (slices w l v b) (slices w l v b) m (effect 22 m) (λ μ. goTo pc μ (o (μ .cursor)))
-  acts-absent inside ge a = stops inside absent absent-number (λ μ s. by μ (a .leads (μ .tree) (μ .cursor) (s .tree)))
+  pub acts-absent : places ≤ place → a ≡ stepped 22 r
+      → Acts places vars (slices w l v b) (slices w l v b) r a (λ μ. goTo pc μ (o (μ .cursor)))
+  acts-absent ge is = stops inside absent is absent-number (λ μ s. by μ (target .leads (μ .tree) (μ .cursor) (s .tree)))
     where
-      by : (μ : Run.Memory) → Leads (cells w) places (m .used) (m .free) (μ .tree) (o (μ .cursor)) place → goTo pc μ (o (μ .cursor)) ≡ stop absent
+      by : (μ : Run.Memory) → Leads (cells w) places (r .memory .used) (r .memory .free) (μ .tree) (o (μ .cursor)) place → goTo pc μ (o (μ .cursor)) ≡ stop absent
       by μ (outside z i) = away pc μ i
       by μ (missing q z i e) = astray pc μ i e
       by μ (found q z i h) = absurd (omega arith)
 
   -- a link that leads to a place, where there is a node with the existence e
-  pub acts-go : {r : Effect} {e level : ℕ} → m .cursor < places → place < places → Target w places m place o
-      → Whenever (cells w) places place (λ t p. (label (sub p t)) .existence ≡ e) → level ≡ join (m .level) e → r ≡ movedTo pc m place level
-      → Acts places vars (slices w l v b) (slices w l v b) m r (λ μ. goTo pc μ (o (μ .cursor)))
-  acts-go {r} {e} {level} inside there a ex k i = acts-move inside there i (λ μ s. by μ s (a .leads (μ .tree) (μ .cursor) (s .tree)))
+  pub acts-go : {e level : ℕ} → place < places → Whenever (cells w) places place (λ t p. (label (sub p t)) .existence ≡ e)
+      → level ≡ join (levelIn (r .memory)) e → (a ≡ movedTo pc r place level) × (level < 256)
+      → Acts places vars (slices w l v b) (slices w l v b) r a (λ μ. goTo pc μ (o (μ .cursor)))
+  acts-go {e} {level} lt ex k is = acts-move r inside lt is (λ μ s. by μ s (target .leads (μ .tree) (μ .cursor) (s .tree)))
     where
-      by : (μ : Run.Memory) → Shows places vars (slices w l v b) m μ → Leads (cells w) places (m .used) (m .free) (μ .tree) (o (μ .cursor)) place
-          → Moves places (slices w l v b) m pc place level μ (goTo pc μ (o (μ .cursor)))
+      by : (μ : Run.Memory) → Shows places vars (slices w l v b) (r .memory) μ
+          → Leads (cells w) places (r .memory .used) (r .memory .free) (μ .tree) (o (μ .cursor)) place
+          → Moves places (slices w l v b) (r .memory) pc place level μ (goTo pc μ (o (μ .cursor)))
       by μ s (outside z j) = absurd (omega arith)
       by μ s (missing q z j f) = absurd (omega arith)
       by μ s (found q z j h) =
@@ -96,13 +102,13 @@ module _ {w l b : List ℕ} {v : List ℤ} {places vars : ℕ} {m : Memory} (pc 
             p = q;
             l = join (μ .level) ((label (sub q (μ .tree))) .existence);
             tree = h;
-            same = ap₂ join (s .level) (ex (m .used) (m .free) (μ .tree) q h) ∙ sym k;
+            same = ap₂ join (s .level) (ex (r .memory .used) (r .memory .free) (μ .tree) q h) ∙ sym k;
             is = arrives pc μ j (stands h);
           }
 
 -- a table of one place holds a tree of one node
 single : Holds (λ y. cell gone gone gone 0 noLabel) 1 1 gone 0 (tree noLabel nil nil) root
-unfolding count hit
+unfolding count hit noLabel public
 single =
     record {
       few = omega arith;
@@ -114,7 +120,7 @@ single =
       alone = refl;
       here = refl;
       live = omega arith;
-      stored = (omega arith, refl, tt, tt);
+      stored = (omega arith, refl, tt, tt, record { existence = omega arith; content = omega arith; structure = omega arith });
       freed = tt;
       leads = refl;
       each = λ y h. (let e : y ≡ 0 = omega arith in rw e);
@@ -126,19 +132,19 @@ module _ {r : ℕ} (home : (t : Table) (n used free y : ℕ) (f : Forest) (p : P
   at-zero = home _ _ _ _ _ _ _ single .live
 
 -- a command's move by its number
-module _ {places vars : ℕ} {x x′ : Slices} {m : Memory} {r : Effect} (pc : ℕ) {k : ℕ} where
-  pub is-root : k ≡ 7 → Acts places vars x x′ m r (λ μ. moveTo pc μ root pc) → Acts places vars x x′ m r (λ μ. moveOf k pc μ)
+module _ {places vars : ℕ} {x x′ : Slices} {r : Running} {a : Stepped} (pc : ℕ) {k : ℕ} where
+  pub is-root : k ≡ 7 → Acts places vars x x′ r a (λ μ. moveTo pc μ root pc) → Acts places vars x x′ r a (λ μ. moveOf k pc μ)
   unfolding moveOf
-  is-root e a = rw e a
+  is-root e h = rw e h
 
-  pub is-up : k ≡ 8 → Acts places vars x x′ m r (λ μ. goTo pc μ (up (μ .cursor))) → Acts places vars x x′ m r (λ μ. moveOf k pc μ)
+  pub is-up : k ≡ 8 → Acts places vars x x′ r a (λ μ. goTo pc μ (up (μ .cursor))) → Acts places vars x x′ r a (λ μ. moveOf k pc μ)
   unfolding moveOf
-  is-up e a = rw e a
+  is-up e h = rw e h
 
-  pub is-child : k ≡ 9 → Acts places vars x x′ m r (λ μ. goTo pc μ (some (to child (μ .cursor)))) → Acts places vars x x′ m r (λ μ. moveOf k pc μ)
+  pub is-child : k ≡ 9 → Acts places vars x x′ r a (λ μ. goTo pc μ (some (to child (μ .cursor)))) → Acts places vars x x′ r a (λ μ. moveOf k pc μ)
   unfolding moveOf
-  is-child e a = rw e a
+  is-child e h = rw e h
 
-  pub is-sibling : k ≡ 10 → Acts places vars x x′ m r (λ μ. goTo pc μ (some (to sibling (μ .cursor)))) → Acts places vars x x′ m r (λ μ. moveOf k pc μ)
+  pub is-sibling : k ≡ 10 → Acts places vars x x′ r a (λ μ. goTo pc μ (some (to sibling (μ .cursor)))) → Acts places vars x x′ r a (λ μ. moveOf k pc μ)
   unfolding moveOf
-  is-sibling e a = rw e a
+  is-sibling e h = rw e h

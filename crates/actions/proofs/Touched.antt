@@ -15,7 +15,7 @@ use Rattle.table.specs.Holds.{Holds}
 use Rattle.table.specs.Promises.{Leads, outside, missing, found}
 use Rattle.table.proofs.Moves.{stands}
 use Rattle.actions.specs.declared.memory.Memory.{Memory}
-use Rattle.actions.specs.Shows.{Slices, Shows}
+use Rattle.actions.specs.Shows.{Slices, Shows, levelIn}
 
 module _ {m : Table} {n used free r : ℕ} {t : Forest} {p : Place} where
   pub there : Leads m n used free t (some p) r → r < n → Holds m n used free r t p
@@ -65,7 +65,7 @@ module _ {m : Table} {n used free r : ℕ} {t : Forest} where
   no-parent d h (found q z i u) ge = absurd (omega arith)
 
 -- C at the cursor
-pub position-is : (pc : ℕ) {places vars c : ℕ} {x : Slices} {m : Memory} {μ : Run.Memory} → c ≡ join pc (m .level) → Shows places vars x m μ
+pub position-is : (pc : ℕ) {places vars c : ℕ} {x : Slices} {m : Memory} {μ : Run.Memory} → c ≡ join pc (levelIn m) → Shows places vars x m μ
     → c ≡ position pc μ
 unfolding position
 position-is pc e s = e ∙ ap (join pc) (sym (s .level))

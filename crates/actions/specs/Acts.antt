@@ -13,14 +13,16 @@ use Rattle.rules.specs.Tree.{Forest, Place, root, to, up, sub, label, child, si
 use Rattle.rules.specs.Script.{Operand, Expression}
 use Rattle.rules.specs.Run as Run
 use Rattle.rules.specs.Job.{expression}
-use Rattle.rules.specs.Run.{Result, next, stop, stopNumber, operandValue, operandLevel, value, levelOf, position, mayTouch, moveTo, goTo}
+use Rattle.rules.specs.Run.{State, Result, next, onward, stop, stopNumber, operandValue, operandLevel, value, levelOf, position, mayTouch, moveTo, goTo}
 use Rattle.table.specs.Cells.{cells, sideOf}
 use Rattle.table.specs.Holds.{Holds}
-use Rattle.table.specs.Promises.{Leads}
+use Rattle.table.specs.Promises.{Leads, Behind}
 use Rattle.actions.specs.declared.memory.Memory.{Memory}
-use Rattle.actions.specs.declared.memory.Effect.{Effect}
 use Rattle.actions.specs.declared.evaluate.Valued.{Valued}
-use Rattle.actions.specs.Shows.{Slices, slices, Shows}
+use Rattle.actions.specs.declared.control.Running.{Running}
+use Rattle.actions.specs.declared.control.Stepped.{Stepped}
+use Rattle.actions.specs.Shows.{Slices, slices, Shows, levelIn}
+use Rattle.actions.specs.Stands.{Stands, stepped, went}
 
 -- a 32-bit number
 abbrev pub Fits : ℤ → Type 0
@@ -52,30 +54,30 @@ Follows P k a (stop j) = (k ≡ stopNumber j) × P a
 pub record Does {A : Type 0} (P : A → Type 0) (k : ℕ) (a : A) (x : Result A) : Type 0 where
   pub does : Follows P k a x
 
--- what no action touches: values beyond the variables, the board's bytes behind the last line
-pub record Kept (vars : ℕ) (x x′ : Slices) (n n′ : ℕ) : Type 0 where
+-- what no action touches: cells beyond the places, values beyond the variables, the board's bytes behind the last line
+pub record Kept (places vars : ℕ) (x x′ : Slices) (n n′ : ℕ) : Type 0 where
   pub grown : n ≤ n′
+  pub cells : Behind places (cells (x .words)) (cells (x′ .words))
   pub values : (j : ℕ) → vars ≤ j → getD (x′ .values) j (pos 0) ≡ getD (x .values) j (pos 0)
   pub board : drop (4 * n′) (x′ .board) ≡ drop (4 * n′) (x .board)
 
--- an action: from the slices x and the numbers m to x′ and the effect r, as the rules' action does
-pub record Acts (places vars : ℕ) (x x′ : Slices) (m : Memory) (r : Effect) (action : Run.Memory → Result Run.Memory) : Type 0 where
-  pub cursor : r .memory .cursor < places
-  pub room : 4 * m .lines ≤ length (x .board) → 4 * r .memory .lines ≤ length (x′ .board)
-  pub kept : Kept vars x x′ (m .lines) (r .memory .lines)
-  pub acts : (μ : Run.Memory) → Shows places vars x m μ → Does (Shows places vars x′ (r .memory)) (r .stop) μ (action μ)
-
--- an effect by its parts
-abbrev pub effect : ℕ → Memory → Effect
-effect k m = record { stop = k; memory = m }
+-- an action: from the slices x and the running record r to x′ and the answer a, as the rules' action does with the memory
+pub record Acts (places vars : ℕ) (x x′ : Slices) (r : Running) (a : Stepped) (action : Run.Memory → Result Run.Memory) : Type 0 where
+  pub cursor : a .running .memory .cursor < places
+  pub room : 4 * r .memory .lines ≤ length (x .board) → 4 * a .running .memory .lines ≤ length (x′ .board)
+  pub kept : Kept places vars x x′ (r .memory .lines) (a .running .memory .lines)
+  pub within : (n : ℕ) → r .at < n → a .running .at ≤ n
+  pub counted : a .stop ≡ 0 → a .running .steps ≡ suc (r .steps)
+  pub early : a .running .steps ≤ suc (r .steps)
+  pub acts : (s : State) → Stands places vars x r s → Does (Stands places vars x′ (a .running)) (a .stop) s (onward s (action (s .memory)))
 
 -- the memory with the cursor at another place or level
 abbrev pub withCursor : Memory → ℕ → ℕ → Memory
 withCursor m place level = record { cursor = place; level = level; lines = m .lines; free = m .free; used = m .used }
 
 -- the cursor at another place or level, or 21 where the context pc is above its level
-unfoldable pub movedTo : ℕ → Memory → ℕ → ℕ → Effect
-movedTo pc m place level = cond (notAbove pc (m .level)) (effect 0 (withCursor m place level)) (effect 21 m)
+unfoldable pub movedTo : ℕ → Running → ℕ → ℕ → Stepped
+movedTo pc r place level = cond (notAbove pc (levelIn (r .memory))) (went r (withCursor (r .memory) place level)) (stepped 21 r)
 
 -- the move of a command's number: 7 root, 8 up, 9 first child, 10 right sibling
 unfoldable pub moveOf : ℕ → ℕ → Run.Memory → Result Run.Memory

@@ -2,5 +2,6 @@
 pub mod Guards
 pub mod Board
 pub mod Shows
-pub mod Acts
 pub mod Stands
+pub mod Acts
+pub mod Control

@@ -1,6 +1,6 @@
 -- How the lent slices and a few numbers show a memory of the rules. Assumes nothing.
 use mathlib.Core.Path.{_≡_}
-use Prim.Native.Nat.{ℕ, _+_, _*_, _<_, _≤_}
+use Prim.Native.Nat.{ℕ, _*_, _%_, _<_, _≤_}
 use mathlib.Core.List.{List}
 use lib.ListN.{length, getD, take}
 use lib.IntN.{ℤ, pos}
@@ -8,7 +8,7 @@ use Rattle.rules.specs.Limits.{maxNodes}
 use Rattle.rules.specs.Job.{Variable}
 use Rattle.rules.specs.Run as Run
 use Rattle.rules.specs.Run.{variableAt}
-use Rattle.table.specs.Cells.{cells}
+use Rattle.table.specs.Cells.{cellSize, cells}
 use Rattle.table.specs.Holds.{Holds}
 use Rattle.job.specs.declared.records.Fields.{Fields}
 use Rattle.actions.specs.declared.memory.Memory.{Memory}
@@ -35,16 +35,20 @@ pub record Lines (board : List ℕ) (n : ℕ) (ls : List ℤ) : Type 0 where
   pub fits : 4 * n ≤ length board
   pub are : take (4 * n) board ≡ spell ls
 
+-- the cursor's level, the low byte of its word
+abbrev pub levelIn : Memory → ℕ
+levelIn m = m .level % 256
+
 -- the slices, of which the table has some places and the variables are a number, show with the numbers m the memory μ
 pub record Shows (places vars : ℕ) (x : Slices) (m : Memory) (μ : Run.Memory) : Type 0 where
   pub tree : Holds (cells (x .words)) places (m .used) (m .free) (m .cursor) (μ .tree) (μ .cursor)
-  pub level : μ .level ≡ m .level
+  pub level : μ .level ≡ levelIn m
   pub variables : Variables (x .levels) (x .values) vars (μ .variables)
   pub lines : Lines (x .board) (m .lines) (μ .lines)
 
 -- what reading at the cursor and among the variables needs
 pub record Readable (words levels : List ℕ) (values : List ℤ) (places vars : ℕ) (m : Memory) : Type 0 where
-  pub long : 8 * places ≤ length words
+  pub long : cellSize * places ≤ length words
   pub few : places ≤ maxNodes
   pub cursor : m .cursor < places
   pub levelled : vars ≤ length levels

@@ -2,21 +2,20 @@
 use super::evaluate::Valued;
 use super::guards;
 use super::guards::Guards;
-use super::memory::Effect;
 use super::memory::Memory;
 use rules::levels::join;
 use rules::numbers;
-ghost use Prim.Native.Nat.{_<_, _≤_};
-ghost use Rattle.rules.specs.Limits.{maxBudget};
 ghost use Rattle.rules.specs.Run.{enterIf, enterWhile};
-ghost use Rattle.actions.specs.Stands.{Timely, Onward, Jumps, Leaves, Enters};
+ghost use mathlib.Core.Path.{_≡_};
+ghost use Rattle.actions.specs.Stands.{Timely, stepped, withMemory, went};
+ghost use Rattle.actions.specs.Control.{Jumps, Leaves, Enters};
 
 // The memory, the open blocks, the record that comes next, and the steps so far.
 pub struct Running {
     pub memory: Memory,
     pub guards: Guards,
     pub at: usize,
-    pub steps: u32,
+    pub steps: usize,
 }
 
 // Stands for the script's end where the number of a stop would stand.
@@ -28,20 +27,29 @@ pub struct Stepped {
     pub running: Running,
 }
 
-// After an action: on to the next record, or stopped where it was.
-pub fn onward(r: Running, e: Effect) -> Stepped
-    requires { ⌜ Timely r ⌝ }
-    ensures { λ a. ⌜ Onward r e a ⌝ }
+// A stop, where the run stands.
+pub fn halt(r: Running, stop: u8) -> Stepped
+    ensures { λ a. ⌜ a ≡ stepped stop r ⌝ }
+{
+    Stepped { stop, running: r }
+}
+
+// The same run with another memory.
+pub fn with_memory(r: Running, m: Memory) -> Running
+    ensures { λ n. ⌜ n ≡ withMemory r m ⌝ }
 {
     let mut next = r;
-    let m = e.memory;
     next.memory = m;
-    if e.stop != 0 {
-        return Stepped {
-            stop: e.stop,
-            running: next,
-        };
-    }
+    next
+}
+
+// After an action: on to the next record, with the memory that it leaves.
+pub fn onward(r: Running, m: Memory) -> Stepped
+    requires { ⌜ Timely r ⌝ }
+    ensures { λ a. ⌜ a ≡ went r m ⌝ }
+{
+    let mut next = r;
+    next.memory = m;
     next.at = r.at + 1;
     next.steps = r.steps + 1;
     Stepped {

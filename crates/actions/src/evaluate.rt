@@ -1,16 +1,19 @@
 // The value and the level E of an expression.
 use super::memory::Memory;
+use super::memory::level_of;
 use job::records::Fields;
+use job::records::fields_at;
 use rules::levels::PUBLIC;
 use rules::levels::join;
 use rules::numbers;
 use table::node;
-ghost use mathlib.Core.Bool.{true};
 ghost use mathlib.Core.Path.{_≡_};
-ghost use Prim.Native.Nat.{_<_};
+ghost use Prim.Native.Nat.{_+_, _<_, _≤_};
+ghost use lib.ListN.{length};
+ghost use Rattle.rules.specs.Limits.{recordSize};
+ghost use Rattle.rules.specs.Bytes.{recordPlace};
 ghost use Rattle.rules.specs.Job.{operand};
-ghost use Rattle.rules.specs.Script.{rowOf};
-ghost use Rattle.job.specs.Fields.{expressionFrom};
+ghost use Rattle.job.specs.Fields.{fieldsOf, expressionFrom};
 ghost use Rattle.actions.specs.Shows.{Readable, Reads};
 ghost use Rattle.actions.specs.Acts.{Operates, Applies, Evaluates};
 
@@ -34,7 +37,7 @@ fn operand(
     values: &[i32],
     vars: usize,
     words: &[u32],
-    places: u32,
+    places: usize,
     m: Memory,
 ) -> Valued
     requires { ⌜ Readable (now words) (now levels) (now values) places vars m × (kind ≡ 1 → number < vars) ⌝ }
@@ -53,11 +56,11 @@ fn operand(
         }
         2 => Valued {
             value: numbers::signed(node::value(words, places, m.cursor)),
-            level: join(m.level, node::content(words, places, m.cursor)),
+            level: join(level_of(m), node::content(words, places, m.cursor)),
         },
         _ => Valued {
             value: numbers::signed(node::children(words, places, m.cursor)),
-            level: join(m.level, node::structure(words, places, m.cursor)),
+            level: join(level_of(m), node::structure(words, places, m.cursor)),
         },
     }
 }
@@ -83,7 +86,7 @@ fn evaluate(
     values: &[i32],
     vars: usize,
     words: &[u32],
-    places: u32,
+    places: usize,
     m: Memory,
 ) -> Valued
     requires { ⌜ Readable (now words) (now levels) (now values) places vars m × Reads vars f ⌝ }
@@ -101,39 +104,30 @@ fn evaluate(
     }
 }
 
-// Whether a command reads an expression: as its row says, but with no table to look it up in at each step.
-fn reads_expression(command: u8) -> bool
-    ensures { λ r. ⌜ r ≡ rowOf command .expression ⌝ }
-{
-    (command == 1)
-        | (command == 2)
-        | (command == 4)
-        | (command == 6)
-        | (command == 11)
-        | (command == 12)
-        | (command == 15)
-}
-
-// The value and the level of a record's expression, if its command reads one.
+// The expression of record i of a script that starts at `base` in the job.
 pub fn expression(
-    command: u8,
-    f: Fields,
+    job: &[u8],
+    base: usize,
+    i: usize,
     levels: &[u8],
     values: &[i32],
     vars: usize,
     words: &[u32],
-    places: u32,
+    places: usize,
     m: Memory,
 ) -> Valued
-    requires { ⌜ Readable (now words) (now levels) (now values) places vars m × (rowOf command .expression ≡ true → Reads vars f) ⌝ }
-    ensures { λ r. ⌜ (rowOf command .expression ≡ true
-        → Evaluates (now (words .entry)) (now (levels .entry)) (now (values .entry)) places vars m (expressionFrom f) r) ⌝ }
+    requires { ⌜ (recordPlace base i + recordSize ≤ length (now job))
+        × (Readable (now words) (now levels) (now values) places vars m × Reads vars (fieldsOf (now job) (recordPlace base i))) ⌝ }
+    ensures { λ r. ⌜ Evaluates (now (words .entry)) (now (levels .entry)) (now (values .entry)) places vars m
+        (expressionFrom (fieldsOf (now (job .entry)) (recordPlace base i))) r ⌝ }
 {
-    if reads_expression(command) {
-        return evaluate(f, levels, values, vars, words, places, m);
-    }
-    Valued {
-        value: 0,
-        level: PUBLIC,
-    }
+    evaluate(
+        fields_at(job, base, i),
+        levels,
+        values,
+        vars,
+        words,
+        places,
+        m,
+    )
 }

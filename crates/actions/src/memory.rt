@@ -1,33 +1,44 @@
-// What a script works on, but for what stands in the lent slices; and what an action makes of it.
+// What a script works on, but for what stands in the lent slices.
 ghost use mathlib.Core.Path.{_≡_};
+ghost use Prim.Native.Nat.{_<_};
 ghost use Rattle.rules.specs.Level as Level;
+ghost use Rattle.actions.specs.Shows.{levelIn};
 use rules::levels::join;
 
-// The cursor's place and level, how many lines there are, and what leads to the table's free places.
+// The cursor's place and level, how many lines there are, and what leads to the table's free places. Every field is a whole word: a record with gaps
+// goes through memory at every step.
 pub struct Memory {
-    pub cursor: u32,
-    pub level: u8,
+    pub cursor: usize,
+    pub level: u64,
     pub lines: usize,
-    pub free: u32,
-    pub used: u32,
+    pub free: usize,
+    pub used: usize,
 }
 
-// The number of the stop, or 0, and the memory then.
-pub struct Effect {
-    pub stop: u8,
-    pub memory: Memory,
+// The cursor's level, from its word.
+pub fn level_of(m: Memory) -> u8
+    ensures { λ r. ⌜ r ≡ levelIn m ⌝ }
+{
+    (m.level % 256) as u8
+}
+
+// A level as a word.
+pub fn wide(level: u8) -> u64
+    ensures { λ r. ⌜ (r ≡ level) × (r < 256) ⌝ }
+{
+    level as u64
 }
 
 // Whether a script may touch a node is decided by C, "context joined with cursor level".
 pub fn position(pc: u8, m: Memory) -> u8
-    ensures { λ r. ⌜ r ≡ Level.join pc (m .level) ⌝ }
+    ensures { λ r. ⌜ r ≡ Level.join pc (levelIn m) ⌝ }
 {
-    join(pc, m.level)
+    join(pc, level_of(m))
 }
 
 // L, "E joined with C".
 pub fn flow(e: u8, pc: u8, m: Memory) -> u8
-    ensures { λ r. ⌜ r ≡ Level.join e (Level.join pc (m .level)) ⌝ }
+    ensures { λ r. ⌜ r ≡ Level.join e (Level.join pc (levelIn m)) ⌝ }
 {
     join(e, position(pc, m))
 }

@@ -1,6 +1,10 @@
 // The cursor: commands 7 to 10, and 16.
-use super::memory::Effect;
-use super::memory::Memory;
+use super::control::Running;
+use super::control::Stepped;
+use super::control::halt;
+use super::control::onward;
+use super::memory::level_of;
+use super::memory::wide;
 use rules::levels::SECRET;
 use rules::levels::join;
 use rules::levels::not_above;
@@ -18,78 +22,74 @@ ghost use Rattle.rules.specs.Level.{secret};
 ghost use Rattle.rules.specs.Run.{moveTo, goTo};
 ghost use Rattle.table.specs.Cells.{Within};
 ghost use Rattle.actions.specs.Shows.{slices};
+ghost use Rattle.actions.specs.Stands.{Timely};
 ghost use Rattle.actions.specs.Acts.{movedTo, Acts, Target, moveOf};
 
 // The cursor at another place or level, where the context is not above its level.
-fn move_to(pc: u8, m: Memory, place: u32, level: u8) -> Effect
-    ensures { λ r. ⌜ r ≡ movedTo pc m place level ⌝ }
+fn move_to(pc: u8, r: Running, place: usize, level: u8) -> Stepped
+    requires { ⌜ Timely r ⌝ }
+    ensures { λ a. ⌜ (a ≡ movedTo pc r place level) × (level < 256) ⌝ }
 {
-    if !not_above(pc, m.level) {
-        return Effect {
-            stop: FLOW,
-            memory: m,
-        };
+    let m = r.memory;
+    if !not_above(pc, level_of(m)) {
+        return halt(r, FLOW);
     }
     let mut next = m;
     next.cursor = place;
-    next.level = level;
-    Effect {
-        stop: 0,
-        memory: next,
-    }
+    next.level = wide(level);
+    onward(r, next)
 }
 
 // Command 16, cover: the cursor level becomes 1.
-pub fn raise(places: u32, pc: u8, m: Memory) -> Effect
-    requires { ⌜ m .cursor < places ⌝ }
-    ensures { λ r. ⌜ ((w l : List ℕ) (v : List ℤ) (b : List ℕ) (vars : ℕ)
-        → Acts places vars (slices w l v b) (slices w l v b) m r (λ μ. moveTo pc μ (μ .cursor) secret)) ⌝ }
+pub fn raise(places: usize, pc: u8, r: Running) -> Stepped
+    requires { ⌜ Timely r × (r .memory .cursor < places) ⌝ }
+    ensures { λ a. ⌜ ((w l : List ℕ) (v : List ℤ) (b : List ℕ) (vars : ℕ)
+        → Acts places vars (slices w l v b) (slices w l v b) r a (λ μ. moveTo pc μ (μ .cursor) secret)) ⌝ }
 {
-    move_to(pc, m, m.cursor, SECRET)
+    move_to(pc, r, r.memory.cursor, SECRET)
 }
 
 // To where a move leads, if that is a place.
-fn go_to(words: &[u32], places: u32, pc: u8, m: Memory, place: u32) -> Effect
-    requires { ⌜ Within (now words) places (m .cursor) ⌝ }
-    ensures { λ r. ⌜ ((l : List ℕ) (v : List ℤ) (b : List ℕ) (vars : ℕ) (o : Place → Option Place) → Target (now (words .entry)) places m place o
-        → Acts places vars (slices (now (words .entry)) l v b) (slices (now (words .entry)) l v b) m r (λ μ. goTo pc μ (o (μ .cursor)))) ⌝ }
+fn go_to(words: &[u32], places: usize, pc: u8, r: Running, place: usize) -> Stepped
+    requires { ⌜ Timely r × Within (now words) places (r .memory .cursor) ⌝ }
+    ensures { λ a. ⌜ ((l : List ℕ) (v : List ℤ) (b : List ℕ) (vars : ℕ) (o : Place → Option Place) → Target (now (words .entry)) places (r .memory) place o
+        → Acts places vars (slices (now (words .entry)) l v b) (slices (now (words .entry)) l v b) r a (λ μ. goTo pc μ (o (μ .cursor)))) ⌝ }
 {
     if place >= places {
-        return Effect {
-            stop: ABSENT,
-            memory: m,
-        };
+        return halt(r, ABSENT);
     }
+    let m = r.memory;
     move_to(
         pc,
-        m,
+        r,
         place,
-        join(m.level, node::existence(words, places, place)),
+        join(level_of(m), node::existence(words, places, place)),
     )
 }
 
 // Commands 7 to 10: root, up, first child, right sibling.
-pub fn go(command: u8, words: &[u32], places: u32, pc: u8, m: Memory) -> Effect
-    requires { ⌜ Within (now words) places (m .cursor) × ((7 ≤ command) × (command ≤ 10)) ⌝ }
-    ensures { λ r. ⌜ ((l : List ℕ) (v : List ℤ) (b : List ℕ) (vars : ℕ)
-        → Acts places vars (slices (now (words .entry)) l v b) (slices (now (words .entry)) l v b) m r (λ μ. moveOf command pc μ)) ⌝ }
+pub fn go(command: u8, words: &[u32], places: usize, pc: u8, r: Running) -> Stepped
+    requires { ⌜ Timely r × (Within (now words) places (r .memory .cursor) × ((7 ≤ command) × (command ≤ 10))) ⌝ }
+    ensures { λ a. ⌜ ((l : List ℕ) (v : List ℤ) (b : List ℕ) (vars : ℕ)
+        → Acts places vars (slices (now (words .entry)) l v b) (slices (now (words .entry)) l v b) r a (λ μ. moveOf command pc μ)) ⌝ }
 {
+    let at = r.memory.cursor;
     match command {
-        7 => move_to(pc, m, walk::root(), pc),
-        8 => go_to(words, places, pc, m, walk::parent(words, places, m.cursor)),
+        7 => move_to(pc, r, walk::root(), pc),
+        8 => go_to(words, places, pc, r, walk::parent(words, places, at)),
         9 => go_to(
             words,
             places,
             pc,
-            m,
-            walk::beside(words, places, m.cursor, table::FIRST),
+            r,
+            walk::beside(words, places, at, table::FIRST),
         ),
         _ => go_to(
             words,
             places,
             pc,
-            m,
-            walk::beside(words, places, m.cursor, table::RIGHT),
+            r,
+            walk::beside(words, places, at, table::RIGHT),
         ),
     }
 }

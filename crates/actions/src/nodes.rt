@@ -1,6 +1,10 @@
 // The actions on nodes: commands 11 to 15.
+use super::control::Running;
+use super::control::Stepped;
+use super::control::halt;
+use super::control::onward;
+use super::control::with_memory;
 use super::evaluate::Valued;
-use super::memory::Effect;
 use super::memory::Memory;
 use super::memory::flow;
 use super::memory::position;
@@ -24,12 +28,13 @@ ghost use Rattle.rules.specs.Tree.{to, up};
 ghost use Rattle.rules.specs.Run as Run;
 ghost use Rattle.rules.specs.Run.{secretIf};
 ghost use Rattle.rules.specs.Script.{Expression};
-ghost use Rattle.table.specs.Cells.{Within, sideOf};
+ghost use Rattle.table.specs.Cells.{cellSize, Within, sideOf};
 ghost use Rattle.actions.specs.Shows.{slices};
+ghost use Rattle.actions.specs.Stands.{Timely};
 ghost use Rattle.actions.specs.Acts.{Acts, Evaluates, ParentOn, MayTouch, MayAdd};
 
 // The place of the parent that a node on a side of the cursor's has, or no place.
-fn parent_on(words: &[u32], places: u32, m: Memory, side: u32) -> u32
+fn parent_on(words: &[u32], places: usize, m: Memory, side: usize) -> usize
     requires { ⌜ Within (now words) places (m .cursor) × (side < 2) ⌝ }
     ensures { λ r. ⌜ ParentOn (now (words .entry)) places m side r ⌝ }
 {
@@ -40,8 +45,8 @@ fn parent_on(words: &[u32], places: u32, m: Memory, side: u32) -> u32
 }
 
 // Whether C is not above the existence of the node at a place, if it is one.
-fn may_touch(words: &[u32], places: u32, m: Memory, c: u8, place: u32) -> bool
-    requires { ⌜ (8 * places ≤ length (now words)) × (places ≤ maxNodes) ⌝ }
+fn may_touch(words: &[u32], places: usize, m: Memory, c: u8, place: usize) -> bool
+    requires { ⌜ (cellSize * places ≤ length (now words)) × (places ≤ maxNodes) ⌝ }
     ensures { λ r. ⌜ MayTouch (now (words .entry)) places m c place r ⌝ }
 {
     if place >= places {
@@ -51,7 +56,7 @@ fn may_touch(words: &[u32], places: u32, m: Memory, c: u8, place: u32) -> bool
 }
 
 // The rules of an insertion at the level c: under the node at `above`, in front of what is at `old`.
-fn may_add(words: &[u32], places: u32, m: Memory, above: u32, old: u32, c: u8) -> u8
+fn may_add(words: &[u32], places: usize, m: Memory, above: usize, old: usize, c: u8) -> u8
     requires { ⌜ Within (now words) places (m .cursor) × (above < places) ⌝ }
     ensures { λ r. ⌜ MayAdd (now (words .entry)) places m above old c r ⌝ }
 {
@@ -80,34 +85,29 @@ fn secret_if(t: bool) -> u8
 
 // Commands 11 and 12, by the side: a new node in front of what stands there, with the expression whose value and level are e.
 pub fn insert(
-    side: u32,
+    side: usize,
     mark: u8,
     e: Valued,
     words: &mut [u32],
-    places: u32,
+    places: usize,
     pc: u8,
-    m: Memory,
-) -> Effect
-    requires { ⌜ Within (now words) places (m .cursor) × (side < 2) ⌝ }
-    ensures { λ r. ⌜ ((l b : List ℕ) (v : List ℤ) (vars : ℕ) (x : Expression) → Evaluates (now (words .entry)) l v places vars m x e
-        → Acts places vars (slices (now (words .entry)) l v b) (slices (now (words .exit)) l v b) m r
+    r: Running,
+) -> Stepped
+    requires { ⌜ Timely r × (Within (now words) places (r .memory .cursor) × (side < 2)) ⌝ }
+    ensures { λ a. ⌜ ((l b : List ℕ) (v : List ℤ) (vars : ℕ) (x : Expression) → Evaluates (now (words .entry)) l v places vars (r .memory) x e
+        → Acts places vars (slices (now (words .entry)) l v b) (slices (now (words .exit)) l v b) r a
         (λ μ. Run.insertAt pc μ places (to (sideOf side) (μ .cursor)) (up (to (sideOf side) (μ .cursor))) mark x)) ⌝ }
 {
+    let m = r.memory;
     let above = parent_on(words, places, m, side);
     if above >= places {
-        return Effect {
-            stop: ABSENT,
-            memory: m,
-        };
+        return halt(r, ABSENT);
     }
     let c = position(pc, m);
     let old = walk::beside(words, places, m.cursor, side);
     let refused = may_add(words, places, m, above, old, c);
     if refused != 0 {
-        return Effect {
-            stop: refused,
-            memory: m,
-        };
+        return halt(r, refused);
     }
     let new = shape::NewNode {
         value: numbers::bits(e.value),
@@ -115,61 +115,45 @@ pub fn insert(
         content: join(flow(e.level, pc, m), secret_if(mark % 2 == 1)),
         structure: join(c, secret_if(2 <= mark)),
     };
-    let got = shape::add(words, places, m.used, m.free, m.cursor, side, new);
+    let got = shape::add(words, places, m.used, m.free, m.cursor, side, above, new);
     let mut next = m;
     next.free = got.free;
     next.used = got.used;
-    if !got.ok {
-        return Effect {
-            stop: TABLE_FULL,
-            memory: next,
-        };
+    if got.place >= places {
+        return halt(with_memory(r, next), TABLE_FULL);
     }
-    Effect {
-        stop: 0,
-        memory: next,
-    }
+    onward(r, next)
 }
 
 // Commands 13 and 14, by the side: the first node there goes, with its subtree.
-pub fn remove(side: u32, words: &mut [u32], places: u32, pc: u8, m: Memory) -> Effect
-    requires { ⌜ Within (now words) places (m .cursor) × (side < 2) ⌝ }
-    ensures { λ r. ⌜ ((l : List ℕ) (v : List ℤ) (b : List ℕ) (vars : ℕ) → Acts places vars (slices (now (words .entry)) l v b)
-        (slices (now (words .exit)) l v b) m r (λ μ. Run.removeAt pc μ (to (sideOf side) (μ .cursor)))) ⌝ }
+pub fn remove(side: usize, words: &mut [u32], places: usize, pc: u8, r: Running) -> Stepped
+    requires { ⌜ Timely r × (Within (now words) places (r .memory .cursor) × (side < 2)) ⌝ }
+    ensures { λ a. ⌜ ((l : List ℕ) (v : List ℤ) (b : List ℕ) (vars : ℕ) → Acts places vars (slices (now (words .entry)) l v b)
+        (slices (now (words .exit)) l v b) r a (λ μ. Run.removeAt pc μ (to (sideOf side) (μ .cursor)))) ⌝ }
 {
+    let m = r.memory;
     let old = walk::beside(words, places, m.cursor, side);
     if old >= places {
-        return Effect {
-            stop: ABSENT,
-            memory: m,
-        };
+        return halt(r, ABSENT);
     }
     if !may_touch(words, places, m, position(pc, m), old) {
-        return Effect {
-            stop: FLOW,
-            memory: m,
-        };
+        return halt(r, FLOW);
     }
     let mut next = m;
-    next.free = shape::remove(words, places, m.free, m.cursor, side);
-    Effect {
-        stop: 0,
-        memory: next,
-    }
+    next.free = shape::remove(words, places, m.free, m.cursor, side, old);
+    onward(r, next)
 }
 
 // Command 15: the value of the cursor's node becomes the expression, whose value and level are e.
-pub fn write(e: Valued, words: &mut [u32], places: u32, pc: u8, m: Memory) -> Effect
-    requires { ⌜ Within (now words) places (m .cursor) ⌝ }
-    ensures { λ r. ⌜ ((l b : List ℕ) (v : List ℤ) (vars : ℕ) (x : Expression) → Evaluates (now (words .entry)) l v places vars m x e
-        → Acts places vars (slices (now (words .entry)) l v b) (slices (now (words .exit)) l v b) m r (λ μ. Run.write pc μ x)) ⌝ }
+pub fn write(e: Valued, words: &mut [u32], places: usize, pc: u8, r: Running) -> Stepped
+    requires { ⌜ Timely r × Within (now words) places (r .memory .cursor) ⌝ }
+    ensures { λ a. ⌜ ((l b : List ℕ) (v : List ℤ) (vars : ℕ) (x : Expression) → Evaluates (now (words .entry)) l v places vars (r .memory) x e
+        → Acts places vars (slices (now (words .entry)) l v b) (slices (now (words .exit)) l v b) r a (λ μ. Run.write pc μ x)) ⌝ }
 {
+    let m = r.memory;
     if !not_above(flow(e.level, pc, m), node::content(words, places, m.cursor)) {
-        return Effect {
-            stop: FLOW,
-            memory: m,
-        };
+        return halt(r, FLOW);
     }
     node::set_value(words, places, m.cursor, numbers::bits(e.value));
-    Effect { stop: 0, memory: m }
+    onward(r, m)
 }

@@ -1,7 +1,9 @@
 // The actions on variables and the board: commands 1 and 6.
+use super::control::Running;
+use super::control::Stepped;
+use super::control::halt;
+use super::control::onward;
 use super::evaluate::Valued;
-use super::memory::Effect;
-use super::memory::Memory;
 use super::memory::flow;
 use rules::levels::PUBLIC;
 use rules::levels::not_above;
@@ -17,6 +19,7 @@ ghost use Rattle.rules.specs.Run as Run;
 ghost use Rattle.rules.specs.Script.{Expression};
 ghost use Rattle.actions.specs.Board.{capacity, replaced};
 ghost use Rattle.actions.specs.Shows.{slices};
+ghost use Rattle.actions.specs.Stands.{Timely};
 ghost use Rattle.actions.specs.Acts.{Acts, Evaluates};
 
 fn index(x: u8) -> usize
@@ -26,23 +29,28 @@ fn index(x: u8) -> usize
 }
 
 // Command 1: the target becomes the expression, whose value and level are e.
-pub fn assign(target: u8, e: Valued, levels: &[u8], values: &mut [i32], pc: u8, m: Memory) -> Effect
-    requires { ⌜ (target < length (now levels)) × (target < length (now values)) ⌝ }
-    ensures { λ r. ⌜ ((w b : List ℕ) (places vars : ℕ) (x : Expression) → m .cursor < places → target < vars → vars ≤ length (now (values .entry))
-        → Evaluates w (now (levels .entry)) (now (values .entry)) places vars m x e
-        → Acts places vars (slices w (now (levels .entry)) (now (values .entry)) b) (slices w (now (levels .entry)) (now (values .exit)) b) m r
+pub fn assign(
+    target: u8,
+    e: Valued,
+    levels: &[u8],
+    values: &mut [i32],
+    pc: u8,
+    r: Running,
+) -> Stepped
+    requires { ⌜ Timely r × ((target < length (now levels)) × (target < length (now values))) ⌝ }
+    ensures { λ a. ⌜ ((w b : List ℕ) (places vars : ℕ) (x : Expression) → r .memory .cursor < places → target < vars → vars ≤ length (now (values .entry))
+        → Evaluates w (now (levels .entry)) (now (values .entry)) places vars (r .memory) x e
+        → Acts places vars (slices w (now (levels .entry)) (now (values .entry)) b) (slices w (now (levels .entry)) (now (values .exit)) b) r a
         (λ μ. Run.assign pc μ target (Run.variableAt (μ .variables) target) x)) ⌝ }
 {
+    let m = r.memory;
     let i = index(target);
     if !not_above(flow(e.level, pc, m), levels[i]) {
-        return Effect {
-            stop: FLOW,
-            memory: m,
-        };
+        return halt(r, FLOW);
     }
     let v = e.value;
     values[i] = v;
-    Effect { stop: 0, memory: m }
+    onward(r, m)
 }
 
 fn low_byte(w: u32) -> u8
@@ -65,30 +73,22 @@ fn put_line(lines: &mut [u8], n: usize, v: i32)
 }
 
 // Command 6: a board line, the expression whose value and level are e.
-pub fn output(e: Valued, lines: &mut [u8], pc: u8, m: Memory) -> Effect
-    requires { ⌜ 4 * m .lines ≤ length (now lines) ⌝ }
-    ensures { λ r. ⌜ ((w l : List ℕ) (v : List ℤ) (places vars : ℕ) (x : Expression) → m .cursor < places → Evaluates w l v places vars m x e
-        → Acts places vars (slices w l v (now (lines .entry))) (slices w l v (now (lines .exit))) m r
+pub fn output(e: Valued, lines: &mut [u8], pc: u8, r: Running) -> Stepped
+    requires { ⌜ Timely r × (4 * r .memory .lines ≤ length (now lines)) ⌝ }
+    ensures { λ a. ⌜ ((w l : List ℕ) (v : List ℤ) (places vars : ℕ) (x : Expression) → r .memory .cursor < places → Evaluates w l v places vars (r .memory) x e
+        → Acts places vars (slices w l v (now (lines .entry))) (slices w l v (now (lines .exit))) r a
         (λ μ. Run.output pc μ (capacity (now (lines .entry))) x)) ⌝ }
 {
+    let m = r.memory;
     if !not_above(flow(e.level, pc, m), PUBLIC) {
-        return Effect {
-            stop: FLOW,
-            memory: m,
-        };
+        return halt(r, FLOW);
     }
     let n = m.lines;
     if n >= lines.len() / 4 {
-        return Effect {
-            stop: BOARD_FULL,
-            memory: m,
-        };
+        return halt(r, BOARD_FULL);
     }
     put_line(lines, n, e.value);
     let mut next = m;
     next.lines = n + 1;
-    Effect {
-        stop: 0,
-        memory: next,
-    }
+    onward(r, next)
 }

@@ -11,12 +11,12 @@ use lib.ListN.{length, getD}
 use lib.IntN.{ℤ}
 use lib.Dec
 use borrow.Author.Tests
-use Rattle.rules.specs.Limits.{maxDepth, maxNodes, maxRecords, maxBudget}
+use Rattle.rules.specs.Limits.{maxDepth, maxNodes, maxRecords, maxBudget, recordSize}
 use Rattle.rules.specs.Level.{secret}
 use Rattle.rules.specs.Tree.{child, sibling, root, to, up}
 use Rattle.rules.specs.Bytes.{byte, recordPlace}
 use Rattle.rules.specs.Blocks.{opens, goesTo}
-use Rattle.rules.specs.Check.{recordRule}
+use Rattle.rules.specs.Check.{recordRule, code}
 use Rattle.rules.specs.Job.{scriptOf, commandOf, expressionOf, listed}
 use Rattle.rules.specs.Script.{Expression, Command, act, Action, Row, rows, rowOf, commands, fetch, numberAt, number, actionNumber}
 use Rattle.rules.specs.Run as Run
@@ -29,7 +29,6 @@ use Rattle.rules.proofs.Control.{Valid}
 use Rattle.job.specs.declared.records.Fields.{Fields}
 use Rattle.job.specs.Fields.{fieldsOf, expressionFrom, commandFrom}
 use Rattle.table.specs.Cells.{sideOf, Within}
-use Rattle.actions.specs.declared.memory.Effect.{Effect}
 use Rattle.actions.specs.declared.evaluate.Valued.{Valued}
 use Rattle.actions.specs.declared.control.Running.{Running}
 use Rattle.actions.specs.declared.control.Stepped.{Stepped}
@@ -37,10 +36,11 @@ use Rattle.actions.specs.Guards.{Holds}
 use Rattle.actions.specs.Board.{capacity}
 use Rattle.actions.specs.Shows.{Slices, Reads, Readable}
 use Rattle.actions.specs.Acts.{Does, Kept, Acts, Evaluates, moveOf}
-use Rattle.actions.specs.Stands.{Stands, Timely, Onward, Passes, Jumps, Leaves, Enters}
+use Rattle.actions.specs.Stands.{Stands, Timely}
+use Rattle.actions.specs.Control.{Passes, Jumps, Leaves, Enters}
 use Rattle.monitor.specs.Steps.{Held, scriptIn, fieldsAt, Script, Safe, Lent, Steps}
 use Rattle.actions.proofs.Doing.{kept-refl}
-use Rattle.actions.proofs.Stepping.{action-steps, jump-steps, leave-steps}
+use Rattle.actions.proofs.Stepping.{jump-steps, leave-steps}
 
 -- slices of the same lengths
 pub record SameLengths (x x′ : Slices) : Type 0 where
@@ -97,19 +97,24 @@ module _ (h : Held) (sc : Script h) where
   unfolding step
   step-is lent s i inside e = rw (e, script-length, ← sc .jumps i inside, spelled i inside)
 
-  -- a step of record i, from the slices x and the running record r
-  module _ (x : Slices) (r : Running) (sf : Safe h x r) (inside : r .at < h .records) (f : Fields) (got : f ≡ fieldsAt h (r .at)) (j : ℕ) (goal : j ≡ getD (h .jumps) (r .at) 0)
+  -- a step from the slices x and the running record r, whose command has the number c
+  module _ (x : Slices) (r : Running) (sf : Safe h x r) (inside : r .at < h .records) (c : ℕ) (coded : c ≡ fieldsAt h (r .at) .command) (j : ℕ)
+      (goal : j ≡ getD (h .jumps) (r .at) 0)
     where
-      here-is : (lent : Buffers) (s : State) → s .at ≡ r .at → step lent (scriptIn h) s ≡ carried s lent j (commandFrom f)
-      here-is lent s e = step-is lent s (r .at) inside e ∙ (λ i. carried s lent (sym goal i) (commandFrom (sym got i)))
+      -- the fields of the record
+      abbrev f : Fields
+      f = fieldsAt h (r .at)
 
-      -- an action, whose effect e takes the slices to x′
-      pub acting : (x′ : Slices) (e : Effect) (a : Stepped) (action : Run.Memory → Result Run.Memory) → SameLengths x x′ → Onward r e a
-          → Acts (h .places) (h .vars) x x′ (r .memory) e action
+      here-is : (lent : Buffers) (s : State) → s .at ≡ r .at → step lent (scriptIn h) s ≡ carried s lent j (commandFrom f)
+      here-is lent s e = step-is lent s (r .at) inside e ∙ ap (λ (k : ℕ). carried s lent k (commandFrom f)) (sym goal)
+
+      -- an action, which takes the slices to x′
+      pub acting : (x′ : Slices) (a : Stepped) (action : Run.Memory → Result Run.Memory) → SameLengths x x′
+          → Acts (h .places) (h .vars) x x′ r a action
           → ((lent : Buffers) (s : State) → Lent h x lent → Holds (r .guards) (s .blocks)
           → carried s lent j (commandFrom f) ≡ onward s (action (s .memory)))
           → Steps h x x′ r a
-      acting x′ e a action same o acts is =
+      acting x′ a action same acts is =
           record {
             safe =
                 record {
@@ -117,22 +122,18 @@ module _ (h : Held) (sc : Script h) where
                   few = sf .few;
                   levelled = rw (same .levels) (sf .levelled);
                   valued = rw (same .values) (sf .valued);
-                  cursor = rw (o .memory) (acts .cursor);
-                  room = rw (o .memory) (acts .room (sf .room));
-                  within = at-most (lib.Dec.eqb (e .stop) 0) refl;
+                  cursor = acts .cursor;
+                  room = acts .room (sf .room);
+                  within = acts .within (h .records) inside;
                 };
-            kept = rw (o .memory) (acts .kept);
-            counted = λ z. o .goes (sym (o .stop) ∙ z) .1;
+            kept = acts .kept;
+            counted = acts .counted;
+            early = acts .early;
             board = same .board;
             steps = λ lent s l v st.
                 subst (Does (Stands (h .places) (h .vars) x′ (a .running)) (a .stop) s)
-                (sym (here-is lent s (st .at) ∙ is lent s l (st .guards)))
-                (action-steps (h .places) (h .vars) x x′ r s st e a o action acts);
+                (sym (here-is lent s (st .at) ∙ is lent s l (st .guards))) (acts .acts s st);
           }
-        where
-          at-most : (b : Bool) → lib.Dec.eqb (e .stop) 0 ≡ b → a .running .at ≤ h .records
-          at-most true z = rw (o .goes (borrow.Author.Tests.eqb-true _ 0 z) .0) inside
-          at-most false z = rw (o .stays (borrow.Author.Tests.eqb-false _ 0 z) .0) (sf .within)
 
       -- a step that leaves the slices and the memory
       controlling : (a : Stepped) → Passes r a → a .running .at ≤ h .records
@@ -153,24 +154,22 @@ module _ (h : Held) (sc : Script h) where
                 };
             kept = rw (p .memory) kept-refl;
             counted = λ z. p .steps;
+            early = omega (arith, p .steps);
             board = refl;
             steps = g;
           }
 
       -- the command, by its number
-      numbered : (k : ℕ) (c : Command) → f .command ≡ k
-          → getD (commands (f .target) (expressionFrom f)) k (act Action.skip) ≡ c
-          → commandFrom f ≡ c
+      numbered : (k : ℕ) (d : Command) → c ≡ k → getD (commands (f .target) (expressionFrom f)) k (act Action.skip) ≡ d → commandFrom f ≡ d
       unfolding commandFrom
-      numbered k c e w =
-          ap (λ (n : ℕ). getD (commands (f .target) (expressionFrom f)) n (act Action.skip)) e ∙ w
+      numbered k d e w = ap (λ (n : ℕ). getD (commands (f .target) (expressionFrom f)) n (act Action.skip)) (sym coded ∙ e) ∙ w
 
       jump-within : j ≤ h .records
       jump-within = rw (goal ∙ sc .jumps (r .at) inside) (goes-within (numberAt (scriptIn h)) (h .records) (sc .blocks) (r .at) inside)
 
       -- 3 and 5
       module _ (a : Stepped) where
-        pub elses : f .command ≡ 3 → Jumps r j a → Steps h x x r a
+        pub elses : c ≡ 3 → Jumps r j a → Steps h x x r a
         unfolding commands carried
         elses key k =
             controlling a (k .passes) (rw (k .at) jump-within) (λ lent s l v st.
@@ -178,7 +177,7 @@ module _ (h : Held) (sc : Script h) where
             (sym (here-is lent s (st .at) ∙ ap (carried s lent _) (numbered 3 Command.else key refl)))
             (jump-steps (h .places) (h .vars) x x r s st _ a k))
 
-        pub ends : f .command ≡ 5 → Leaves r j a → Steps h x x r a
+        pub ends : c ≡ 5 → Leaves r j a → Steps h x x r a
         unfolding commands carried
         ends key k =
             controlling a (k .passes) (rw (k .at) jump-within) (λ lent s l v st.
@@ -187,17 +186,17 @@ module _ (h : Held) (sc : Script h) where
             (leave-steps (h .places) (h .vars) x x r s st _ a k))
 
       -- 2 and 4: there is room for one block more
-      room-for : (s : State) → Valid (scriptIn h) s → s .at ≡ r .at → (c : Command)
-          → commandFrom f ≡ c → opens (number c) ≡ true → length (s .blocks) < maxDepth
+      room-for : (s : State) → Valid (scriptIn h) s → s .at ≡ r .at → (d : Command)
+          → commandFrom f ≡ d → opens (number d) ≡ true → length (s .blocks) < maxDepth
       unfolding numberAt
-      room-for s v e c w o =
-          let d : length (s .blocks) ≡ length (nest (numberAt (scriptIn h)) (r .at)) = v .depth ∙ ap (λ (i : ℕ). length (nest (numberAt (scriptIn h)) i)) e in
-          rw d (nest-room (numberAt (scriptIn h)) (h .records) (sc .blocks) (r .at) inside (rw (spelled (r .at) inside, ← got, w) o))
+      room-for s v e d w o =
+          let n : length (s .blocks) ≡ length (nest (numberAt (scriptIn h)) (r .at)) = v .depth ∙ ap (λ (i : ℕ). length (nest (numberAt (scriptIn h)) i)) e in
+          rw n (nest-room (numberAt (scriptIn h)) (h .records) (sc .blocks) (r .at) inside (rw (spelled (r .at) inside, w) o))
 
       module _ (v : Valued) (a : Stepped)
           (ev : Evaluates (x .words) (x .levels) (x .values) (h .places) (h .vars) (r .memory) (expressionFrom f) v)
         where
-          pub ifs : f .command ≡ 2 → Enters enterIf r v j a → Steps h x x r a
+          pub ifs : c ≡ 2 → Enters enterIf r v j a → Steps h x x r a
           unfolding commands carried number opens
           ifs key n =
               controlling a (n .passes) (n .within (h .records) jump-within inside) (λ lent s l vl st.
@@ -211,7 +210,7 @@ module _ (h : Held) (sc : Script h) where
                 );
               }))
 
-          pub whiles : f .command ≡ 4 → Enters enterWhile r v j a → Steps h x x r a
+          pub whiles : c ≡ 4 → Enters enterWhile r v j a → Steps h x x r a
           unfolding commands carried number opens
           whiles key n =
               controlling a (n .passes) (n .within (h .records) jump-within inside) (λ lent s l vl st.
@@ -226,75 +225,71 @@ module _ (h : Held) (sc : Script h) where
               }))
 
       -- the actions, in the context pc that the guards hold
-      module _ (x′ : Slices) (e : Effect) (a : Stepped) (pc : ℕ) (top : (bs : List Run.Block) → Holds (r .guards) bs → pc ≡ context bs) (same : SameLengths x x′) (o : Onward r e a)
+      module _ (x′ : Slices) (a : Stepped) (pc : ℕ) (top : (bs : List Run.Block) → Holds (r .guards) bs → pc ≡ context bs) (same : SameLengths x x′)
         where
-          -- the action α of the number k is what the effect acts as
-          by-number : (k : ℕ) (α : Action) (action : Run.Memory → Result Run.Memory) → f .command ≡ k
+          -- the action α of the number k is what was done
+          by-number : (k : ℕ) (α : Action) (action : Run.Memory → Result Run.Memory) → c ≡ k
               → getD (commands (f .target) (expressionFrom f)) k (act Action.skip) ≡ act α
               → ((lent : Buffers) (μ : Run.Memory) → Lent h x lent → effect lent pc μ α ≡ action μ)
-              → Acts (h .places) (h .vars) x x′ (r .memory) e action → Steps h x x′ r a
+              → Acts (h .places) (h .vars) x x′ r a action → Steps h x x′ r a
           unfolding carried
           by-number k α action key w is acts =
-              acting x′ e a action same o acts (λ lent s l held.
-              ap (carried s lent _) (numbered k (act α) key w) ∙ ap (λ (c : ℕ). onward s (effect lent c (s .memory) α)) (sym (top (s .blocks) held))
+              acting x′ a action same acts (λ lent s l held.
+              ap (carried s lent _) (numbered k (act α) key w) ∙ ap (λ (l : ℕ). onward s (effect lent l (s .memory) α)) (sym (top (s .blocks) held))
               ∙ ap (onward s) (is lent (s .memory) l))
 
-          pub skips : f .command ≡ 0 → Acts (h .places) (h .vars) x x′ (r .memory) e (λ μ. next μ) → Steps h x x′ r a
+          pub skips : c ≡ 0 → Acts (h .places) (h .vars) x x′ r a (λ μ. next μ) → Steps h x x′ r a
           unfolding commands effect
           skips key = by-number 0 Action.skip _ key refl (λ lent μ l. refl)
 
-          pub assigns : f .command ≡ 1
-              → Acts (h .places) (h .vars) x x′ (r .memory) e
-              (λ μ. Run.assign pc μ (f .target)
-              (Run.variableAt (μ .variables) (f .target)) (expressionFrom f))
-              → Steps h x x′ r a
+          pub assigns : (i : ℕ) → i ≡ f .target → c ≡ 1
+              → Acts (h .places) (h .vars) x x′ r a (λ μ. Run.assign pc μ i (Run.variableAt (μ .variables) i) (expressionFrom f)) → Steps h x x′ r a
           unfolding commands effect
-          assigns key = by-number 1 (Action.assign _ _) _ key refl (λ lent μ l. refl)
+          assigns i is key = by-number 1 (Action.assign _ _) _ key refl (λ lent μ l. rw is)
 
-          pub outputs : f .command ≡ 6
-              → Acts (h .places) (h .vars) x x′ (r .memory) e
+          pub outputs : c ≡ 6
+              → Acts (h .places) (h .vars) x x′ r a
               (λ μ. Run.output pc μ (capacity (x .board)) (expressionFrom f))
               → Steps h x x′ r a
           unfolding commands effect
           outputs key = by-number 6 (Action.output _) _ key refl (λ lent μ l. rw (l .board))
 
-          pub writes : f .command ≡ 15
-              → Acts (h .places) (h .vars) x x′ (r .memory) e (λ μ. Run.write pc μ (expressionFrom f))
+          pub writes : c ≡ 15
+              → Acts (h .places) (h .vars) x x′ r a (λ μ. Run.write pc μ (expressionFrom f))
               → Steps h x x′ r a
           unfolding commands effect
           writes key = by-number 15 (Action.write _) _ key refl (λ lent μ l. refl)
 
-          pub raises : f .command ≡ 16
-              → Acts (h .places) (h .vars) x x′ (r .memory) e (λ μ. Run.moveTo pc μ (μ .cursor) secret) → Steps h x x′ r a
+          pub raises : c ≡ 16
+              → Acts (h .places) (h .vars) x x′ r a (λ μ. Run.moveTo pc μ (μ .cursor) secret) → Steps h x x′ r a
           unfolding commands effect
           raises key = by-number 16 Action.raise _ key refl (λ lent μ l. refl)
 
           -- 7 to 10
-          pub goes : 7 ≤ f .command → f .command ≤ 10
-              → Acts (h .places) (h .vars) x x′ (r .memory) e (λ μ. moveOf (f .command) pc μ) → Steps h x x′ r a
+          pub goes : 7 ≤ c → c ≤ 10
+              → Acts (h .places) (h .vars) x x′ r a (λ μ. moveOf c pc μ) → Steps h x x′ r a
           unfolding commands effect moveOf
           goes l m acts = pick (one-of-four _ 7 l m)
             where
-              pick : OneOfFour (f .command) 7 → Steps h x x′ r a
+              pick : OneOfFour c 7 → Steps h x x′ r a
               pick (first k) = by-number 7 Action.goRoot _ k refl (λ lent μ l. rw k) acts
               pick (second k) = by-number 8 Action.goParent _ k refl (λ lent μ l. rw k) acts
               pick (third k) = by-number 9 (Action.go child) _ k refl (λ lent μ l. rw k) acts
               pick (fourth k) = by-number 10 (Action.go sibling) _ k refl (λ lent μ l. rw k) acts
 
           -- 11 and 12
-          pub inserts : (side : ℕ) → f .command ≡ side + 11 → side < 2
-              → Acts (h .places) (h .vars) x x′ (r .memory) e
-              (λ μ. Run.insertAt pc μ (h .places) (to (sideOf side) (μ .cursor)) (up (to (sideOf side) (μ .cursor)))
-              (f .target) (expressionFrom f))
+          pub inserts : (m side : ℕ) → m ≡ f .target → c ≡ side + 11 → side < 2
+              → Acts (h .places) (h .vars) x x′ r a
+              (λ μ. Run.insertAt pc μ (h .places) (to (sideOf side) (μ .cursor)) (up (to (sideOf side) (μ .cursor))) m (expressionFrom f))
               → Steps h x x′ r a
           unfolding commands effect sideOf
-          inserts zero key l acts = by-number 11 (Action.insert child _ _) _ key refl (λ lent μ l. rw (l .places)) acts
-          inserts (suc zero) key l acts = by-number 12 (Action.insert sibling _ _) _ key refl (λ lent μ l. rw (l .places)) acts
-          inserts (suc (suc side)) key l acts = absurd (omega arith)
+          inserts m zero is key l acts = by-number 11 (Action.insert child _ _) _ key refl (λ lent μ l. rw (l .places, is)) acts
+          inserts m (suc zero) is key l acts = by-number 12 (Action.insert sibling _ _) _ key refl (λ lent μ l. rw (l .places, is)) acts
+          inserts m (suc (suc side)) is key l acts = absurd (omega arith)
 
           -- 13 and 14
-          pub removes : (side : ℕ) → f .command ≡ side + 13 → side < 2
-              → Acts (h .places) (h .vars) x x′ (r .memory) e (λ μ. Run.removeAt pc μ (to (sideOf side) (μ .cursor))) → Steps h x x′ r a
+          pub removes : (side : ℕ) → c ≡ side + 13 → side < 2
+              → Acts (h .places) (h .vars) x x′ r a (λ μ. Run.removeAt pc μ (to (sideOf side) (μ .cursor))) → Steps h x x′ r a
           unfolding commands effect sideOf
           removes zero key l acts = by-number 13 (Action.remove child) _ key refl (λ lent μ l. refl) acts
           removes (suc zero) key l acts = by-number 14 (Action.remove sibling) _ key refl (λ lent μ l. refl) acts
@@ -330,23 +325,32 @@ module _ (h : Held) (sc : Script h) (x : Slices) (r : Running) (sf : Safe h x r)
   pub timely : r .steps < maxBudget → Timely r
   timely e = record { near = omega (arith, sc .few); early = e }
 
-  module _ (f : Fields) (got : f ≡ fieldsAt h (r .at)) where
-    command-is : byte (h .bytes) (recordPlace (h .base) (r .at)) ≡ f .command
+  -- its command's number, as it is read
+  pub coded-by : (c : ℕ) → c ≡ code (h .bytes) (h .base) (r .at) → c ≡ fieldsAt h (r .at) .command
+  unfolding code fieldsOf
+  coded-by c e = e
+
+  -- the record lies in the bytes
+  pub record-there : recordPlace (h .base) (r .at) + recordSize ≤ length (h .bytes)
+  record-there = omega (arith, sc .inside)
+
+  module _ (c : ℕ) (coded : c ≡ fieldsAt h (r .at) .command) where
+    command-is : byte (h .bytes) (recordPlace (h .base) (r .at)) ≡ c
     unfolding fieldsOf
-    command-is = sym (ap (λ (g : Fields). g .command) got)
+    command-is = sym coded
 
-    -- the variables that its expression names, if it has one
-    pub reads-of : rowOf (f .command) .expression ≡ true → Reads (h .vars) f
-    reads-of e = subst (Reads (h .vars)) (sym got) (reads h sc (r .at) inside (ap (λ (n : ℕ). rowOf n .expression) command-is ∙ e))
+    -- what reading the expression asks for, where there is one
+    pub expressed : rowOf c .expression ≡ true
+        → (recordPlace (h .base) (r .at) + recordSize ≤ length (h .bytes))
+        × (Readable (x .words) (x .levels) (x .values) (h .places) (h .vars) (r .memory) × Reads (h .vars) (fieldsAt h (r .at)))
+    expressed e = (record-there, (readable, reads h sc (r .at) inside (ap (λ (n : ℕ). rowOf n .expression) command-is ∙ e)))
 
-    pub target-by : f .command ≡ 1 → f .target < h .vars
+    pub target-by : c ≡ 1 → fieldsAt h (r .at) .target < h .vars
     unfolding rows fieldsOf
-    target-by key =
-        rw (ap (λ (g : Fields). g .target) got)
-        (target-in h sc (r .at) inside (ap (λ (n : ℕ). (rowOf n) .target) (command-is ∙ key)))
+    target-by key = target-in h sc (r .at) inside (ap (λ (n : ℕ). (rowOf n) .target) (command-is ∙ key))
 
     -- no number is left for the rest
-    pub no-rest : 15 ≤ f .command → (f .command ≡ 15 → ⊥) → (f .command ≡ 16 → ⊥) → ⊥
+    pub no-rest : 15 ≤ c → (c ≡ 15 → ⊥) → (c ≡ 16 → ⊥) → ⊥
     no-rest l a b =
-        let m : f .command < 17 = rw (← command-is) (command-in h sc (r .at) inside) in
-        omega (arith, above 16 (f .command) (above 15 (f .command) l a) b)
+        let m : c < 17 = rw (← command-is) (command-in h sc (r .at) inside) in
+        omega (arith, above 16 c (above 15 c l a) b)

@@ -25,13 +25,13 @@ use Rattle.actions.specs.Shows.{Slices, slices}
 use Rattle.actions.specs.Acts.{Does, Kept}
 use Rattle.actions.specs.Stands.{Stands, ended, stepped}
 use Rattle.monitor.specs.Steps.{Held, scriptIn, Script, Safe, Lent, Steps, codeOf, Ran, Runs, Comes, Reached, Startable, Turns}
-use Rattle.actions.proofs.Doing.{kept-refl}
-use Rattle.actions.proofs.Stepping.{stop-number}
+use Rattle.actions.proofs.Doing.{kept-refl, stop-number}
 
-kept-trans : {vars : ℕ} {x y z : Slices} {k m n : ℕ} → Kept vars x y k m → Kept vars y z m n → Kept vars x z k n
+kept-trans : {places vars : ℕ} {x y z : Slices} {k m n : ℕ} → Kept places vars x y k m → Kept places vars y z m n → Kept places vars x z k n
 kept-trans {x = x} {y = y} {k = k} {m = m} {n = n} a b =
     record {
       grown = omega (arith, a .grown, b .grown);
+      cells = record { same = λ y h. b .cells .same y h ∙ a .cells .same y h };
       values = λ j h. b .values j h ∙ a .values j h;
       board = b .board ∙ further;
     }
@@ -57,13 +57,14 @@ module _ (h : Held) (sc : Script h) where
 
   -- nothing was done yet
   pub starts : {x : Slices} {r : Running} {left : ℕ} → Safe h x r → Reached h x r left x r left
-  starts sf = record { safe = sf; kept = kept-refl; board = refl; comes = λ lent s l v st. record { s = s; valid = v; stands = st; rest = refl } }
+  starts sf = record { safe = sf; early = omega arith; kept = kept-refl; board = refl; comes = λ lent s l v st. record { s = s; valid = v; stands = st; rest = refl } }
 
   -- the script is over
   pub finishes : (x : Slices) (r : Running) (left : ℕ) → h .records ≤ r .at → Runs h x x r left (stepped ended r)
   unfolding codeOf
   finishes x r left o =
       record {
+        early = omega arith;
         kept = kept-refl;
         runs = λ lent s l v st.
             rw (run-over lent (scriptIn h) left s (over lent s (r .at) (st .at) o)) (record { ending = refl; last = st });
@@ -75,6 +76,7 @@ module _ (h : Held) (sc : Script h) where
   spends x r left z o =
       rw z
       (record {
+        early = omega arith;
         kept = kept-refl;
         runs = λ lent s l v st. rw (run-spent lent (scriptIn h) s (more lent s (r .at) (st .at) o)) (record { ending = refl; last = st });
       })
@@ -110,10 +112,10 @@ module _ (h : Held) (sc : Script h) where
           pick (stop j) w k = rw (run-stop lent (scriptIn h) left s j here w) (record { ending = k .does .0; last = k .does .1 })
 
     goes-on : a .stop ≡ 0 → Reached h x r (suc left) x′ (a .running) left
-    goes-on z = record { safe = t .safe; kept = t .kept; board = t .board; comes = λ lent s l v st. comes lent s l v st z }
+    goes-on z = record { safe = t .safe; early = omega (arith, t .counted z); kept = t .kept; board = t .board; comes = λ lent s l v st. comes lent s l v st z }
 
     stops-here : (a .stop ≡ 0 → ⊥) → Runs h x x′ r (suc left) a
-    stops-here z = record { kept = t .kept; runs = λ lent s l v st. halts lent s l v st z }
+    stops-here z = record { early = omega (arith, t .early); kept = t .kept; runs = λ lent s l v st. halts lent s l v st z }
 
   module _ {x x′ : Slices} {r : Running} (limit : ℕ) where
     -- a turn that has ended the run
@@ -141,6 +143,7 @@ module _ {h : Held} {x₀ x : Slices} {r₀ r : Running} {budget left : ℕ} (d 
   further {x′} {r′} {left′} t =
       record {
         safe = t .safe;
+        early = omega (arith, d .early, t .early);
         kept = kept-trans (d .kept) (t .kept);
         board = t .board ∙ d .board;
         comes = λ lent s l v st.
@@ -152,6 +155,7 @@ module _ {h : Held} {x₀ x : Slices} {r₀ r : Running} {budget left : ℕ} (d 
   pub at-last : {x′ : Slices} {a : Stepped} → Runs h x x′ r left a → Runs h x₀ x′ r₀ budget a
   at-last {x′} {a} t =
       record {
+        early = omega (arith, d .early, t .early);
         kept = kept-trans (d .kept) (t .kept);
         runs = λ lent s l v st.
             let c = d .comes lent s l v st in

@@ -9,7 +9,7 @@ use Rattle.rules.specs.Bytes.{variableCount}
 use Rattle.rules.specs.Run.{Buffers, Ending, finished, stopped, stopNumber, Ended}
 use Rattle.rules.specs.Outcome as Rules
 use Rattle.rules.specs.Outcome.{Answer, answer, runJob}
-use Rattle.table.specs.Cells.{cells}
+use Rattle.table.specs.Cells.{cellSize, cells}
 use Rattle.table.specs.Holds.{Holds}
 use Rattle.monitor.specs.declared.entry.Outcome.{Outcome}
 use Rattle.monitor.specs.declared.entry.Outcome.the-variants.{Refused, Finished, Stopped}
@@ -69,7 +69,7 @@ module _ {T : Type 0} (places : T → ℕ) (HoldsTree : T → ℕ → Forest →
 
 -- a table of words has eight to a place
 abbrev pub placesIn : List ℕ → ℕ
-placesIn words = length words / 8
+placesIn words = length words / cellSize
 
 -- it holds a tree with the cursor at a place, somewhere in its places: which, and what free places hold, is left open
 pub record Tree (words : List ℕ) (places : ℕ) (t : Forest) (p : Place) : Type 0 where

@@ -18,6 +18,7 @@ use Rattle.rules.specs.Outcome as Rules
 use Rattle.rules.specs.Outcome.{begin}
 use Rattle.job.specs.declared.sections.Layout.{Layout}
 use Rattle.job.specs.Layout.{layoutOf}
+use Rattle.table.specs.Cells.{cellSize}
 use Rattle.actions.specs.declared.control.Stepped.{Stepped}
 use Rattle.monitor.specs.declared.entry.Outcome.{Outcome}
 use Rattle.monitor.specs.declared.entry.Outcome.the-variants.{Finished, Stopped}
@@ -56,7 +57,7 @@ pub record Begun (b : List ℕ) (l : Layout) (jumps : List ℕ) (budget : ℕ) (
   pub long : maxRecords ≤ length jumps
   pub goes : (k : ℕ) → k < recordCount b → getD jumps k 0 ≡ goesTo (numberAt (script b)) (recordCount b) k
   pub spend : budget ≤ maxBudget
-  pub words : 8 * places ≤ length (x .words)
+  pub words : cellSize * places ≤ length (x .words)
   pub few : places ≤ maxNodes
   pub nodes : l .nodes ≤ places
   pub levelled : l .variables ≤ length (x .levels)

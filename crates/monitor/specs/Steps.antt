@@ -1,7 +1,7 @@
 -- What a step and a run promise. Assumes nothing.
 use mathlib.Core.Path.{_≡_}
 use mathlib.Core.Bool.{true}
-use Prim.Native.Nat.{ℕ, suc, _-_, _*_, _<_, _≤_}
+use Prim.Native.Nat.{ℕ, suc, _+_, _-_, _*_, _<_, _≤_}
 use mathlib.Core.List.{List}
 use lib.ListN.{length, getD}
 use Rattle.rules.specs.Limits.{maxNodes, maxRecords, maxBudget}
@@ -13,6 +13,7 @@ use Rattle.rules.specs.Script.{Command, numberAt}
 use Rattle.rules.specs.Run as Run
 use Rattle.rules.specs.Run.{State, Buffers, stop, stopNumber, step, Ending, finished, stopped, Ended, run}
 use Rattle.rules.proofs.Control.{Valid}
+use Rattle.table.specs.Cells.{cellSize}
 use Rattle.job.specs.declared.records.Fields.{Fields}
 use Rattle.job.specs.Fields.{fieldsOf}
 use Rattle.actions.specs.declared.control.Running.{Running}
@@ -56,7 +57,7 @@ pub record Script (h : Held) : Type 0 where
 
 -- a running record that a step can go on from, over the slices x
 pub record Safe (h : Held) (x : Slices) (r : Running) : Type 0 where
-  pub long : 8 * h .places ≤ length (x .words)
+  pub long : cellSize * h .places ≤ length (x .words)
   pub few : h .places ≤ maxNodes
   pub levelled : h .vars ≤ length (x .levels)
   pub valued : h .vars ≤ length (x .values)
@@ -72,8 +73,9 @@ pub record Lent (h : Held) (x : Slices) (lent : Buffers) : Type 0 where
 -- one step, from the slices x and the record r to x′ and the answer a, is the rules' step of every state that they stand for
 pub record Steps (h : Held) (x x′ : Slices) (r : Running) (a : Stepped) : Type 0 where
   pub safe : Safe h x′ (a .running)
-  pub kept : Kept (h .vars) x x′ (r .memory .lines) (a .running .memory .lines)
+  pub kept : Kept (h .places) (h .vars) x x′ (r .memory .lines) (a .running .memory .lines)
   pub counted : a .stop ≡ 0 → a .running .steps ≡ suc (r .steps)
+  pub early : a .running .steps ≤ suc (r .steps)
   pub board : length (x′ .board) ≡ length (x .board)
   pub steps : (lent : Buffers) (s : State) → Lent h x lent → Valid (scriptIn h) s → Stands (h .places) (h .vars) x r s
       → Does (Stands (h .places) (h .vars) x′ (a .running)) (a .stop) s (step lent (scriptIn h) s)
@@ -90,7 +92,8 @@ pub record Ran (h : Held) (x′ : Slices) (a : Stepped) (e : Ended) : Type 0 whe
 
 -- a whole run with a budget
 pub record Runs (h : Held) (x x′ : Slices) (r : Running) (budget : ℕ) (a : Stepped) : Type 0 where
-  pub kept : Kept (h .vars) x x′ (r .memory .lines) (a .running .memory .lines)
+  pub early : a .running .steps ≤ r .steps + budget
+  pub kept : Kept (h .places) (h .vars) x x′ (r .memory .lines) (a .running .memory .lines)
   pub runs : (lent : Buffers) (s : State) → Lent h x lent → Valid (scriptIn h) s → Stands (h .places) (h .vars) x r s
       → Ran h x′ a (run lent (scriptIn h) budget s)
 
@@ -104,7 +107,8 @@ pub record Comes (h : Held) (lent : Buffers) (e : Ended) (x : Slices) (r : Runni
 -- how far a run has come that began with x₀, r₀ and a budget
 pub record Reached (h : Held) (x₀ : Slices) (r₀ : Running) (budget : ℕ) (x : Slices) (r : Running) (left : ℕ) : Type 0 where
   pub safe : Safe h x r
-  pub kept : Kept (h .vars) x₀ x (r₀ .memory .lines) (r .memory .lines)
+  pub early : r .steps + left ≤ r₀ .steps + budget
+  pub kept : Kept (h .places) (h .vars) x₀ x (r₀ .memory .lines) (r .memory .lines)
   pub board : length (x .board) ≡ length (x₀ .board)
   pub comes : (lent : Buffers) (s : State) → Lent h x₀ lent → Valid (scriptIn h) s → Stands (h .places) (h .vars) x₀ r₀ s
       → Comes h lent (run lent (scriptIn h) budget s) x r left

@@ -9,7 +9,6 @@ use actions::memory::Memory;
 use job::Checked;
 use job::prepare;
 use job::sections::Layout;
-use rules::levels::PUBLIC;
 use rules::limits::BAD_BUDGET;
 use rules::limits::BAD_BUFFERS;
 use rules::limits::MAX_BUDGET;
@@ -19,7 +18,8 @@ use table::records;
 ghost use mathlib.Core.Path.{_≡_};
 ghost use Prim.Native.Nat.{_*_, _≤_, min};
 ghost use lib.ListN.{length};
-ghost use Rattle.rules.specs.Limits.{maxNodes};
+ghost use Rattle.rules.specs.Limits.{maxNodes, maxBudget};
+ghost use Rattle.table.specs.Cells.{cellSize};
 ghost use Rattle.rules.specs.Outcome.{budgetRule};
 ghost use Rattle.actions.specs.Shows.{slices};
 ghost use Rattle.monitor.specs.Promises.{lent, placesIn, Tree, Promises};
@@ -78,18 +78,19 @@ fn smaller(a: usize, b: usize) -> usize
 
 // How a run has ended, as an outcome.
 fn ended(a: Stepped) -> Outcome
+    requires { ⌜ a .running .steps ≤ maxBudget ⌝ }
     ensures { λ r. ⌜ r ≡ outcomeOf a ⌝ }
 {
     if a.stop == FINISHED {
         return Outcome::Finished {
-            steps: a.running.steps,
+            steps: a.running.steps as u32,
             lines: a.running.memory.lines,
         };
     }
     Outcome::Stopped {
         number: a.stop,
         index: a.running.at,
-        steps: a.running.steps,
+        steps: a.running.steps as u32,
         lines: a.running.memory.lines,
     }
 }
@@ -99,9 +100,9 @@ fn run_accepted(
     job: &[u8],
     l: Layout,
     jumps: &[u16],
-    budget: u32,
+    budget: usize,
     words: &mut [u32],
-    places: u32,
+    places: usize,
     levels: &mut [u8],
     values: &mut [i32],
     lines: &mut [u8],
@@ -111,7 +112,7 @@ fn run_accepted(
         (slices (now (words .exit)) (now (levels .exit)) (now (values .exit)) (now (lines .exit))) r ⌝ }
 {
     load_variables(job, l.variables, levels, values);
-    records::load(job, l.tree, l.nodes as u32, words);
+    records::load(job, l.tree, l.nodes, words);
     let frame = Frame {
         script: l.script,
         records: l.records,
@@ -120,10 +121,10 @@ fn run_accepted(
     };
     let memory = Memory {
         cursor: 0,
-        level: PUBLIC,
+        level: 0,
         lines: 0,
         free: table::NIL,
-        used: l.nodes as u32,
+        used: l.nodes,
     };
     let start = Running {
         memory,
@@ -155,7 +156,7 @@ pub fn run_places(
     values: &mut [i32],
     lines: &mut [u8],
 ) -> Outcome
-    requires { ⌜ 8 * min places maxNodes ≤ length (now words) ⌝ }
+    requires { ⌜ cellSize * min places maxNodes ≤ length (now words) ⌝ }
     ensures { λ r. ⌜ Promises (λ _. places) Tree (now (job .entry)) budget
         (lent (now (words .entry)) (now (levels .entry)) (now (values .entry)) (now (lines .entry)))
         (lent (now (words .exit)) (now (levels .exit)) (now (values .exit)) (now (lines .exit))) r ⌝ }
@@ -182,9 +183,9 @@ pub fn run_places(
                 job,
                 l,
                 &jumps,
-                budget as u32,
+                budget as usize,
                 words,
-                places as u32,
+                places,
                 levels,
                 values,
                 lines,
@@ -206,6 +207,6 @@ pub fn run_words(
         (lent (now (words .entry)) (now (levels .entry)) (now (values .entry)) (now (lines .entry)))
         (lent (now (words .exit)) (now (levels .exit)) (now (values .exit)) (now (lines .exit))) r ⌝ }
 {
-    let places = words.len() / 8;
+    let places = words.len() / table::CELL;
     run_places(job, budget, places, words, levels, values, lines)
 }

@@ -8,14 +8,17 @@ use actions::control::leave;
 use actions::control::onward;
 use actions::evaluate::expression;
 use actions::guards;
-use actions::memory::Effect;
 use actions::moves;
 use actions::nodes;
 use actions::variables;
+use job::records::code_at;
 use job::records::fields_at;
 ghost use mathlib.Core.Path.{_≡_};
-ghost use Prim.Native.Nat.{_-_, _≤_, _<_};
-ghost use Rattle.rules.specs.Limits.{maxBudget};
+ghost use Prim.Native.Nat.{_+_, _-_, _≤_, _<_};
+ghost use lib.ListN.{length};
+ghost use Rattle.rules.specs.Limits.{maxBudget, recordSize};
+ghost use Rattle.rules.specs.Bytes.{recordPlace};
+ghost use Rattle.job.specs.Fields.{fieldsOf};
 ghost use Rattle.actions.specs.Shows.{slices};
 ghost use Rattle.monitor.specs.Steps.{held, Script, Safe, Steps};
 
@@ -24,7 +27,7 @@ pub struct Frame {
     pub script: usize,
     pub records: usize,
     pub vars: usize,
-    pub places: u32,
+    pub places: usize,
 }
 
 fn index(x: u16) -> usize
@@ -33,12 +36,21 @@ fn index(x: u16) -> usize
     x as usize
 }
 
+// The target of record i, or its mark.
+fn target(job: &[u8], base: usize, i: usize) -> u8
+    requires { ⌜ recordPlace base i + recordSize ≤ length (now job) ⌝ }
+    ensures { λ r. ⌜ r ≡ fieldsOf (now (job .entry)) (recordPlace base i) .target ⌝ }
+{
+    let f = fields_at(job, base, i);
+    f.target
+}
+
 // Which of two neighbouring commands it is: 0 for the first, on the side of the children, 1 for the second, on that of the right siblings.
-fn side(command: u8, first: u8) -> u32
+fn side(command: u8, first: u8) -> usize
     requires { ⌜ first ≤ command ⌝ }
     ensures { λ r. ⌜ r ≡ command - first ⌝ }
 {
-    (command - first) as u32
+    (command - first) as usize
 }
 
 pub fn carry_out(
@@ -59,32 +71,59 @@ pub fn carry_out(
         (slices (now (words .exit)) (now (levels .entry)) (now (values .exit)) (now (lines .exit))) r a ⌝ }
 {
     let at = r.at;
+    let base = f.script;
     let vars = f.vars;
     let places = f.places;
     let m = r.memory;
     let pc = guards::top(r.guards);
-    let record = fields_at(job, f.script, at);
-    let command = record.command;
-    let e = expression(command, record, levels, values, vars, words, places, m);
+    let command = code_at(job, base, at);
     match command {
-        0 => onward(r, Effect { stop: 0, memory: m }),
-        1 => onward(
+        0 => onward(r, m),
+        1 => variables::assign(
+            target(job, base, at),
+            expression(job, base, at, levels, values, vars, words, places, m),
+            levels,
+            values,
+            pc,
             r,
-            variables::assign(record.target, e, levels, values, pc, m),
         ),
-        2 => enter_if(r, e, index(jumps[at])),
+        2 => enter_if(
+            r,
+            expression(job, base, at, levels, values, vars, words, places, m),
+            index(jumps[at]),
+        ),
         3 => jump(r, index(jumps[at])),
-        4 => enter_while(r, e, index(jumps[at])),
-        5 => leave(r, index(jumps[at])),
-        6 => onward(r, variables::output(e, lines, pc, m)),
-        7..=10 => onward(r, moves::go(command, words, places, pc, m)),
-        11..=12 => onward(
+        4 => enter_while(
             r,
-            nodes::insert(side(command, 11), record.target, e, words, places, pc, m),
+            expression(job, base, at, levels, values, vars, words, places, m),
+            index(jumps[at]),
         ),
-        13..=14 => onward(r, nodes::remove(side(command, 13), words, places, pc, m)),
-        15 => onward(r, nodes::write(e, words, places, pc, m)),
-        16 => onward(r, moves::raise(places, pc, m)),
-        _ => onward(r, Effect { stop: 0, memory: m }),
+        5 => leave(r, index(jumps[at])),
+        6 => variables::output(
+            expression(job, base, at, levels, values, vars, words, places, m),
+            lines,
+            pc,
+            r,
+        ),
+        7..=10 => moves::go(command, words, places, pc, r),
+        11..=12 => nodes::insert(
+            side(command, 11),
+            target(job, base, at),
+            expression(job, base, at, levels, values, vars, words, places, m),
+            words,
+            places,
+            pc,
+            r,
+        ),
+        13..=14 => nodes::remove(side(command, 13), words, places, pc, r),
+        15 => nodes::write(
+            expression(job, base, at, levels, values, vars, words, places, m),
+            words,
+            places,
+            pc,
+            r,
+        ),
+        16 => moves::raise(places, pc, r),
+        _ => onward(r, m),
     }
 }

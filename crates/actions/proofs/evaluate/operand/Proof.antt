@@ -1,5 +1,7 @@
 -- Each arm reads what its kind of operand stands for: the number itself, a variable, or a word of the cell at the cursor. Assumes nothing.
 use native.Mathlib.Omega.{arith}
+use mathlib.Core.Path.{ap, _∙_}
+use Rattle.rules.specs.Level.{join}
 use Rattle.actions.proofs.Evaluation.{kind-constant, kind-variable, kind-value, kind-children, operates-as, constant, variable, node-value, node-children}
 use borrow.Author.Needs.{needs}
 use Rattle.actions.proofs.evaluate.operand.Statement.{statement}
@@ -27,23 +29,21 @@ returns-2 c =
 
 returns-3 : tie.Need-returns-3
 returns-3 c =
-    let a = c .before .before .before .before .before .before .before .args in
-    let v = c .before .before .before .value in
+    let a = c .before .before .before .before .before .before .before .before .args in
+    let v = c .before .before .before .before .value in
     let l = c .before .content in
-    operates-as (kind-value (a .kind) (a .number) (c .before .before .before .before .match .keys3))
-    (node-value (v .result) (l .result) (c .before .before .signed2 .ok) (c .before .before .signed2 .ensures) (c .join .ensures) (v .ensures) (l .ensures))
+    operates-as (kind-value (a .kind) (a .number) (c .before .before .before .before .before .match .keys3))
+    (node-value (v .result) (l .result) (c .before .before .before .signed2 .ok) (c .before .before .before .signed2 .ensures) (c .join .ensures ∙ ap (λ z. join z (l .result)) (c .before .before .level-of .ensures)) (v .ensures) (l .ensures))
 
 returns-4 : tie.Need-returns-4
 returns-4 c =
-    let a = c .before .before .before .before .before .before .before .args in
-    let v = c .before .before .before .children in
+    let a = c .before .before .before .before .before .before .before .before .args in
+    let v = c .before .before .before .before .children in
     let l = c .before .structure in
     operates-as (kind-children (a .kind) (a .number) (omega arith))
-    (node-children (v .result) (l .result) (c .before .before .signed3 .ok) (c .before .before .signed3 .ensures) (c .join2 .ensures) (v .ensures) (l .ensures))
+    (node-children (v .result) (l .result) (c .before .before .before .signed3 .ok) (c .before .before .before .signed3 .ensures) (c .join2 .ensures ∙ ap (λ z. join z (l .result)) (c .before .before .level-of2 .ensures)) (v .ensures) (l .ensures))
 
 pub operand-spec : {M : Type 1} → statement M
 operand-spec =
     tie.close
-    (tie.spec (λ c κs. search needs) (λ c κs. search needs) (λ c. search needs) value-there level-there (λ c κs. search needs)
-    (λ c κs. search needs) (λ c κs. search needs) (λ c κs. search needs) (λ c κs. search needs) (λ c κs. search needs)
-    (λ c κs. search needs) (λ c κs. search needs) returns returns-2 returns-3 returns-4)
+    (tie.spec (λ c κs. search needs) (λ c κs. search needs) (λ c. search needs) value-there level-there (λ c κs. search needs) (λ c κs. search needs) (λ c κs. search needs) (λ c κs. search needs) (λ c κs. search needs) (λ c κs. search needs) (λ c κs. search needs) (λ c κs. search needs) (λ c κs. search needs) (λ c κs. search needs) returns returns-2 returns-3 returns-4)

@@ -7,29 +7,19 @@ use Rattle.actions.proofs.nodes.remove.Tie as tie
 
 returns : tie.Need-returns
 returns c =
-    let s = c .before .before .before .before in
-    λ l v b vars. remove-absent (s .args .pc) (s .args .side) (s .pre .0 .inside) (c .before .beside .ensures) (c .if1 .taken)
+    λ l v b vars. remove-absent _ (c .before .before .before .before .before .before .args .pc) (c .before .before .before .before .before .before .args .side) (c .before .before .before .before .before .before .pre .1 .0 .inside) (c .before .before .beside .ensures) (c .before .if1 .taken) (c .halt .ensures)
 
 returns-2 : tie.Need-returns-2
 returns-2 c =
-    let t = c .before in
-    let o = t .before .before .before .before in
-    let s = o .before .before .before in
     λ l v b vars.
-    remove-refused (s .args .pc) (s .args .side) (s .pre .0 .inside) (o .beside .ensures) (t .before .position .ensures) (t .before .before .before .if1 .left)
-    (t .may-touch .ensures) (not-true _ (c .if2 .taken))
+    remove-refused _ (c .before .before .before .before .before .before .before .before .before .before .args .pc) (c .before .before .before .before .before .before .before .before .before .before .args .side) (c .before .before .before .before .before .before .before .before .before .before .pre .1 .0 .inside) (c .before .before .before .before .before .before .beside .ensures) (c .before .before .before .position .ensures) (c .before .before .before .before .before .if1 .left)
+    (c .before .before .may-touch .ensures) (not-true _ (c .before .if2 .taken)) (c .halt2 .ensures)
 
 returns-3 : tie.Need-returns-3
 returns-3 c =
-    let t = c .before .before .before .before .before in
-    let o = t .before .before .before .before in
-    let s = o .before .before .before in
     λ l v b vars.
-    removed (s .args .pc) (s .args .side) (s .pre .0 .inside) (o .beside .ensures) (t .before .position .ensures) (t .before .before .before .if1 .left)
-    (t .may-touch .ensures) (not-false _ (c .before .before .before .before .if2 .left)) (c .before .before .remove .ensures)
+    removed _ (c .before .before .before .before .before .before .before .before .before .before .before .before .before .before .args .pc) (c .before .before .before .before .before .before .before .before .before .before .before .before .before .before .args .side) (c .before .before .before .before .before .before .before .before .before .before .before .before .before .before .pre .1 .0 .inside) (c .before .before .before .before .before .before .before .before .before .before .beside .ensures) (c .before .before .before .before .before .before .before .position .ensures) (c .before .before .before .before .before .before .before .before .before .if1 .left)
+    (c .before .before .before .before .before .before .may-touch .ensures) (not-false _ (c .before .before .before .before .before .if2 .left)) (c .before .before .before .remove .ensures .0) (c .before .before .before .remove .ensures .1) (c .onward .ensures)
 
 pub remove-spec : {M : Type 1} → statement M
-remove-spec =
-    tie.close
-    (tie.spec (λ c κs. search needs) (λ c. search needs) returns (λ c κs. search needs) (λ c κs. search needs) (λ c. search needs) returns-2
-    (λ c κs. search needs) (λ c. search needs) returns-3)
+remove-spec = tie.close (tie.spec (λ c κs. search needs) (λ c κs. search needs) (λ c. search needs) returns (λ c κs. search needs) (λ c κs. search needs) (λ c κs. search needs) (λ c. search needs) returns-2 (λ c κs. search needs) (λ c κs. search needs) (λ c. search needs) returns-3)

@@ -8,15 +8,12 @@ use Rattle.actions.proofs.nodes.write.Tie as tie
 
 returns : tie.Need-returns
 returns c = λ l b v vars x e.
-    let s = c .before .before .before .before .before .before in
-    write-refused (s .args .pc) e (c .before .before .before .before .flow .ensures) b (s .pre .inside) (c .before .before .content .ensures) (refused (c .before .not-above .ensures) (c .if1 .taken))
+    write-refused _ (c .before .before .before .before .before .before .before .before .args .pc) e (c .before .before .before .before .before .flow .ensures) b (c .before .before .before .before .before .before .before .before .pre .1 .inside) (c .before .before .before .content .ensures) (refused (c .before .before .not-above .ensures) (c .before .if1 .taken)) (c .halt .ensures)
 
 returns-2 : tie.Need-returns-2
 returns-2 c = λ l b v vars x e.
-    let s = c .before .before .before .before .before .before .before .before .before .before .before .before in
-    written (s .args .pc) e (c .before .before .before .before .before .before .before .before .before .before .flow .ensures) b (s .pre .inside) (c .before .before .before .before .before .before .before .before .content .ensures) _
-    (allowed (c .before .before .before .before .before .before .before .not-above .ensures) (c .before .before .before .before .before .before .if1 .left)) (c .before .before .before .bits .ensures) (c .before .before .set-value .ensures)
+    written _ (c .before .before .before .before .before .before .before .before .before .before .before .before .before .before .args .pc) e (c .before .before .before .before .before .before .before .before .before .before .before .flow .ensures) b (c .before .before .before .before .before .before .before .before .before .before .before .before .before .before .pre .1 .inside) (c .before .before .before .before .before .before .before .before .before .content .ensures) _
+    (allowed (c .before .before .before .before .before .before .before .before .not-above .ensures) (c .before .before .before .before .before .before .before .if1 .left)) (c .before .before .before .before .bits .ensures) (c .before .before .before .set-value .ensures .0) (c .before .before .before .set-value .ensures .1) (c .onward .ensures)
 
 pub write-spec : {M : Type 1} → statement M
-write-spec =
-    tie.close (tie.spec (λ c κs. search needs) (λ c κs. search needs) (λ c κs. search needs) (λ c. search needs) returns (λ c κs. search needs) (λ c κs. search needs) (λ c. search needs) returns-2)
+write-spec = tie.close (tie.spec (λ c κs. search needs) (λ c κs. search needs) (λ c κs. search needs) (λ c κs. search needs) (λ c. search needs) returns (λ c κs. search needs) (λ c κs. search needs) (λ c κs. search needs) (λ c. search needs) returns-2)

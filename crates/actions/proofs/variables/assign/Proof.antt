@@ -9,15 +9,12 @@ use Rattle.actions.proofs.variables.assign.Tie as tie
 
 returns : tie.Need-returns
 returns c = λ w b places vars x inside lt long e.
-    let s = c .before .before .before .before .before .before in
-    no-assign (s .args .pc) e inside (c .before .before .before .flow .ensures) b lt (c .before .before .before .before .index .ensures) (refused (c .before .not-above .ensures) (c .if1 .taken))
+    no-assign _ (c .before .before .before .before .before .before .before .before .args .pc) e inside (c .before .before .before .before .flow .ensures) b lt (c .before .before .before .before .before .index .ensures) (refused (c .before .before .not-above .ensures) (c .before .if1 .taken)) (c .halt .ensures)
 
 returns-2 : tie.Need-returns-2
 returns-2 c = λ w b places vars x inside lt long e.
-    let s = c .before .before .before .before .before .before .before in
-    did-assign (s .args .pc) e inside (c .before .before .before .before .flow .ensures) b lt (c .before .before .before .before .before .index .ensures) _ (sym (read (e .fits))) long
-    (allowed (c .before .before .not-above .ensures) (c .before .if1 .left))
+    did-assign _ (c .before .before .before .before .before .before .before .before .before .args .pc) e inside (c .before .before .before .before .before .flow .ensures) b lt (c .before .before .before .before .before .before .index .ensures) _ (sym (read (e .fits))) long
+    (allowed (c .before .before .before .not-above .ensures) (c .before .before .if1 .left)) (c .onward .ensures)
 
 pub assign-spec : {M : Type 1} → statement M
-assign-spec =
-    tie.close (tie.spec (λ c κs. search needs) (λ c κs. search needs) (λ c. search needs) (λ c κs. search needs) returns (λ c. search needs) (λ c. search needs) (λ c. search needs) returns-2)
+assign-spec = tie.close (tie.spec (λ c κs. search needs) (λ c κs. search needs) (λ c. search needs) (λ c κs. search needs) (λ c κs. search needs) returns (λ c. search needs) (λ c. search needs) (λ c κs. search needs) (λ c. search needs) returns-2)

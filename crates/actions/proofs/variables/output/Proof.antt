@@ -10,17 +10,16 @@ use Rattle.actions.proofs.variables.output.Tie as tie
 
 returns : tie.Need-returns
 returns c = λ w l v places vars x inside e.
-    no-output (c .before .before .before .before .args .pc) e inside (c .before .before .flow .ensures) _ (refused (c .before .not-above .ensures) (c .if1 .taken))
+    no-output _ (c .before .before .before .before .before .before .args .pc) e inside (c .before .before .before .flow .ensures) _ (refused (c .before .before .not-above .ensures) (c .before .if1 .taken)) (c .halt .ensures)
 
 returns-2 : tie.Need-returns-2
 returns-2 c = λ w l v places vars x inside e.
-    full-output (c .before .before .before .before .before .args .pc) e inside (c .before .before .before .flow .ensures) _ (allowed (c .before .before .not-above .ensures) (c .before .if1 .left)) (omega (arith, c .if2 .taken))
+    full-output _ (c .before .before .before .before .before .before .before .args .pc) e inside (c .before .before .before .before .flow .ensures) _ (allowed (c .before .before .before .not-above .ensures) (c .before .before .if1 .left)) (omega (arith, c .before .if2 .taken)) (c .halt2 .ensures)
 
 returns-3 : tie.Need-returns-3
 returns-3 c = λ w l v places vars x inside e.
-    did-output (c .before .before .before .before .before .before .before .before .before .before .args .pc) e inside (c .before .before .before .before .before .before .before .before .flow .ensures) _ _ (sym (read (e .fits)))
-    (allowed (c .before .before .before .before .before .before .before .not-above .ensures) (c .before .before .before .before .before .before .if1 .left)) (omega (arith, c .before .before .before .before .before .if2 .left)) _ (c .before .before .put-line .ensures)
+    did-output _ (c .before .before .before .before .before .before .before .before .before .before .before .before .args .pc) e inside (c .before .before .before .before .before .before .before .before .before .flow .ensures) _ _ (sym (read (e .fits))) (allowed (c .before .before .before .before .before .before .before .before .not-above .ensures) (c .before .before .before .before .before .before .before .if1 .left))
+    (omega (arith, c .before .before .before .before .before .before .if2 .left)) _ (c .before .before .before .put-line .ensures) (c .onward .ensures)
 
 pub output-spec : {M : Type 1} → statement M
-output-spec =
-    tie.close (tie.spec (λ c κs. search needs) (λ c κs. search needs) returns returns-2 (λ c κs. search needs) (λ c. search needs) (λ c. search needs) returns-3)
+output-spec = tie.close (tie.spec (λ c κs. search needs) (λ c κs. search needs) (λ c κs. search needs) returns (λ c κs. search needs) returns-2 (λ c κs. search needs) (λ c. search needs) (λ c κs. search needs) (λ c. search needs) returns-3)

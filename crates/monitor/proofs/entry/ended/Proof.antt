@@ -1,16 +1,19 @@
--- `entry::ended` meets its contract: by whether the script has come to its end. Assumes nothing.
+-- The two arms of `outcomeOf`; the steps fit 32 bits. Assumes nothing.
 use borrow.Author.Tests.{eq-eqb, ne-eqb}
 use Rattle.monitor.specs.Starting.{outcomeOf}
+use borrow.Author.Needs.{needs}
 use Rattle.monitor.proofs.entry.ended.Statement.{statement}
 use Rattle.monitor.proofs.entry.ended.Tie as tie
 
 returns : tie.Need-returns
 unfolding outcomeOf
-returns c = rw (eq-eqb _ 255 (c .if1 .taken))
+returns c =
+    rw (eq-eqb _ 255 (c .before .if1 .taken))
 
 returns-2 : tie.Need-returns-2
 unfolding outcomeOf
-returns-2 c = rw (ne-eqb _ 255 (c .if1 .left))
+returns-2 c =
+    rw (ne-eqb _ 255 (c .before .if1 .left))
 
 pub ended-spec : {M : Type 1} → statement M
-ended-spec = tie.close (tie.spec returns returns-2)
+ended-spec = tie.close (tie.spec (λ c. search needs) returns (λ c. search needs) returns-2)

@@ -3,16 +3,12 @@ use mathlib.Core.Path.{_≡_, sym, _∙_}
 use Rattle.rules.specs.Check.{accepted, checkBytes}
 use Rattle.job.specs.Layout.{layoutOf}
 use Rattle.job.proofs.Answers.{is-accepted, is-refused}
-use Rattle.actions.specs.Shows.{Slices, slices}
+use Rattle.actions.specs.Shows.{slices}
 use Rattle.actions.proofs.Doing.{refused, allowed}
-use Rattle.monitor.proofs.Answered.{turned-back, bad-budget, bad-buffers, within, few, begun, is-run}
+use Rattle.monitor.proofs.Answered.{turned-back, bad-budget, bad-buffers, begun, is-run}
 use borrow.Author.Needs.{needs}
 use Rattle.monitor.proofs.entry.run_places.Statement.{statement}
 use Rattle.monitor.proofs.entry.run_places.Tie as tie
-
--- the slices that were lent
-abbrev lent : tie.Start → Slices
-lent s = slices (s .args .words .now) (s .args .levels .now) (s .args .values .now) (s .args .lines .now)
 
 -- the bytes are accepted, and the layout is theirs
 told : (c : tie.After-known-told2) → let b = c .before .before .before .before .before .before .before .before .before .before .args .job .now in
@@ -27,21 +23,6 @@ returns-2 c =
     let t = told (c .before .before .before .before .before) in
     let w = allowed (c .before .before .before .before .budget-ok .ensures) (c .before .before .before .if1 .left) in
     bad-buffers _ _ _ (slices _ _ _ _) (t .0) _ (t .1) w _ (c .before .before .smaller .ensures) (refused (c .before .buffers-ok .ensures) (c .if2 .taken))
-
-cast-run-accepted : tie.Need-cast-run-accepted
-cast-run-accepted c =
-    let s = c .before .before .before .before .before .before .before .before .before .before .before .before .before .before .before .before in
-    let d = c .before in
-    let w = within (s .args .job .now) (s .args .budget) (s .args .places) (lent s) (told (d .before .before .before .before .before) .0) (allowed (d .before .before .before .before .budget-ok .ensures) (d .before .before .before .if1 .left)) in
-    search (needs, w)
-
-cast-run-accepted-2 : tie.Need-cast-run-accepted-2
-cast-run-accepted-2 c =
-    let d = c .before .before in
-    let t = told (d .before .before .before .before .before) in
-    let w = allowed (d .before .before .before .before .budget-ok .ensures) (d .before .before .before .if1 .left) in
-    let v = few _ _ _ (lent (c .before .before .before .before .before .before .before .before .before .before .before .before .before .before .before .before .before)) (t .0) _ (t .1) w _ (d .before .before .smaller .ensures) (allowed (d .before .buffers-ok .ensures) (d .if2 .left)) in
-    search (needs, v)
 
 run-accepted-requires : tie.Need-run-accepted-requires
 run-accepted-requires c κs =
@@ -67,5 +48,5 @@ pub run-places-spec : {M : Type 1} → statement M
 run-places-spec =
     tie.close (tie.spec
     (λ c. search needs) (λ c κs. search needs) (λ c. search needs) (λ c. search needs) (λ c κs. search needs) returns (λ c κs. search needs)
-    (λ c κs. search needs) returns-2 (λ c. search needs) cast-run-accepted cast-run-accepted-2 run-accepted-requires returns-3
+    (λ c κs. search needs) returns-2 (λ c. search needs) run-accepted-requires returns-3
     (λ c. search needs) (λ c. search needs) (λ c. search needs) (λ c. search needs) returns-4)

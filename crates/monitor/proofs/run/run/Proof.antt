@@ -5,13 +5,13 @@ use mathlib.Core.WellFounded.{WellFounded, InvImage·wf}
 use mathlib.Core.Bool.{not}
 use lib.Dec.{T as Holds, eqb, eqb→eq}
 use Rattle.walks.proofs.Walk.{_<_, ℕ, Fml, GName, Lft, Share, fat, fdies, flft, froom, SProp, ent, id⊢, sep, Fun, fact, givenOf, tables}
-use Rattle.walks.proofs.Walk.{tablesOf, i32, u16, u32, u8, yes, Is, shows, LentAgain, comes-back, lends-again, mem, pointee, uint-lawful}
+use Rattle.walks.proofs.Walk.{tablesOf, i32, u16, u32, u8, usize, yes, Is, shows, LentAgain, comes-back, lends-again, mem, pointee, uint-lawful}
 use Rattle.walks.proofs.Walk.{uint-makes, uint-tells, uint-vals, owns, MutRef, RefT, mut-tells, ptr-vals, plain, shrSliceOf, MutSlice, Room}
 use Rattle.walks.proofs.Walk.{ShrSlice, mut-slice-tells, shr-slice-copy, shr-slice-tells, slice-vals, sliceTy, sliceVal, heard, nothing, only}
 use Rattle.walks.proofs.Walk.{owned, peeks, calls-at-last, ensured, lasts, onEntry, Meets, tripleOf, Contract, Triple, cited, entered, Stays}
 use Rattle.walks.proofs.Walk.{Walks, ends-at, goes-dropped, goes-ref, goes-slice, needs, says, stay-dropped, stay-ref, stay-slice, walk-meets}
 use Rattle.walks.proofs.Walk.{walkOf, walked, Atoms, sem, fullShare, URA, lit<, ℤ, List, [], _∷_, _≡_, ap, refl, subst, sym, Ty, erased, imm}
-use Rattle.walks.proofs.Walk.{mut, named, tyBool, tyInt, tyRef, w16, w32, w8, Val, vint, vptr, Memory, Routine, Heap, Tables, WpFn, WpFn-mono}
+use Rattle.walks.proofs.Walk.{mut, named, tyBool, tyInt, tyRef, w16, w32, w64, w8, Val, vint, vptr, Memory, Routine, Heap, Tables, WpFn, WpFn-mono}
 use Rattle.walks.proofs.Walk.{fmOf, !, Given, Item, _$_, _∵_, _⊛_, await, by, done, drop, feqL, fjoin, frame, fsplit, join, keep, later, move}
 use Rattle.walks.proofs.Walk.{pick, qed, raw, rewrite, some, split, suffices, use1, use2, use3, ‵, ⋆, agg, look-in, sub, whole, addr, again}
 use Rattle.walks.proofs.Walk.{alloc0, alloc1, and-then, bin, enter, fld, forget, free0, free1, from, hop, init, land-last, lit, load, look}
@@ -51,7 +51,7 @@ stayed = (
         (
           stay-dropped (plain (λ _. F.the-row)) yes,
           (
-            stay-dropped (plain (λ _. u32)) yes,
+            stay-dropped (plain (λ _. usize)) yes,
             (stay-slice (4 ∷ []) tt (plain (λ _. u32)), (stay-slice (5 ∷ []) tt (plain (λ _. i32)), (stay-slice (6 ∷ []) tt (plain (λ _. u8)), tt))),
           ),
         ),
@@ -222,7 +222,7 @@ module _ {M : Type 1} (𝓤 : URA M) (H : Heap 𝓤) (A : Atoms 𝓤) (W : Given
         w32))) l₈)
         ∷ ‵ (fat fullShare (sliceTy (tyRef (named 4) mut (tyInt w32))) l₇ 0 (sliceOf (s .words))) ∷ ‵ (fdies (sliceTy (tyRef (named 4) mut (tyInt
         w32))) l₇)
-        ∷ ‵ (fat fullShare (tyInt w32) l₆ 0 (vint w32 (s .limit))) ∷ ‵ (fdies (tyInt w32) l₆)
+        ∷ ‵ (fat fullShare (tyInt w64) l₆ 0 (vint w64 (s .limit))) ∷ ‵ (fdies (tyInt w64) l₆)
         ∷ ‵ (fat fullShare F′.mir l₅ 0 (frameVal (s .f))) ∷ ‵ (fdies F′.mir l₅)
         ∷ ‵ (fat fullShare (sliceTy (tyRef (named 3) imm (tyInt w8))) l₄ 0 (sliceOf (s .levels))) ∷ ‵ (fdies (sliceTy (tyRef (named 3) imm (tyInt
         w8))) l₄)
@@ -290,7 +290,7 @@ module _ {M : Type 1} (𝓤 : URA M) (H : Heap 𝓤) (A : Atoms 𝓤) (W : Given
         nothing ! $ move ! (9 ∷ 0 ∷ []) $ join ! $ move ! (11 ∷ 0 ∷ []) $ join ! $ move ! (13 ∷ 0 ∷ []) $ join ! $ move ! (18 ∷ 0 ∷ []) $
         join ! $ move ! (17 ∷ 0 ∷ []) $ join ! $ move ! (16 ∷ 0 ∷ []) $ join ! $ move ! (15 ∷ 0 ∷ []) $ join ! $ nothing ! $
         move ! (8 ∷ 0 ∷ []) $ fjoin ! $ move ! (9 ∷ 0 ∷ []) $ fjoin ! $ move ! (10 ∷ 0 ∷ []) $ fjoin ! $
-        owned ! u32 (Is u32) (uint-makes 𝓤 H A W w32) (s .limit) _ (refl, z .limit) $ fjoin ! $
+        owned ! usize (Is usize) (uint-makes 𝓤 H A W w64) (s .limit) _ (refl, z .limit) $ fjoin ! $
         owned ! F.the-row (Is F.the-row) (LL.makes F.the-type F′.the-plain 𝓤 H A) (s .f) _ (z .frame) $ fjoin ! $ move ! (3 ∷ 0 ∷ []) $
         fjoin ! $ move ! (4 ∷ 0 ∷ []) $ fjoin ! $ move ! (5 ∷ 0 ∷ []) $ fjoin ! $ move ! (8 ∷ 0 ∷ []) $ fjoin ! $ move ! (1 ∷ 0 ∷ []) $
         use2 W (raw (Step 𝓤 H A at-mem run .pre (to-step w ν ν₄ ν₅ ν₆ δ δ₄ δ₅ δ₆))) (goes-step w ν ν₄ ν₅ ν₆ δ δ₄ δ₅ δ₆ (startable (heldOf s)
@@ -369,7 +369,7 @@ module _ {M : Type 1} (𝓤 : URA M) (H : Heap 𝓤) (A : Atoms 𝓤) (W : Given
               (
                 LL.vals F.the-type F′.the-laws,
                 (
-                  uint-vals w32,
+                  uint-vals w64,
                   (
                     slice-vals,
                     (
@@ -394,7 +394,7 @@ module _ {M : Type 1} (𝓤 : URA M) (H : Heap 𝓤) (A : Atoms 𝓤) (W : Given
               (
                 LL.tells F.the-type F′.the-laws,
                 (
-                  uint-tells w32,
+                  uint-tells w64,
                   (
                     mut-slice-tells (named 4) (κs .1 .1 .1 .1 .0) u32,
                     (
@@ -437,7 +437,7 @@ module _ {M : Type 1} (𝓤 : URA M) (H : Heap 𝓤) (A : Atoms 𝓤) (W : Given
             goes-dropped 𝓤 H A W 7 (plain (λ _. F.the-row)) yes
                 (λ κs x f. refl),
             (
-              goes-dropped 𝓤 H A W 7 (plain (λ _. u32)) yes (λ κs x f. refl),
+              goes-dropped 𝓤 H A W 7 (plain (λ _. usize)) yes (λ κs x f. refl),
               (
                 goes-slice 𝓤 H A W 7 4 tt (plain (λ _. u32)),
                 (

@@ -5,11 +5,11 @@ use denote.Memory.{partAt}
 use denote.Lend.{lends-ref, ref-back}
 use borrow.Table.OneValue.{part-in, part-out}
 use Rattle.walks.proofs.Walk.{_-_, ℕ, Fml, GName, fat, flent, flft, ftrue, SProp, emp, ent, exE, id⊢, sep, snd∗, Fun, fact, givenOf, tables}
-use Rattle.walks.proofs.Walk.{tablesOf, i32, u16, u32, u8, yes, Is, shows, mem, uint-lawful, uint-makes, uint-tells, uint-vals, owns, MutRef}
+use Rattle.walks.proofs.Walk.{tablesOf, i32, u16, u32, u8, usize, yes, Is, shows, mem, uint-lawful, uint-makes, uint-tells, uint-vals, owns, MutRef}
 use Rattle.walks.proofs.Walk.{RefT, plain, shrSliceOf, finally, mut-slice-tells, shr-slice-tells, slice-vals, heard, nothing, owned, peeks}
 use Rattle.walks.proofs.Walk.{calls-at, ensured, lasts, onEntry, Meets, tripleOf, Contract, Triple, cited, entered, Stays, Walks, ends-at}
 use Rattle.walks.proofs.Walk.{gave-slice, goes-dropped, goes-gave-slice, needs, says, stay-dropped, walk-meets, walkOf, walked, Atoms, sem}
-use Rattle.walks.proofs.Walk.{fullShare, URA, ℤ, length, List, [], _∷_, _≡_, refl, subst, sym, named, w32, w8, Val, vptr, Memory, Routine}
+use Rattle.walks.proofs.Walk.{fullShare, URA, ℤ, length, List, [], _∷_, _≡_, refl, subst, sym, named, w64, w8, Val, vptr, Memory, Routine}
 use Rattle.walks.proofs.Walk.{Heap, Tables, WpFn, WpFn-mono, fmOf, !, Given, Item, _$_, _∵_, _⊛_, await, by, done, drop, feqL, fjoin, frame}
 use Rattle.walks.proofs.Walk.{fsplit, join, keep, later, move, pick, qed, raw, some, split, suffices, use0, use1, use2, use3, ‵, ⋆, agg}
 use Rattle.walks.proofs.Walk.{look-in, sub, whole, addr, alloc0, alloc1, and-then, enter, fld, forget, free0, free1, from, hop, init, load}
@@ -54,7 +54,7 @@ stayed = (
         (
           stay-dropped (plain (λ _. F.the-row)) yes,
           (
-            stay-dropped (plain (λ _. u32)) yes,
+            stay-dropped (plain (λ _. usize)) yes,
             (gave-slice (3 ∷ []) tt (plain (λ _. u32)), (gave-slice (4 ∷ []) tt (plain (λ _. i32)), (gave-slice (5 ∷ []) tt (plain (λ _. u8)), tt))),
           ),
         ),
@@ -228,7 +228,7 @@ module _ {M : Type 1} (𝓤 : URA M) (H : Heap 𝓤) (A : Atoms 𝓤) (W : Given
               (
                 LL.vals F.the-type F′.the-laws,
                 (
-                  uint-vals w32,
+                  uint-vals w64,
                   (
                     slice-vals,
                     (slice-vals, (slice-vals, tt)),
@@ -250,7 +250,7 @@ module _ {M : Type 1} (𝓤 : URA M) (H : Heap 𝓤) (A : Atoms 𝓤) (W : Given
               (
                 LL.tells F.the-type F′.the-laws,
                 (
-                  uint-tells w32,
+                  uint-tells w64,
                   (
                     mut-slice-tells (named 3) (κs .1 .1 .1 .0) u32,
                     (
@@ -293,7 +293,7 @@ module _ {M : Type 1} (𝓤 : URA M) (H : Heap 𝓤) (A : Atoms 𝓤) (W : Given
             goes-dropped 𝓤 H A W 6 (plain (λ _. F.the-row)) yes
                 (λ κs x f. refl),
             (
-              goes-dropped 𝓤 H A W 6 (plain (λ _. u32)) yes (λ κs x f. refl),
+              goes-dropped 𝓤 H A W 6 (plain (λ _. usize)) yes (λ κs x f. refl),
               (
                 goes-gave-slice 𝓤 H A W 6 3 tt (plain (λ _. u32)),
                 (

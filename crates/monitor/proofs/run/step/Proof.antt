@@ -1,12 +1,12 @@
 -- `run::step` meets its contract: a walk of its code by hand. The borrow of r is opened, the record is copied and passed by value to `turn`, to which
 -- the slices are passed on; what that gives is stored, and the borrow is closed at it. Assumes nothing.
 use Rattle.walks.proofs.Walk.{_<_, _^_, ℕ, Fml, GName, Lft, Share, fat, fbor, flft, fobs, SProp, ent, id⊢, sep, Fun, fact, givenOf, tables}
-use Rattle.walks.proofs.Walk.{tablesOf, i32, u16, u32, u8, yes, Is, shows, mem, uint-makes, uint-tells, uint-vals, owns, MutRef, RefT}
+use Rattle.walks.proofs.Walk.{tablesOf, i32, u16, u32, u8, usize, yes, Is, shows, mem, uint-makes, uint-tells, uint-vals, owns, MutRef, RefT}
 use Rattle.walks.proofs.Walk.{mut-tells, ptr-vals, plain, shrSliceOf, finally, mut-slice-tells, shr-slice-tells, slice-vals, closes, heard}
 use Rattle.walks.proofs.Walk.{nothing, only, opens, owned, peeks, spelt, calls-at, ensured, lasts, onEntry, Meets, tripleOf, Contract, Triple}
 use Rattle.walks.proofs.Walk.{cited, entered, Stays, Walks, ends-at, gave-slice, goes-dropped, goes-gave-slice, goes-ref, needs, says}
 use Rattle.walks.proofs.Walk.{stay-dropped, stay-ref, walk-meets, walkOf, walked, Atoms, sem, fullShare, URA, ℤ, length, List, [], _∷_, _≡_}
-use Rattle.walks.proofs.Walk.{ap, refl, named, w32, w8, Val, vint, vptr, Memory, Routine, Heap, Tables, WpFn, WpFn-mono, fmOf, !, Given, Item}
+use Rattle.walks.proofs.Walk.{ap, refl, named, w64, w8, Val, vint, vptr, Memory, Routine, Heap, Tables, WpFn, WpFn-mono, fmOf, !, Given, Item}
 use Rattle.walks.proofs.Walk.{_$_, _∵_, _⊛_, await, by, done, drop, feqI, feqL, fjoin, fjoin3, frame, fsplit, fsplit3, join, keep, later, move}
 use Rattle.walks.proofs.Walk.{pick, qed, raw, rewrite, some, split, suffices, use1, use2, ‵, ⋆, agg, look-in, sub, whole, addr, alloc0, alloc1}
 use Rattle.walks.proofs.Walk.{and-then, assigns, enter, fld, forget, free0, free1, from, hop, init, load, look, look-raw, no-more, of-opd}
@@ -46,7 +46,7 @@ stayed = (
         (
           stay-dropped (plain (λ _. F.the-row)) yes,
           (
-            stay-dropped (plain (λ _. u32)) yes,
+            stay-dropped (plain (λ _. usize)) yes,
             (gave-slice (4 ∷ []) tt (plain (λ _. u32)), (gave-slice (5 ∷ []) tt (plain (λ _. i32)), (gave-slice (6 ∷ []) tt (plain (λ _. u8)), tt))),
           ),
         ),
@@ -191,7 +191,7 @@ module _ {M : Type 1} (𝓤 : URA M) (H : Heap 𝓤) (A : Atoms 𝓤) (W : Given
               (
                 LL.vals F.the-type F′.the-laws,
                 (
-                  uint-vals w32,
+                  uint-vals w64,
                   (
                     slice-vals,
                     (
@@ -216,7 +216,7 @@ module _ {M : Type 1} (𝓤 : URA M) (H : Heap 𝓤) (A : Atoms 𝓤) (W : Given
               (
                 LL.tells F.the-type F′.the-laws,
                 (
-                  uint-tells w32,
+                  uint-tells w64,
                   (
                     mut-slice-tells (named 4) (κs .1 .1 .1 .1 .0) u32,
                     (
@@ -259,7 +259,7 @@ module _ {M : Type 1} (𝓤 : URA M) (H : Heap 𝓤) (A : Atoms 𝓤) (W : Given
             goes-dropped 𝓤 H A W 7 (plain (λ _. F.the-row)) yes
                 (λ κs x f. refl),
             (
-              goes-dropped 𝓤 H A W 7 (plain (λ _. u32)) yes (λ κs x f. refl),
+              goes-dropped 𝓤 H A W 7 (plain (λ _. usize)) yes (λ κs x f. refl),
               (
                 goes-gave-slice 𝓤 H A W 7 4 tt (plain (λ _. u32)),
                 (

@@ -1,0 +1,40 @@
+-- What the commands promise that say which record comes next. Assumes nothing.
+use mathlib.Core.Path.{_≡_}
+use Prim.Native.Nat.{ℕ, suc, _<_, _≤_}
+use mathlib.Core.List.{List, tail}
+use lib.ListN.{length}
+use Rattle.rules.specs.Limits.{maxDepth}
+use Rattle.rules.specs.Script.{Expression}
+use Rattle.rules.specs.Run.{State, Block, value, levelOf}
+use Rattle.actions.specs.declared.evaluate.Valued.{Valued}
+use Rattle.actions.specs.declared.control.Running.{Running}
+use Rattle.actions.specs.declared.control.Stepped.{Stepped}
+use Rattle.actions.specs.Guards.{Holds}
+use Rattle.actions.specs.Shows.{Slices}
+use Rattle.actions.specs.Stands.{Stands}
+use Rattle.actions.specs.Acts.{Fits}
+
+-- a step that does not stop and leaves the memory
+pub record Passes (r : Running) (a : Stepped) : Type 0 where
+  pub stop : a .stop ≡ 0
+  pub memory : a .running .memory ≡ r .memory
+  pub steps : a .running .steps ≡ suc (r .steps)
+
+-- to the record j, with the same blocks
+pub record Jumps (r : Running) (j : ℕ) (a : Stepped) : Type 0 where
+  pub passes : Passes r a
+  pub at : a .running .at ≡ j
+  pub guards : a .running .guards ≡ r .guards
+
+-- to the record j, with one block less
+pub record Leaves (r : Running) (j : ℕ) (a : Stepped) : Type 0 where
+  pub passes : Passes r a
+  pub at : a .running .at ≡ j
+  pub guards : (bs : List Block) → Holds (r .guards) bs → Holds (a .running .guards) (tail bs)
+
+-- an if or a while with the guard's value and level v: as the rules' f does, with j to jump to
+pub record Enters (f : State → ℕ → Expression → State) (r : Running) (v : Valued) (j : ℕ) (a : Stepped) : Type 0 where
+  pub passes : Passes r a
+  pub within : (n : ℕ) → j ≤ n → r .at < n → a .running .at ≤ n
+  pub enters : (places vars : ℕ) (x : Slices) (s : State) (e : Expression) → Fits (v .value) → value (s .memory) e ≡ v .value
+      → levelOf (s .memory) e ≡ v .level → length (s .blocks) < maxDepth → Stands places vars x r s → Stands places vars x (a .running) (f s j e)
