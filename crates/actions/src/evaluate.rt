@@ -2,18 +2,14 @@
 use super::memory::Memory;
 use super::memory::level_of;
 use job::records::Fields;
-use job::records::fields_at;
 use rules::levels::PUBLIC;
 use rules::levels::join;
 use rules::numbers;
 use table::node;
 ghost use mathlib.Core.Path.{_≡_};
-ghost use Prim.Native.Nat.{_+_, _<_, _≤_};
-ghost use lib.ListN.{length};
-ghost use Rattle.rules.specs.Limits.{recordSize};
-ghost use Rattle.rules.specs.Bytes.{recordPlace};
+ghost use Prim.Native.Nat.{_<_};
 ghost use Rattle.rules.specs.Job.{operand};
-ghost use Rattle.job.specs.Fields.{fieldsOf, expressionFrom};
+ghost use Rattle.job.specs.Fields.{expressionFrom};
 ghost use Rattle.actions.specs.Shows.{Readable, Reads};
 ghost use Rattle.actions.specs.Acts.{Operates, Applies, Evaluates};
 
@@ -79,8 +75,8 @@ fn apply(operator: u8, a: i32, b: i32) -> i32
     }
 }
 
-// The expression of a record.
-fn evaluate(
+// The expression of a record. It is small enough to stand in each arm of a step.
+pub fn evaluate(
     f: Fields,
     levels: &[u8],
     values: &[i32],
@@ -102,32 +98,4 @@ fn evaluate(
         value: apply(operator, left.value, right.value),
         level: join(left.level, right.level),
     }
-}
-
-// The expression of record i of a script that starts at `base` in the job.
-pub fn expression(
-    job: &[u8],
-    base: usize,
-    i: usize,
-    levels: &[u8],
-    values: &[i32],
-    vars: usize,
-    words: &[u32],
-    places: usize,
-    m: Memory,
-) -> Valued
-    requires { ⌜ (recordPlace base i + recordSize ≤ length (now job))
-        × (Readable (now words) (now levels) (now values) places vars m × Reads vars (fieldsOf (now job) (recordPlace base i))) ⌝ }
-    ensures { λ r. ⌜ Evaluates (now (words .entry)) (now (levels .entry)) (now (values .entry)) places vars m
-        (expressionFrom (fieldsOf (now (job .entry)) (recordPlace base i))) r ⌝ }
-{
-    evaluate(
-        fields_at(job, base, i),
-        levels,
-        values,
-        vars,
-        words,
-        places,
-        m,
-    )
 }

@@ -35,7 +35,7 @@ module _ (places m : ℕ) (em : m ≡ min places ownPlaces) where
         (p : Promises length Tree b budget (lent (replicate m blank) (x .levels) (x .values) (x .board)) (lent ns (x′ .levels) (x′ .values) (x′ .board)) r)
         (out : x′ .table ≡ loaded (ns ++ replicate (ownPlaces - m) blank) (length (ns ++ replicate (ownPlaces - m) blank)) (x .table)) where
       here : Owned b budget m x x′ r
-      here = record { records = ns; promised = p; words = out ∙ ap (λ k. loaded (ns ++ replicate (ownPlaces - m) blank) k (x .table)) all-length }
+      here = record { records = ns; many = kept ∙ length-replicate m blank; promised = p; words = out ∙ ap (λ k. loaded (ns ++ replicate (ownPlaces - m) blank) k (x .table)) all-length }
 
       pub owned : Owned b budget (min places ownPlaces) x x′ r
       owned = subst (λ k. Owned b budget k x x′ r) em here

@@ -32,6 +32,7 @@ ownPlaces = 513
 -- The run with n of its own records lent. They are blank at first; what the run leaves in them, and then the blank rest, is copied into the words.
 pub record Owned (b : List ℕ) (budget n : ℕ) (x x′ : Lent (List ℕ)) (r : Outcome) : Type 0 where
   pub records : List Node
+  pub many : length records ≡ n
   pub promised : Promises length Tree b budget (lent (replicate n blank) (x .levels) (x .values) (x .board))
       (lent records (x′ .levels) (x′ .values) (x′ .board)) r
   pub words : x′ .table ≡ loaded (records ++ replicate (ownPlaces - n) blank) ownPlaces (x .table)

@@ -5,23 +5,24 @@ use mathlib.Core.List.{List}
 use Prim.Native.Nat.{ℕ, _*_, _<_, _≤_, min}
 use native.Mathlib.Omega.{arith}
 use lib.Dec.{leb}
-use lib.ListN.{length, getD}
+use lib.ListN.{length}
 use borrow.Author.Tests.{leb-true}
-use Rattle.rules.specs.Limits.{maxNodes, maxRecords, maxBudget, badBudget, badBuffers}
+use Rattle.rules.specs.Limits.{maxNodes, maxBudget, badBudget, badBuffers}
 use Rattle.rules.specs.Tree.{Forest, Place}
-use Rattle.rules.specs.Bytes.{nodeCount, variableCount, recordCount}
-use Rattle.rules.specs.Blocks.{goesTo}
-use Rattle.rules.specs.Script.{numberAt}
+use Rattle.rules.specs.Bytes.{nodeCount, variableCount, scriptAt, recordCount}
 use Rattle.rules.specs.Check as Check
-use Rattle.rules.specs.Check.{require, checkBytes}
+use Rattle.rules.specs.Check.{require, checkBytes, code}
 use Rattle.rules.specs.Job.{script}
 use Rattle.rules.specs.Run.{Buffers, Ending, finished, stopped, Ended, run}
 use Rattle.rules.specs.Outcome as Rules
 use Rattle.rules.specs.Outcome.{answer, endingNumber, endingIndex, runJob, checkJob, andThen, budgetRule, bufferRule, begin}
 use Rattle.rules.proofs.Tests.{both}
 use Rattle.rules.proofs.Noninterference.{runs}
+use Rattle.rules.proofs.Accepted.{right, jumps-agree}
 use Rattle.job.specs.declared.sections.Layout.{Layout}
 use Rattle.job.specs.Layout.{layoutOf}
+use Rattle.job.specs.Plan.{entry, Whole}
+use Rattle.table.specs.Cells.{cellSize}
 use Rattle.monitor.specs.declared.entry.Outcome.{Outcome}
 use Rattle.monitor.specs.declared.entry.Outcome.the-variants.{Refused}
 use Rattle.actions.specs.Board.{capacity}
@@ -115,15 +116,19 @@ module _ (b : List ℕ) (budget places : ℕ) (x : Slices) where
         pub few : places ≤ maxNodes
         few = large .few
 
-        pub begun : 8 * min places maxNodes ≤ length (x .words) → (js : List ℕ) → maxRecords ≤ length js
-            → ((k : ℕ) → k < recordCount b → getD js k 0 ≡ goesTo (numberAt (script b)) (recordCount b) k)
-            → Begun b l js budget x (places)
-        begun room js long goes =
+        pub begun : cellSize * min places maxNodes ≤ length (x .words) → (p p′ : List ℕ)
+            → Whole (code b (scriptAt b)) (recordCount b) p p′ → Begun b l p′ budget x places
+        unfolding script
+        begun room p p′ w =
+            let r = right b ok in
             record {
               accepted = ok;
               layout = layout;
-              long = long;
-              goes = goes;
+              planned =
+                  record {
+                    each = λ k h. w .each k h ∙ ap (entry (code b (scriptAt b) k)) (jumps-agree b r k h);
+                    last = w .last;
+                  };
               spend = within spend;
               words = omega (arith, few, room);
               few = few;

@@ -9,8 +9,8 @@ use Prim.Native.Nat.{ℕ, zero, suc, _+_, _-_, _*_, _<_, _≤_}
 use native.Mathlib.Omega.{arith}
 use lib.ListN.{length, getD}
 use lib.IntN.{ℤ}
-use lib.Dec
-use borrow.Author.Tests
+use lib.Dec.{ltb}
+use borrow.Author.Tests.{ltb-true, ltb-false}
 use Rattle.rules.specs.Limits.{maxDepth, maxNodes, maxRecords, maxBudget, recordSize}
 use Rattle.rules.specs.Level.{secret}
 use Rattle.rules.specs.Tree.{child, sibling, root, to, up}
@@ -26,8 +26,11 @@ use Rattle.rules.proofs.Decode.{listed-length, listed-from-zero}
 use Rattle.rules.proofs.Nests.{nest, nest-room}
 use Rattle.rules.proofs.Exits.{goes-within}
 use Rattle.rules.proofs.Control.{Valid}
+use Rattle.rules.proofs.Tests.{Test, holds, fails, test}
 use Rattle.job.specs.declared.records.Fields.{Fields}
 use Rattle.job.specs.Fields.{fieldsOf, expressionFrom, commandFrom}
+use Rattle.job.specs.Plan.{codeOf, nextOf}
+use Rattle.job.proofs.Words.{code-entry, next-entry, code-mark}
 use Rattle.table.specs.Cells.{sideOf, Within}
 use Rattle.actions.specs.declared.evaluate.Valued.{Valued}
 use Rattle.actions.specs.declared.control.Running.{Running}
@@ -36,9 +39,9 @@ use Rattle.actions.specs.Guards.{Holds}
 use Rattle.actions.specs.Board.{capacity}
 use Rattle.actions.specs.Shows.{Slices, Reads, Readable}
 use Rattle.actions.specs.Acts.{Does, Kept, Acts, Evaluates, moveOf}
-use Rattle.actions.specs.Stands.{Stands, Timely}
+use Rattle.actions.specs.Stands.{Stands, Timely, stepped as answered, ended}
 use Rattle.actions.specs.Control.{Passes, Jumps, Leaves, Enters}
-use Rattle.monitor.specs.Steps.{Held, scriptIn, fieldsAt, Script, Safe, Lent, Steps}
+use Rattle.monitor.specs.Steps.{Held, scriptIn, fieldsAt, Script, Safe, Lent, Steps, Carries}
 use Rattle.actions.proofs.Doing.{kept-refl}
 use Rattle.actions.proofs.Stepping.{jump-steps, leave-steps}
 
@@ -93,13 +96,13 @@ module _ (h : Held) (sc : Script h) where
 
   -- the rules' step, by the fields of the record that comes next
   pub step-is : (lent : Buffers) (s : State) (i : ℕ) → i < h .records → s .at ≡ i
-      → step lent (scriptIn h) s ≡ carried s lent (getD (h .jumps) i 0) (commandFrom (fieldsAt h i))
+      → step lent (scriptIn h) s ≡ carried s lent (goesTo (numberAt (scriptIn h)) (h .records) i) (commandFrom (fieldsAt h i))
   unfolding step
-  step-is lent s i inside e = rw (e, script-length, ← sc .jumps i inside, spelled i inside)
+  step-is lent s i inside e = rw (e, script-length, spelled i inside)
 
   -- a step from the slices x and the running record r, whose command has the number c
   module _ (x : Slices) (r : Running) (sf : Safe h x r) (inside : r .at < h .records) (c : ℕ) (coded : c ≡ fieldsAt h (r .at) .command) (j : ℕ)
-      (goal : j ≡ getD (h .jumps) (r .at) 0)
+      (goal : j ≡ goesTo (numberAt (scriptIn h)) (h .records) (r .at))
     where
       -- the fields of the record
       abbrev f : Fields
@@ -165,7 +168,7 @@ module _ (h : Held) (sc : Script h) where
       numbered k d e w = ap (λ (n : ℕ). getD (commands (f .target) (expressionFrom f)) n (act Action.skip)) (sym coded ∙ e) ∙ w
 
       jump-within : j ≤ h .records
-      jump-within = rw (goal ∙ sc .jumps (r .at) inside) (goes-within (numberAt (scriptIn h)) (h .records) (sc .blocks) (r .at) inside)
+      jump-within = rw goal (goes-within (numberAt (scriptIn h)) (h .records) (sc .blocks) (r .at) inside)
 
       -- 3 and 5
       module _ (a : Stepped) where
@@ -304,6 +307,10 @@ pub from-seven : (k : ℕ) → (k ≡ 0 → ⊥) → (k ≡ 1 → ⊥) → (k �
 from-seven k a b c d e f g =
     above 6 k (above 5 k (above 4 k (above 3 k (above 2 k (above 1 k (above 0 k (omega arith) a) b) c) d) e) f) g
 
+-- the rest are not below 17
+pub from-seventeen : (k : ℕ) → 15 ≤ k → (k ≡ 15 → ⊥) → (k ≡ 16 → ⊥) → 17 ≤ k
+from-seventeen k l a b = above 16 k (above 15 k l a) b
+
 -- 11 and 12 have an expression
 pub insert-row : (k : ℕ) → 11 ≤ k → k < 13 → rowOf k .expression ≡ true
 unfolding rows
@@ -313,6 +320,56 @@ insert-row k l m = pick (k - 11) refl
     pick zero e = ap (λ (n : ℕ). rowOf n .expression) {x = k} {y = 11} (omega arith)
     pick (suc zero) e = ap (λ (n : ℕ). rowOf n .expression) {x = k} {y = 12} (omega arith)
     pick (suc (suc d)) e = absurd (omega arith)
+
+-- what the word of the plan says, by the number c that it holds
+module _ (h : Held) (sc : Script h) (x : Slices) (r : Running) (sf : Safe h x r) (c : ℕ) (read : c ≡ codeOf (getD (h .plan) (r .at) 0)) where
+  coded : r .at < h .records → c ≡ byte (h .bytes) (recordPlace (h .base) (r .at))
+  unfolding code
+  coded inside =
+      let m = command-in h sc (r .at) inside in
+      read ∙ ap codeOf (sc .plan .each (r .at) inside) ∙ code-entry _ _ (omega (arith, m))
+
+  -- a number below that of the end mark is a record's
+  pub inside-by : c < 17 → r .at < h .records
+  inside-by l = pick (test (ltb (r .at) (h .records)))
+    where
+      pick : Test (ltb (r .at) (h .records)) → r .at < h .records
+      pick (holds e) = ltb-true (r .at) (h .records) e
+      pick (fails e) =
+          let o = ltb-false (r .at) (h .records) e in
+          let at : r .at ≡ h .records = omega (arith, o, sf .within) in
+          let m : c ≡ 255 = read ∙ ap (λ (i : ℕ). codeOf (getD (h .plan) i 0)) at ∙ ap codeOf (sc .plan .last) ∙ code-mark in
+          absurd (omega (arith, m))
+
+  -- another is no record's
+  pub outside-by : 17 ≤ c → h .records ≤ r .at
+  outside-by l = pick (test (ltb (r .at) (h .records)))
+    where
+      pick : Test (ltb (r .at) (h .records)) → h .records ≤ r .at
+      pick (holds e) =
+          let i = ltb-true (r .at) (h .records) e in
+          absurd (omega (arith, coded i, command-in h sc (r .at) i))
+      pick (fails e) = ltb-false (r .at) (h .records) e
+
+  -- the command's number, and where it goes
+  module _ (inside : r .at < h .records) where
+    pub coded-by : c ≡ fieldsAt h (r .at) .command
+    unfolding fieldsOf
+    coded-by = coded inside
+
+    pub goal-by : (j : ℕ) → j ≡ nextOf (getD (h .plan) (r .at) 0) → j ≡ goesTo (numberAt (scriptIn h)) (h .records) (r .at)
+    unfolding code
+    goal-by j e =
+        let m = command-in h sc (r .at) inside in
+        e ∙ ap nextOf (sc .plan .each (r .at) inside) ∙ next-entry _ _ (omega (arith, m))
+
+-- a step, or the script's end
+module _ (h : Held) (x x′ : Slices) (r : Running) (a : Stepped) where
+  pub as-step : r .at < h .records → Steps h x x′ r a → Carries h x x′ r a
+  as-step inside s = record { steps = λ _. s; ends = λ o. absurd (omega arith) }
+
+pub as-end : (h : Held) (x : Slices) (r : Running) (a : Stepped) → h .records ≤ r .at → a ≡ answered ended r → Carries h x x r a
+as-end h x r a o e = record { steps = λ inside. absurd (omega arith); ends = λ _. (refl, e) }
 
 -- what the arms ask
 module _ (h : Held) (sc : Script h) (x : Slices) (r : Running) (sf : Safe h x r) (inside : r .at < h .records) where
@@ -325,11 +382,6 @@ module _ (h : Held) (sc : Script h) (x : Slices) (r : Running) (sf : Safe h x r)
   pub timely : r .steps < maxBudget → Timely r
   timely e = record { near = omega (arith, sc .few); early = e }
 
-  -- its command's number, as it is read
-  pub coded-by : (c : ℕ) → c ≡ code (h .bytes) (h .base) (r .at) → c ≡ fieldsAt h (r .at) .command
-  unfolding code fieldsOf
-  coded-by c e = e
-
   -- the record lies in the bytes
   pub record-there : recordPlace (h .base) (r .at) + recordSize ≤ length (h .bytes)
   record-there = omega (arith, sc .inside)
@@ -339,18 +391,16 @@ module _ (h : Held) (sc : Script h) (x : Slices) (r : Running) (sf : Safe h x r)
     unfolding fieldsOf
     command-is = sym coded
 
-    -- what reading the expression asks for, where there is one
-    pub expressed : rowOf c .expression ≡ true
-        → (recordPlace (h .base) (r .at) + recordSize ≤ length (h .bytes))
-        × (Readable (x .words) (x .levels) (x .values) (h .places) (h .vars) (r .memory) × Reads (h .vars) (fieldsAt h (r .at)))
-    expressed e = (record-there, (readable, reads h sc (r .at) inside (ap (λ (n : ℕ). rowOf n .expression) command-is ∙ e)))
+    -- its expression, where it has one, from the fields g that were read
+    module _ (g : Fields) (got : g ≡ fieldsAt h (r .at)) where
+      pub expressed : rowOf c .expression ≡ true → Readable (x .words) (x .levels) (x .values) (h .places) (h .vars) (r .memory) × Reads (h .vars) g
+      expressed e = (readable, subst (Reads (h .vars)) (sym got) (reads h sc (r .at) inside (ap (λ (n : ℕ). rowOf n .expression) command-is ∙ e)))
+
+      pub evaluated : {v : Valued} → Evaluates (x .words) (x .levels) (x .values) (h .places) (h .vars) (r .memory) (expressionFrom g) v
+          → Evaluates (x .words) (x .levels) (x .values) (h .places) (h .vars) (r .memory) (expressionFrom (fieldsAt h (r .at))) v
+      evaluated {v} e =
+          subst (λ (k : Fields). Evaluates (x .words) (x .levels) (x .values) (h .places) (h .vars) (r .memory) (expressionFrom k) v) got e
 
     pub target-by : c ≡ 1 → fieldsAt h (r .at) .target < h .vars
     unfolding rows fieldsOf
     target-by key = target-in h sc (r .at) inside (ap (λ (n : ℕ). (rowOf n) .target) (command-is ∙ key))
-
-    -- no number is left for the rest
-    pub no-rest : 15 ≤ c → (c ≡ 15 → ⊥) → (c ≡ 16 → ⊥) → ⊥
-    no-rest l a b =
-        let m : c < 17 = rw (← command-is) (command-in h sc (r .at) inside) in
-        omega (arith, above 16 c (above 15 c l a) b)

@@ -9,7 +9,7 @@ use lib.ListN.{length, drop}
 use lib.Seq.{drop-drop}
 use lib.Dec.{ltb, eqb}
 use lib.IntN.{ℤ}
-use borrow.Author.Tests.{lt-ltb, le-ltb, eq-eqb, eqb-true}
+use borrow.Author.Tests.{lt-ltb, le-ltb, eq-eqb, eqb-true, ltb-true, ltb-false}
 use Rattle.rules.specs.Limits.{maxBudget}
 use Rattle.rules.specs.Job.{scriptOf}
 use Rattle.rules.specs.Script.{Command}
@@ -24,7 +24,7 @@ use Rattle.actions.specs.declared.control.Stepped.{Stepped}
 use Rattle.actions.specs.Shows.{Slices, slices}
 use Rattle.actions.specs.Acts.{Does, Kept}
 use Rattle.actions.specs.Stands.{Stands, ended, stepped}
-use Rattle.monitor.specs.Steps.{Held, scriptIn, Script, Safe, Lent, Steps, codeOf, Ran, Runs, Comes, Reached, Startable, Turns}
+use Rattle.monitor.specs.Steps.{Held, scriptIn, Script, Safe, Lent, Steps, Carries, overAt, codeOf, Ran, Runs, Comes, Reached, Startable, Turns}
 use Rattle.actions.proofs.Doing.{kept-refl, stop-number}
 
 kept-trans : {places vars : ℕ} {x y z : Slices} {k m n : ℕ} → Kept places vars x y k m → Kept places vars y z m n → Kept places vars x z k n
@@ -60,7 +60,7 @@ module _ (h : Held) (sc : Script h) where
   starts sf = record { safe = sf; early = omega arith; kept = kept-refl; board = refl; comes = λ lent s l v st. record { s = s; valid = v; stands = st; rest = refl } }
 
   -- the script is over
-  pub finishes : (x : Slices) (r : Running) (left : ℕ) → h .records ≤ r .at → Runs h x x r left (stepped ended r)
+  finishes : (x : Slices) (r : Running) (left : ℕ) → h .records ≤ r .at → Runs h x x r left (stepped ended r)
   unfolding codeOf
   finishes x r left o =
       record {
@@ -71,7 +71,7 @@ module _ (h : Held) (sc : Script h) where
       }
 
   -- the budget is used up
-  pub spends : (x : Slices) (r : Running) (left : ℕ) → left ≡ 0 → r .at < h .records → Runs h x x r left (stepped 25 r)
+  spends : (x : Slices) (r : Running) (left : ℕ) → left ≡ 0 → r .at < h .records → Runs h x x r left (stepped 25 r)
   unfolding codeOf stopNumber
   spends x r left z o =
       rw z
@@ -80,6 +80,23 @@ module _ (h : Held) (sc : Script h) where
         kept = kept-refl;
         runs = λ lent s l v st. rw (run-spent lent (scriptIn h) s (more lent s (r .at) (st .at) o)) (record { ending = refl; last = st });
       })
+
+  -- all steps are made, and the script may be over too
+  stands-still : (x : Slices) (r : Running) (left : ℕ) → left ≡ 0 → Runs h x x r left (stepped (overAt (r .at) (h .records)) r)
+  unfolding overAt
+  stands-still x r left z = pick (test (ltb (r .at) (h .records)))
+    where
+      pick : Test (ltb (r .at) (h .records)) → Runs h x x r left (stepped (overAt (r .at) (h .records)) r)
+      pick (holds e) = rw e (spends x r left z (ltb-true (r .at) (h .records) e))
+      pick (fails e) = rw e (finishes x r left (ltb-false (r .at) (h .records) e))
+
+  over-stops : (r : Running) → overAt (r .at) (h .records) ≡ 0 → ⊥
+  unfolding overAt
+  over-stops r = pick (ltb (r .at) (h .records))
+    where
+      pick : (b : Bool) → cond b 25 ended ≡ 0 → ⊥
+      pick true e = omega arith
+      pick false e = omega arith
 
   module _ {x x′ : Slices} {r : Running} {a : Stepped} (inside : r .at < h .records) (t : Steps h x x′ r a) (left : ℕ) where
     module _ (lent : Buffers) (s : State) (l : Lent h x lent) (v : Valid (scriptIn h) s) (st : Stands (h .places) (h .vars) x r s) where
@@ -119,11 +136,11 @@ module _ (h : Held) (sc : Script h) where
 
   module _ {x x′ : Slices} {r : Running} (limit : ℕ) where
     -- a turn that has ended the run
-    pub ended-turn : {a : Stepped} → (a .stop ≡ 0 → ⊥) → Runs h x x′ r (limit - r .steps) a → Turns h x x′ r limit a
+    ended-turn : {a : Stepped} → (a .stop ≡ 0 → ⊥) → Runs h x x′ r (limit - r .steps) a → Turns h x x′ r limit a
     ended-turn n d = record { goes = λ z. absurd (n z); later = λ z. absurd (n z); ends = λ _. d }
 
     -- a turn that was a step
-    pub step-turn : {a : Stepped} → r .at < h .records → r .steps < limit → Steps h x x′ r a → Turns h x x′ r limit a
+    step-turn : {a : Stepped} → r .at < h .records → r .steps < limit → Steps h x x′ r a → Turns h x x′ r limit a
     step-turn {a} inside early t =
         let e : suc (limit - suc (r .steps)) ≡ limit - r .steps = omega (arith, early) in
         record {
@@ -133,6 +150,23 @@ module _ (h : Held) (sc : Script h) where
           later = λ z. (t .counted z, omega (arith, early, t .counted z));
           ends = λ z. subst (λ (k : ℕ). Runs h x x′ r k a) e (stops-here inside t _ z);
         }
+
+  -- a turn with no step left
+  pub still-turn : {x : Slices} {r : Running} (limit : ℕ) {a : Stepped} → a ≡ stepped (overAt (r .at) (h .records)) r → limit ≤ r .steps
+      → Turns h x x r limit a
+  still-turn {x} {r} limit e o =
+      subst (Turns h x x r limit) (sym e) (ended-turn limit (over-stops r) (stands-still x r (limit - r .steps) (omega (arith, o))))
+
+  -- a turn that carried out what came next
+  pub carried-turn : {x x′ : Slices} {r : Running} (limit : ℕ) {a : Stepped} → r .steps < limit → Carries h x x′ r a → Turns h x x′ r limit a
+  carried-turn {x} {x′} {r} limit {a} early c = pick (test (ltb (r .at) (h .records)))
+    where
+      pick : Test (ltb (r .at) (h .records)) → Turns h x x′ r limit a
+      pick (holds e) = let i = ltb-true (r .at) (h .records) e in step-turn limit i early (c .steps i)
+      pick (fails e) =
+          let o = ltb-false (r .at) (h .records) e in
+          subst (λ z. Turns h x z r limit a) (sym (c .ends o .0))
+          (subst (Turns h x x r limit) (sym (c .ends o .1)) (ended-turn limit (λ z. omega (arith, z)) (finishes x r (limit - r .steps) o)))
 
 -- what was reached from there was reached from the start
 module _ {h : Held} {x₀ x : Slices} {r₀ r : Running} {budget left : ℕ} (d : Reached h x₀ r₀ budget x r left) where

@@ -12,7 +12,7 @@ use base.Fml.{Lft, Share, flft, ftrue}
 use types.Kit.{Item, ‵, _⊛_}
 use denote.RattleType.{RattleType}
 use denote.Laws.{Is}
-use denote.Builtin.{u8, u16, u32, usize, i32}
+use denote.Builtin.{u8, u32, usize, i32}
 use denote.Ref.{RefT}
 use denote.Slice.{sliceVal, MutSlice, ShrSlice, Room}
 use denote.Steps.{only}
@@ -41,7 +41,7 @@ pub record Passed : Type 0 where
   pub q₅ : Share
   pub q₆ : Share
   pub job : RefT (List ℕ)
-  pub jumps : RefT (List ℕ)
+  pub plan : RefT (List ℕ)
   pub levels : RefT (List ℕ)
   pub f : Frame
   pub limit : ℕ
@@ -93,7 +93,7 @@ passed κs qs a =
       q₅ = qs .1 .1 .1 .1 .0;
       q₆ = qs .1 .1 .1 .1 .1 .0;
       job = a .0;
-      jumps = a .1 .0;
+      plan = a .1 .0;
       levels = a .1 .1 .0;
       f = x .0;
       limit = x .1 .0;
@@ -110,18 +110,18 @@ module _ (s : Passed) where
   sharesOf = (s .q₁, (s .q₂, (s .q₃, (s .q₄, (s .q₅, (s .q₆, tt))))))
 
   abbrev pub argsOf : Args
-  argsOf = (s .job, (s .jumps, (s .levels, (s .f, (s .limit, (s .words, (s .values, (s .lines, tt))))))))
+  argsOf = (s .job, (s .plan, (s .levels, (s .f, (s .limit, (s .words, (s .values, (s .lines, tt))))))))
 
   abbrev pub Rest : List RattleType
   Rest =
-      ShrSlice (named 1) (s .κ₁) u8 ∷ ShrSlice (named 2) (s .κ₂) u16 ∷ ShrSlice (named 3) (s .κ₃) u8 ∷ F.the-row ∷ usize
+      ShrSlice (named 1) (s .κ₁) u8 ∷ ShrSlice (named 2) (s .κ₂) u32 ∷ ShrSlice (named 3) (s .κ₃) u8 ∷ F.the-row ∷ usize
       ∷ MutSlice (named 4) (s .κ₄) u32 ∷ MutSlice (named 5) (s .κ₅) i32 ∷ MutSlice (named 6) (s .κ₆) u8 ∷ []
 
   abbrev pub valsOf : Vals
   valsOf = (
     sliceOf (s .job) ∷ [],
     (
-      sliceOf (s .jumps) ∷ [],
+      sliceOf (s .plan) ∷ [],
       (
         sliceOf (s .levels) ∷ [],
         (frameVal (s .f) ∷ [], (vint w64 (s .limit) ∷ [], (sliceOf (s .words) ∷ [], (sliceOf (s .values) ∷ [], (sliceOf (s .lines) ∷ [], tt))))),
@@ -132,7 +132,7 @@ module _ (s : Passed) where
   -- the same values in one list
   abbrev pub listed : List Val
   listed =
-      sliceOf (s .job) ∷ sliceOf (s .jumps) ∷ sliceOf (s .levels) ∷ frameVal (s .f) ∷ vint w64 (s .limit) ∷ sliceOf (s .words)
+      sliceOf (s .job) ∷ sliceOf (s .plan) ∷ sliceOf (s .levels) ∷ frameVal (s .f) ∷ vint w64 (s .limit) ∷ sliceOf (s .words)
       ∷ sliceOf (s .values) ∷ sliceOf (s .lines) ∷ []
 
   -- the tokens of the slices' lifetimes
@@ -144,7 +144,7 @@ module _ (s : Passed) where
   -- what a machine can hold of them
   pub record Sized : Type 0 where
     pub job : Room u8 (length (s .job .now))
-    pub jumps : Room u16 (length (s .jumps .now))
+    pub plan : Room u32 (length (s .plan .now))
     pub levels : Room u8 (length (s .levels .now))
     pub frame : Is F.the-row (s .f) (frameVal (s .f) ∷ [])
     pub limit : s .limit < 2 ^ 64
@@ -154,7 +154,7 @@ module _ (s : Passed) where
 
   -- what the contracts speak of
   abbrev pub heldOf : Held
-  heldOf = held (s .job .now) (s .jumps .now) (s .f)
+  heldOf = held (s .job .now) (s .plan .now) (s .f)
 
   abbrev pub slicesOf : Slices
   slicesOf = slices (s .words .now) (s .levels .now) (s .values .now) (s .lines .now)

@@ -30,7 +30,7 @@ use Rattle.job.specs.declared.sections.Layout.{Layout}
 use Rattle.job.specs.Layout.{layoutOf}
 use Rattle.table.specs.Cells.{cells}
 use Rattle.table.specs.Holds.{Holds}
-use Rattle.table.specs.Promises.{Loadable, Loaded}
+use Rattle.table.specs.Promises.{Behind, Loadable, Loaded}
 use Rattle.actions.specs.declared.guards.Guards.{Guards}
 use Rattle.actions.specs.declared.control.Running.{Running}
 use Rattle.actions.specs.declared.control.Stepped.{Stepped}
@@ -73,18 +73,18 @@ frame l places = record { script = l .script; records = l .records; vars = l .va
 abbrev pub startOf : Layout → Guards → Running
 startOf l g = record { memory = record { cursor = 0; level = 0; lines = 0; free = 65535; used = l .nodes }; guards = g; at = 0; steps = 0 }
 
-module _ (b jumps : List ℕ) (budget : ℕ) (x : Slices) (places : ℕ) (ok : checkBytes b ≡ Check.accepted) (g : Begun b (layoutOf b) jumps budget x places) where
+module _ (b plan : List ℕ) (budget : ℕ) (x : Slices) (places : ℕ) (ok : checkBytes b ≡ Check.accepted) (g : Begun b (layoutOf b) plan budget x places) where
   r : Right b
   r = right b ok
 
   -- the script that the run goes by is the job's
-  same-script : scriptIn (held b jumps (frame (layoutOf b) places)) ≡ script b
+  same-script : scriptIn (held b plan (frame (layoutOf b) places)) ≡ script b
   unfolding layoutOf script
   same-script = refl
 
-  pub scripted : Script (held b jumps (frame (layoutOf b) places))
+  pub scripted : length plan ≡ 1025 → Script (held b plan (frame (layoutOf b) places))
   unfolding layoutOf script
-  scripted =
+  scripted long =
       let s = sections b (r .offsets) in
       let n = counts _ _ _ (r .counts) in
       record {
@@ -92,13 +92,14 @@ module _ (b jumps : List ℕ) (budget : ℕ) (x : Slices) (places : ℕ) (ok : c
         few = n .records;
         fields = r .records;
         blocks = blocks-right b r;
-        long = omega (arith, n .records, g .long);
-        jumps = g .goes;
+        long = omega (arith, n .records, long);
+        plan = g .planned;
       }
 
   -- the slices after loading
   module _ (x₁ : Slices) (gs : Guards) (none : Guarded gs []) (vl : VariablesLoaded b (variableCount b) (x .levels) (x₁ .levels) (x .values) (x₁ .values))
-      (tl : Loaded b (nodesAt b) (nodeCount b) (cells (x₁ .words))) (board : x₁ .board ≡ x .board) where
+      (tl : Loaded b (nodesAt b) (nodeCount b) (cells (x₁ .words))) (bl : Behind (nodeCount b) (cells (x .words)) (cells (x₁ .words)))
+      (board : x₁ .board ≡ x .board) where
     shown-variables : Variables (x₁ .levels) (x₁ .values) (variableCount b) (variables b)
     unfolding variables variableAt
     shown-variables =
@@ -126,12 +127,12 @@ module _ (b jumps : List ℕ) (budget : ℕ) (x : Slices) (places : ℕ) (ok : c
 
     -- what the run leaves
     module _ (x₂ : Slices) (levels : x₂ .levels ≡ x₁ .levels) (a : Stepped)
-        (rs : Runs (held b jumps (frame (layoutOf b) places)) x₁ x₂ (startOf (layoutOf b) gs) budget a) (lent : Buffers)
+        (rs : Runs (held b plan (frame (layoutOf b) places)) x₁ x₂ (startOf (layoutOf b) gs) budget a) (lent : Buffers)
         (lp : lent .places ≡ places) (lb : lent .lines ≡ capacity (x .board)) where
       e : Ended
       e = run lent (script b) budget (begin b)
 
-      ran : Rattle.monitor.specs.Steps.Ran (held b jumps (frame (layoutOf b) places)) x₂ a (run lent (script b) budget (begin b))
+      ran : Rattle.monitor.specs.Steps.Ran (held b plan (frame (layoutOf b) places)) x₂ a (run lent (script b) budget (begin b))
       unfolding layoutOf script
       ran = rs .runs lent (begin b) (record { places = lp; board = lb ∙ ap capacity (sym board) }) (begin-valid b (loads b ok)) begins
 
@@ -161,13 +162,14 @@ module _ (b jumps : List ℕ) (budget : ℕ) (x : Slices) (places : ℕ) (ok : c
 
     -- the two together
     pub left : (x₂ : Slices) → x₂ .levels ≡ x₁ .levels → (a : Stepped)
-        → Runs (held b jumps (frame (layoutOf b) places)) x₁ x₂ (startOf (layoutOf b) gs) budget a → Left b budget places x x₂ (outcomeOf a)
-    left x₂ same a rs = record { outcome = λ lent lp lb. answers x₂ same a rs lent lp lb; leaves = λ lent lp lb. leaves x₂ same a rs lent lp lb }
+        → Runs (held b plan (frame (layoutOf b) places)) x₁ x₂ (startOf (layoutOf b) gs) budget a → Left b budget places x x₂ (outcomeOf a)
+    unfolding layoutOf
+    left x₂ same a rs = record { outcome = λ lent lp lb. answers x₂ same a rs lent lp lb; behind = record { same = λ y h. rs .kept .cells .same y h ∙ bl .same y (omega (arith, g .nodes, h)) }; leaves = λ lent lp lb. leaves x₂ same a rs lent lp lb }
 
 -- the same for a layout that is the job's: what the functions called ask for, and what they leave
-module _ (b jumps : List ℕ) (budget : ℕ) (x : Slices) (places : ℕ) (l : Layout) (g : Begun b l jumps budget x places) where
-  here : Begun b (layoutOf b) jumps budget x places
-  here = subst (λ (k : Layout). Begun b k jumps budget x places) (g .layout) g
+module _ (b plan : List ℕ) (budget : ℕ) (x : Slices) (places : ℕ) (l : Layout) (g : Begun b l plan budget x places) where
+  here : Begun b (layoutOf b) plan budget x places
+  here = subst (λ (k : Layout). Begun b k plan budget x places) (g .layout) g
 
   pub loading : Loading b (x .levels) (x .values) (l .variables)
   unfolding layoutOf
@@ -183,11 +185,11 @@ module _ (b jumps : List ℕ) (budget : ℕ) (x : Slices) (places : ℕ) (l : La
       rw (g .layout)
       (record { whole = omega (arith, s .nodes, s .records); long = omega (arith, here .words, here .nodes); some = n .some; few = n .nodes })
 
-  pub ready : Script (held b jumps (frame l places))
-  ready = rw (g .layout) (scripted b jumps budget x places (g .accepted) here)
+  pub ready : length plan ≡ 1025 → Script (held b plan (frame l places))
+  ready = rw (g .layout) (scripted b plan budget x places (g .accepted) here)
 
   pub safe : (w vs : List ℕ) (us : List ℤ) (gs : Guards) → length w ≡ length (x .words) → length vs ≡ length (x .levels)
-      → length us ≡ length (x .values) → Safe (held b jumps (frame l places)) (slices w vs us (x .board)) (startOf l gs)
+      → length us ≡ length (x .values) → Safe (held b plan (frame l places)) (slices w vs us (x .board)) (startOf l gs)
   safe w vs us gs e e₁ e₂ =
       record {
         long = omega (arith, g .words, e);
@@ -200,10 +202,10 @@ module _ (b jumps : List ℕ) (budget : ℕ) (x : Slices) (places : ℕ) (l : La
       }
 
   pub left-of : (x₁ : Slices) (gs : Guards) → Guarded gs [] → VariablesLoaded b (l .variables) (x .levels) (x₁ .levels) (x .values) (x₁ .values)
-      → Loaded b (l .tree) (l .nodes) (cells (x₁ .words)) → x₁ .board ≡ x .board → (x₂ : Slices) → x₂ .levels ≡ x₁ .levels → (a : Stepped)
-      → Runs (held b jumps (frame l places)) x₁ x₂ (startOf l gs) (budget - 0) a → Left b budget places x x₂ (outcomeOf a)
+      → Loaded b (l .tree) (l .nodes) (cells (x₁ .words)) → Behind (l .nodes) (cells (x .words)) (cells (x₁ .words)) → x₁ .board ≡ x .board → (x₂ : Slices) → x₂ .levels ≡ x₁ .levels → (a : Stepped)
+      → Runs (held b plan (frame l places)) x₁ x₂ (startOf l gs) (budget - 0) a → Left b budget places x x₂ (outcomeOf a)
   unfolding layoutOf
   left-of =
       rw (g .layout)
-      (λ x₁ gs none vl tl board x₂ same a rs. left b jumps budget x places (g .accepted) here x₁ gs none vl tl board x₂ same a
-      (subst (λ (k : ℕ). Runs (held b jumps (frame (layoutOf b) places)) x₁ x₂ (startOf (layoutOf b) gs) k a) {x = budget - 0} (omega arith) rs))
+      (λ x₁ gs none vl tl bl board x₂ same a rs. left b plan budget x places (g .accepted) here x₁ gs none vl tl bl board x₂ same a
+      (subst (λ (k : ℕ). Runs (held b plan (frame (layoutOf b) places)) x₁ x₂ (startOf (layoutOf b) gs) k a) {x = budget - 0} (omega arith) rs))

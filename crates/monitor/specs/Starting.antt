@@ -6,10 +6,8 @@ use mathlib.Core.List.{List}
 use lib.ListN.{length, getD}
 use lib.IntN.{ℤ, pos}
 use lib.Dec.{eqb, leb}
-use Rattle.rules.specs.Limits.{maxNodes, maxRecords, maxBudget, variableSize}
-use Rattle.rules.specs.Bytes.{variablePlace, variableCount, recordCount}
-use Rattle.rules.specs.Blocks.{goesTo}
-use Rattle.rules.specs.Script.{numberAt}
+use Rattle.rules.specs.Limits.{maxNodes, maxBudget, variableSize}
+use Rattle.rules.specs.Bytes.{variablePlace, variableCount, scriptAt, recordCount}
 use Rattle.rules.specs.Check as Check
 use Rattle.rules.specs.Check.{checkBytes}
 use Rattle.rules.specs.Job.{variableOf, script}
@@ -18,13 +16,15 @@ use Rattle.rules.specs.Outcome as Rules
 use Rattle.rules.specs.Outcome.{begin}
 use Rattle.job.specs.declared.sections.Layout.{Layout}
 use Rattle.job.specs.Layout.{layoutOf}
-use Rattle.table.specs.Cells.{cellSize}
+use Rattle.table.specs.Cells.{cellSize, cells}
+use Rattle.table.specs.Promises.{Behind}
 use Rattle.actions.specs.declared.control.Stepped.{Stepped}
 use Rattle.monitor.specs.declared.entry.Outcome.{Outcome}
 use Rattle.monitor.specs.declared.entry.Outcome.the-variants.{Finished, Stopped}
 use Rattle.actions.specs.Board.{capacity}
 use Rattle.actions.specs.Shows.{Slices}
 use Rattle.actions.specs.Stands.{ended}
+use Rattle.monitor.specs.Steps.{Planned}
 use Rattle.monitor.specs.Promises.{told, Lent, lent, Tree, Ran}
 
 -- the outcome of a run that has ended
@@ -50,12 +50,11 @@ pub record VariablesLoaded (b : List ℕ) (n : ℕ) (levels levels′ : List ℕ
 unfoldable pub bufferTest : ℕ → ℕ → ℕ → ℕ → Bool
 bufferTest nodes variables places room = leb 1 places && leb places maxNodes && leb nodes places && leb variables room
 
--- an accepted job with its layout and jumps, a budget, and buffers that are large enough
-pub record Begun (b : List ℕ) (l : Layout) (jumps : List ℕ) (budget : ℕ) (x : Slices) (places : ℕ) : Type 0 where
+-- an accepted job with its layout and plan, a budget, and buffers that are large enough
+pub record Begun (b : List ℕ) (l : Layout) (plan : List ℕ) (budget : ℕ) (x : Slices) (places : ℕ) : Type 0 where
   pub accepted : checkBytes b ≡ Check.accepted
   pub layout : l ≡ layoutOf b
-  pub long : maxRecords ≤ length jumps
-  pub goes : (k : ℕ) → k < recordCount b → getD jumps k 0 ≡ goesTo (numberAt (script b)) (recordCount b) k
+  pub planned : Planned b (scriptAt b) (recordCount b) plan
   pub spend : budget ≤ maxBudget
   pub words : cellSize * places ≤ length (x .words)
   pub few : places ≤ maxNodes
@@ -71,5 +70,6 @@ asLent x = lent (x .words) (x .levels) (x .values) (x .board)
 pub record Left (b : List ℕ) (budget places : ℕ) (x x′ : Slices) (r : Outcome) : Type 0 where
   pub outcome : (given : Buffers) → given .places ≡ places → given .lines ≡ capacity (x .board)
       → r ≡ told (Rules.ran (run given (script b) budget (begin b)))
+  pub behind : Behind places (cells (x .words)) (cells (x′ .words))
   pub leaves : (given : Buffers) → given .places ≡ places → given .lines ≡ capacity (x .board)
       → Ran Tree (variableCount b) places (asLent x) (asLent x′) (run given (script b) budget (begin b))

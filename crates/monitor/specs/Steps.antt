@@ -1,13 +1,14 @@
 -- What a step and a run promise. Assumes nothing.
 use mathlib.Core.Path.{_≡_}
-use mathlib.Core.Bool.{true}
+use mathlib.Core.Bool.{true, cond}
 use Prim.Native.Nat.{ℕ, suc, _+_, _-_, _*_, _<_, _≤_}
 use mathlib.Core.List.{List}
 use lib.ListN.{length, getD}
+use lib.Dec.{ltb}
 use Rattle.rules.specs.Limits.{maxNodes, maxRecords, maxBudget}
 use Rattle.rules.specs.Bytes.{recordPlace}
 use Rattle.rules.specs.Blocks.{blockRule, goesTo}
-use Rattle.rules.specs.Check.{recordRule}
+use Rattle.rules.specs.Check.{recordRule, code}
 use Rattle.rules.specs.Job.{scriptOf}
 use Rattle.rules.specs.Script.{Command, numberAt}
 use Rattle.rules.specs.Run as Run
@@ -16,27 +17,28 @@ use Rattle.rules.proofs.Control.{Valid}
 use Rattle.table.specs.Cells.{cellSize}
 use Rattle.job.specs.declared.records.Fields.{Fields}
 use Rattle.job.specs.Fields.{fieldsOf}
+use Rattle.job.specs.Plan.{entry, endMark}
 use Rattle.actions.specs.declared.control.Running.{Running}
 use Rattle.actions.specs.declared.control.Stepped.{Stepped}
 use Rattle.monitor.specs.declared.step.Frame.{Frame}
 use Rattle.actions.specs.Board.{capacity}
 use Rattle.actions.specs.Shows.{Slices}
-use Rattle.actions.specs.Stands.{Stands, ended}
+use Rattle.actions.specs.Stands.{Stands, ended, stepped}
 use Rattle.actions.specs.Acts.{Does, Kept}
 
--- what a run reads only: a job's bytes, where the script starts in them and how many records it has, where each record jumps to, and how many
--- variables and places there are
+-- what a run reads only: a job's bytes, where the script starts in them and how many records it has, its plan, and how many variables and places
+-- there are
 pub record Held : Type 0 where
   pub bytes : List ℕ
   pub base : ℕ
   pub records : ℕ
-  pub jumps : List ℕ
+  pub plan : List ℕ
   pub vars : ℕ
   pub places : ℕ
 
--- the same by a job's bytes, the jumps and a frame
+-- the same by a job's bytes, the plan and a frame
 abbrev pub held : List ℕ → List ℕ → Frame → Held
-held b js f = record { bytes = b; base = f .script; records = f .records; jumps = js; vars = f .vars; places = f .places }
+held b p f = record { bytes = b; base = f .script; records = f .records; plan = p; vars = f .vars; places = f .places }
 
 -- the script that it holds
 abbrev pub scriptIn : Held → List Command
@@ -46,14 +48,19 @@ scriptIn h = scriptOf (h .bytes) (h .base) (h .records)
 abbrev pub fieldsAt : Held → ℕ → Fields
 fieldsAt h i = fieldsOf (h .bytes) (recordPlace (h .base) i)
 
--- a script that has passed the checks 7 and 8, with its jumps
+-- the plan of a script: for each record its command and where it goes if not to the next, and the end mark behind the last
+pub record Planned (bytes : List ℕ) (base n : ℕ) (plan : List ℕ) : Type 0 where
+  pub each : (k : ℕ) → k < n → getD plan k 0 ≡ entry (code bytes base k) (goesTo (numberAt (scriptOf bytes base n)) n k)
+  pub last : getD plan n 0 ≡ endMark
+
+-- a script that has passed the checks 7 and 8, with its plan
 pub record Script (h : Held) : Type 0 where
   pub inside : recordPlace (h .base) (h .records) ≤ length (h .bytes)
   pub few : h .records ≤ maxRecords
   pub fields : (i : ℕ) → i < h .records → recordRule (h .bytes) (h .vars) (recordPlace (h .base) i) ≡ true
   pub blocks : (i : ℕ) → i < suc (h .records) → blockRule (numberAt (scriptIn h)) (h .records) i ≡ true
-  pub long : h .records ≤ length (h .jumps)
-  pub jumps : (i : ℕ) → i < h .records → getD (h .jumps) i 0 ≡ goesTo (numberAt (scriptIn h)) (h .records) i
+  pub long : h .records < length (h .plan)
+  pub plan : Planned (h .bytes) (h .base) (h .records) (h .plan)
 
 -- a running record that a step can go on from, over the slices x
 pub record Safe (h : Held) (x : Slices) (r : Running) : Type 0 where
@@ -79,6 +86,15 @@ pub record Steps (h : Held) (x x′ : Slices) (r : Running) (a : Stepped) : Type
   pub board : length (x′ .board) ≡ length (x .board)
   pub steps : (lent : Buffers) (s : State) → Lent h x lent → Valid (scriptIn h) s → Stands (h .places) (h .vars) x r s
       → Does (Stands (h .places) (h .vars) x′ (a .running)) (a .stop) s (step lent (scriptIn h) s)
+
+-- what comes of the record that is next: a step, or behind the last the script's end
+pub record Carries (h : Held) (x x′ : Slices) (r : Running) (a : Stepped) : Type 0 where
+  pub steps : r .at < h .records → Steps h x x′ r a
+  pub ends : h .records ≤ r .at → (x′ ≡ x) × (a ≡ stepped ended r)
+
+-- how a run ends at a record, of n, that has made all its steps
+unfoldable pub overAt : ℕ → ℕ → ℕ
+overAt at n = cond (ltb at n) 25 ended
 
 -- the number that a step hands back for an ending
 unfoldable pub codeOf : Ending → ℕ

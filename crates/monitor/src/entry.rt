@@ -7,19 +7,20 @@ use actions::control::Stepped;
 use actions::guards;
 use actions::memory::Memory;
 use job::Checked;
+use job::plan::WORDS;
 use job::prepare;
 use job::sections::Layout;
 use rules::limits::BAD_BUDGET;
 use rules::limits::BAD_BUFFERS;
 use rules::limits::MAX_BUDGET;
 use rules::limits::MAX_NODES;
-use rules::limits::MAX_RECORDS;
 use table::records;
 ghost use mathlib.Core.Path.{_≡_};
 ghost use Prim.Native.Nat.{_*_, _≤_, min};
 ghost use lib.ListN.{length};
 ghost use Rattle.rules.specs.Limits.{maxNodes, maxBudget};
-ghost use Rattle.table.specs.Cells.{cellSize};
+ghost use Rattle.table.specs.Cells.{cellSize, cells};
+ghost use Rattle.table.specs.Promises.{Behind};
 ghost use Rattle.rules.specs.Outcome.{budgetRule};
 ghost use Rattle.actions.specs.Shows.{slices};
 ghost use Rattle.monitor.specs.Promises.{lent, placesIn, Tree, Promises};
@@ -99,7 +100,7 @@ fn ended(a: Stepped) -> Outcome
 fn run_accepted(
     job: &[u8],
     l: Layout,
-    jumps: &[u16],
+    plan: &[u32; WORDS],
     budget: usize,
     words: &mut [u32],
     places: usize,
@@ -107,7 +108,7 @@ fn run_accepted(
     values: &mut [i32],
     lines: &mut [u8],
 ) -> Outcome
-    requires { ⌜ Begun (now job) l (now jumps) budget (slices (now words) (now levels) (now values) (now lines)) places ⌝ }
+    requires { ⌜ Begun (now job) l (now plan) budget (slices (now words) (now levels) (now values) (now lines)) places ⌝ }
     ensures { λ r. ⌜ Left (now (job .entry)) budget places (slices (now (words .entry)) (now (levels .entry)) (now (values .entry)) (now (lines .entry)))
         (slices (now (words .exit)) (now (levels .exit)) (now (values .exit)) (now (lines .exit))) r ⌝ }
 {
@@ -135,7 +136,7 @@ fn run_accepted(
     ended(run_from(
         start,
         job,
-        jumps,
+        plan,
         levels,
         frame,
         budget,
@@ -159,10 +160,11 @@ pub fn run_places(
     requires { ⌜ cellSize * min places maxNodes ≤ length (now words) ⌝ }
     ensures { λ r. ⌜ Promises (λ _. places) Tree (now (job .entry)) budget
         (lent (now (words .entry)) (now (levels .entry)) (now (values .entry)) (now (lines .entry)))
-        (lent (now (words .exit)) (now (levels .exit)) (now (values .exit)) (now (lines .exit))) r ⌝ }
+        (lent (now (words .exit)) (now (levels .exit)) (now (values .exit)) (now (lines .exit))) r
+        × Behind places (cells (now (words .entry))) (cells (now (words .exit))) ⌝ }
 {
-    let mut jumps = [0u16; MAX_RECORDS];
-    let checked = prepare(job, &mut jumps);
+    let mut plan = [0u32; WORDS];
+    let checked = prepare(job, &mut plan);
     match checked {
         Checked::Refused { number, index } => Outcome::Refused { number, index },
         Checked::Accepted(l) => {
@@ -182,7 +184,7 @@ pub fn run_places(
             run_accepted(
                 job,
                 l,
-                &jumps,
+                &plan,
                 budget as usize,
                 words,
                 places,
@@ -205,7 +207,8 @@ pub fn run_words(
 ) -> Outcome
     ensures { λ r. ⌜ Promises placesIn Tree (now (job .entry)) budget
         (lent (now (words .entry)) (now (levels .entry)) (now (values .entry)) (now (lines .entry)))
-        (lent (now (words .exit)) (now (levels .exit)) (now (values .exit)) (now (lines .exit))) r ⌝ }
+        (lent (now (words .exit)) (now (levels .exit)) (now (values .exit)) (now (lines .exit))) r
+        × Behind (placesIn (now (words .entry))) (cells (now (words .entry))) (cells (now (words .exit))) ⌝ }
 {
     let places = words.len() / table::CELL;
     run_places(job, budget, places, words, levels, values, lines)

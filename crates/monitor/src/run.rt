@@ -4,18 +4,26 @@ use super::step::carry_out;
 use actions::control::FINISHED;
 use actions::control::Running;
 use actions::control::Stepped;
+use actions::control::halt;
 use rules::limits::SPENT;
 ghost use mathlib.Core.Path.{_≡_};
 ghost use Prim.Native.Nat.{_-_};
 ghost use Rattle.actions.specs.Shows.{slices};
 ghost use Rattle.actions.specs.Stands.{stepped};
-ghost use Rattle.monitor.specs.Steps.{held, Startable, Turns, Runs};
+ghost use Rattle.monitor.specs.Steps.{held, overAt, Startable, Turns, Runs};
+
+// How a run ends that has made all its steps: at the script's end it has finished.
+fn over(at: usize, records: usize) -> u8
+    ensures { λ r. ⌜ r ≡ overAt at records ⌝ }
+{
+    if at < records { SPENT } else { FINISHED }
+}
 
 // What comes next in a run that may make `limit` steps: the script's end, the budget's, a stop, or one step more.
 fn turn(
     r: Running,
     job: &[u8],
-    jumps: &[u16],
+    plan: &[u32],
     levels: &[u8],
     f: Frame,
     limit: usize,
@@ -23,31 +31,22 @@ fn turn(
     values: &mut [i32],
     lines: &mut [u8],
 ) -> Stepped
-    requires { ⌜ Startable (held (now job) (now jumps) f) (slices (now words) (now levels) (now values) (now lines)) r limit ⌝ }
-    ensures { λ a. ⌜ Turns (held (now (job .entry)) (now (jumps .entry)) f)
+    requires { ⌜ Startable (held (now job) (now plan) f) (slices (now words) (now levels) (now values) (now lines)) r limit ⌝ }
+    ensures { λ a. ⌜ Turns (held (now (job .entry)) (now (plan .entry)) f)
         (slices (now (words .entry)) (now (levels .entry)) (now (values .entry)) (now (lines .entry)))
         (slices (now (words .exit)) (now (levels .entry)) (now (values .exit)) (now (lines .exit))) r limit a ⌝ }
 {
-    if r.at >= f.records {
-        return Stepped {
-            stop: FINISHED,
-            running: r,
-        };
-    }
     if r.steps >= limit {
-        return Stepped {
-            stop: SPENT,
-            running: r,
-        };
+        return halt(r, over(r.at, f.records));
     }
-    carry_out(job, jumps, levels, f, words, values, lines, r)
+    carry_out(job, plan, levels, f, words, values, lines, r)
 }
 
 // One step of a run, on the running record that it is lent.
 fn step(
     r: &mut Running,
     job: &[u8],
-    jumps: &[u16],
+    plan: &[u32],
     levels: &[u8],
     f: Frame,
     limit: usize,
@@ -55,13 +54,13 @@ fn step(
     values: &mut [i32],
     lines: &mut [u8],
 ) -> u8
-    requires { ⌜ Startable (held (now job) (now jumps) f) (slices (now words) (now levels) (now values) (now lines)) (now r) limit ⌝ }
-    ensures { λ c. ⌜ Turns (held (now (job .entry)) (now (jumps .entry)) f)
+    requires { ⌜ Startable (held (now job) (now plan) f) (slices (now words) (now levels) (now values) (now lines)) (now r) limit ⌝ }
+    ensures { λ c. ⌜ Turns (held (now (job .entry)) (now (plan .entry)) f)
         (slices (now (words .entry)) (now (levels .entry)) (now (values .entry)) (now (lines .entry)))
         (slices (now (words .exit)) (now (levels .entry)) (now (values .exit)) (now (lines .exit))) (now (r .entry)) limit (stepped c (now (r .exit))) ⌝ }
 {
     let v = *r;
-    let a = turn(v, job, jumps, levels, f, limit, words, values, lines);
+    let a = turn(v, job, plan, levels, f, limit, words, values, lines);
     let t = a.running;
     *r = t;
     a.stop
@@ -71,7 +70,7 @@ fn step(
 fn run(
     r: &mut Running,
     job: &[u8],
-    jumps: &[u16],
+    plan: &[u32],
     levels: &[u8],
     f: Frame,
     limit: usize,
@@ -79,15 +78,15 @@ fn run(
     values: &mut [i32],
     lines: &mut [u8],
 ) -> u8
-    requires { ⌜ Startable (held (now job) (now jumps) f) (slices (now words) (now levels) (now values) (now lines)) (now r) limit ⌝ }
-    ensures { λ c. ⌜ Runs (held (now (job .entry)) (now (jumps .entry)) f)
+    requires { ⌜ Startable (held (now job) (now plan) f) (slices (now words) (now levels) (now values) (now lines)) (now r) limit ⌝ }
+    ensures { λ c. ⌜ Runs (held (now (job .entry)) (now (plan .entry)) f)
         (slices (now (words .entry)) (now (levels .entry)) (now (values .entry)) (now (lines .entry)))
         (slices (now (words .exit)) (now (levels .entry)) (now (values .exit)) (now (lines .exit))) (now (r .entry)) (limit - now (r .entry) .steps)
         (stepped c (now (r .exit))) ⌝ }
 {
     let mut ending = 0;
     while ending == 0 {
-        ending = step(r, job, jumps, levels, f, limit, words, values, lines);
+        ending = step(r, job, plan, levels, f, limit, words, values, lines);
     }
     ending
 }
@@ -102,7 +101,7 @@ fn halted(stop: u8, running: Running) -> Stepped
 pub fn run_from(
     start: Running,
     job: &[u8],
-    jumps: &[u16],
+    plan: &[u32],
     levels: &[u8],
     f: Frame,
     limit: usize,
@@ -110,12 +109,12 @@ pub fn run_from(
     values: &mut [i32],
     lines: &mut [u8],
 ) -> Stepped
-    requires { ⌜ Startable (held (now job) (now jumps) f) (slices (now words) (now levels) (now values) (now lines)) start limit ⌝ }
-    ensures { λ a. ⌜ Runs (held (now (job .entry)) (now (jumps .entry)) f)
+    requires { ⌜ Startable (held (now job) (now plan) f) (slices (now words) (now levels) (now values) (now lines)) start limit ⌝ }
+    ensures { λ a. ⌜ Runs (held (now (job .entry)) (now (plan .entry)) f)
         (slices (now (words .entry)) (now (levels .entry)) (now (values .entry)) (now (lines .entry)))
         (slices (now (words .exit)) (now (levels .entry)) (now (values .exit)) (now (lines .exit))) start (limit - start .steps) a ⌝ }
 {
     let mut r = start;
-    let stop = run(&mut r, job, jumps, levels, f, limit, words, values, lines);
+    let stop = run(&mut r, job, plan, levels, f, limit, words, values, lines);
     halted(stop, r)
 }

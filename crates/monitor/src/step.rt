@@ -1,17 +1,20 @@
 // The record that comes next, carried out.
+use actions::control::FINISHED;
 use actions::control::Running;
 use actions::control::Stepped;
 use actions::control::enter_if;
 use actions::control::enter_while;
+use actions::control::halt;
 use actions::control::jump;
 use actions::control::leave;
 use actions::control::onward;
-use actions::evaluate::expression;
+use actions::evaluate::evaluate;
 use actions::guards;
 use actions::moves;
 use actions::nodes;
 use actions::variables;
-use job::records::code_at;
+use job::plan::code;
+use job::plan::next;
 use job::records::fields_at;
 ghost use mathlib.Core.Path.{_≡_};
 ghost use Prim.Native.Nat.{_+_, _-_, _≤_, _<_};
@@ -20,7 +23,7 @@ ghost use Rattle.rules.specs.Limits.{maxBudget, recordSize};
 ghost use Rattle.rules.specs.Bytes.{recordPlace};
 ghost use Rattle.job.specs.Fields.{fieldsOf};
 ghost use Rattle.actions.specs.Shows.{slices};
-ghost use Rattle.monitor.specs.Steps.{held, Script, Safe, Steps};
+ghost use Rattle.monitor.specs.Steps.{held, Script, Safe, Carries};
 
 // Where the script starts in the job's bytes and how many records it has, how many variables there are, and how many places.
 pub struct Frame {
@@ -28,12 +31,6 @@ pub struct Frame {
     pub records: usize,
     pub vars: usize,
     pub places: usize,
-}
-
-fn index(x: u16) -> usize
-    ensures { λ r. ⌜ r ≡ x ⌝ }
-{
-    x as usize
 }
 
 // The target of record i, or its mark.
@@ -53,9 +50,10 @@ fn side(command: u8, first: u8) -> usize
     (command - first) as usize
 }
 
+// What the plan says of the record that comes next, done; the mark behind the last record is the match's rest.
 pub fn carry_out(
     job: &[u8],
-    jumps: &[u16],
+    plan: &[u32],
     levels: &[u8],
     f: Frame,
     words: &mut [u32],
@@ -63,10 +61,10 @@ pub fn carry_out(
     lines: &mut [u8],
     r: Running,
 ) -> Stepped
-    requires { ⌜ Script (held (now job) (now jumps) f)
-        × (Safe (held (now job) (now jumps) f) (slices (now words) (now levels) (now values) (now lines)) r
-        × ((r .at < f .records) × (r .steps < maxBudget))) ⌝ }
-    ensures { λ a. ⌜ Steps (held (now (job .entry)) (now (jumps .entry)) f)
+    requires { ⌜ Script (held (now job) (now plan) f)
+        × (Safe (held (now job) (now plan) f) (slices (now words) (now levels) (now values) (now lines)) r
+        × (r .steps < maxBudget)) ⌝ }
+    ensures { λ a. ⌜ Carries (held (now (job .entry)) (now (plan .entry)) f)
         (slices (now (words .entry)) (now (levels .entry)) (now (values .entry)) (now (lines .entry)))
         (slices (now (words .exit)) (now (levels .entry)) (now (values .exit)) (now (lines .exit))) r a ⌝ }
 {
@@ -76,12 +74,21 @@ pub fn carry_out(
     let places = f.places;
     let m = r.memory;
     let pc = guards::top(r.guards);
-    let command = code_at(job, base, at);
+    let word = plan[at];
+    let command = code(word);
     match command {
         0 => onward(r, m),
         1 => variables::assign(
             target(job, base, at),
-            expression(job, base, at, levels, values, vars, words, places, m),
+            evaluate(
+                fields_at(job, base, at),
+                levels,
+                values,
+                vars,
+                words,
+                places,
+                m,
+            ),
             levels,
             values,
             pc,
@@ -89,18 +96,42 @@ pub fn carry_out(
         ),
         2 => enter_if(
             r,
-            expression(job, base, at, levels, values, vars, words, places, m),
-            index(jumps[at]),
+            evaluate(
+                fields_at(job, base, at),
+                levels,
+                values,
+                vars,
+                words,
+                places,
+                m,
+            ),
+            next(word),
         ),
-        3 => jump(r, index(jumps[at])),
+        3 => jump(r, next(word)),
         4 => enter_while(
             r,
-            expression(job, base, at, levels, values, vars, words, places, m),
-            index(jumps[at]),
+            evaluate(
+                fields_at(job, base, at),
+                levels,
+                values,
+                vars,
+                words,
+                places,
+                m,
+            ),
+            next(word),
         ),
-        5 => leave(r, index(jumps[at])),
+        5 => leave(r, next(word)),
         6 => variables::output(
-            expression(job, base, at, levels, values, vars, words, places, m),
+            evaluate(
+                fields_at(job, base, at),
+                levels,
+                values,
+                vars,
+                words,
+                places,
+                m,
+            ),
             lines,
             pc,
             r,
@@ -109,7 +140,15 @@ pub fn carry_out(
         11..=12 => nodes::insert(
             side(command, 11),
             target(job, base, at),
-            expression(job, base, at, levels, values, vars, words, places, m),
+            evaluate(
+                fields_at(job, base, at),
+                levels,
+                values,
+                vars,
+                words,
+                places,
+                m,
+            ),
             words,
             places,
             pc,
@@ -117,13 +156,21 @@ pub fn carry_out(
         ),
         13..=14 => nodes::remove(side(command, 13), words, places, pc, r),
         15 => nodes::write(
-            expression(job, base, at, levels, values, vars, words, places, m),
+            evaluate(
+                fields_at(job, base, at),
+                levels,
+                values,
+                vars,
+                words,
+                places,
+                m,
+            ),
             words,
             places,
             pc,
             r,
         ),
         16 => moves::raise(places, pc, r),
-        _ => onward(r, m),
+        _ => halt(r, FINISHED),
     }
 }

@@ -8,11 +8,11 @@ use Rattle.portal.proofs.portal_run.Tie as tie
 
 number-requires : tie.Need-number-requires
 number-requires c κs =
-    few _ _ _ _ _ _ (lent _ _ _ _) _ (c .before .before .before .before .before .run-words .ensures) (simp length-replicate) (simp length-replicate) (simp length-replicate)
+    few _ _ _ _ _ _ (lent _ _ _ _) _ (c .before .before .before .before .before .run-words .ensures .0) (simp length-replicate) (simp length-replicate) (simp length-replicate)
 
 returns : tie.Need-returns
 returns c =
-    hands _ _ _ _ _ _ (lent _ _ _ _) _ (c .before .before .before .before .before .before .run-words .ensures) (simp length-replicate) (simp length-replicate) (simp length-replicate) _
+    hands _ _ _ _ _ _ (lent _ _ _ _) _ (c .before .before .before .before .before .before .run-words .ensures .0) (simp length-replicate) (simp length-replicate) (simp length-replicate) _
     (c .number .ensures)
 
 pub portal-run-spec : {M : Type 1} → statement M

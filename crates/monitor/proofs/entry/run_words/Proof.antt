@@ -9,7 +9,8 @@ use Rattle.monitor.proofs.entry.run_words.Tie as tie
 returns : tie.Need-returns
 returns c =
     let s = c .before .before .before .before .before .before .before .before .before .before .before .before .before .before .before .before in
-    recount Tree (λ _. placesIn (s .args .words .now)) placesIn _ _ (lent _ _ _ _) (lent _ _ _ _) _ refl (c .before .before .before .before .before .before .before .run-places .ensures)
+    let e = c .before .before .before .before .before .before .before .run-places .ensures in
+    (recount Tree (λ _. placesIn (s .args .words .now)) placesIn _ _ (lent _ _ _ _) (lent _ _ _ _) _ refl (e .0), e .1)
 
 pub run-words-spec : {M : Type 1} → statement M
 run-words-spec =

@@ -5,13 +5,13 @@ use mathlib.Core.WellFounded.{WellFounded, InvImage·wf}
 use mathlib.Core.Bool.{not}
 use lib.Dec.{T as Holds, eqb, eqb→eq}
 use Rattle.walks.proofs.Walk.{_<_, ℕ, Fml, GName, Lft, Share, fat, fdies, flft, froom, SProp, ent, id⊢, sep, Fun, fact, givenOf, tables}
-use Rattle.walks.proofs.Walk.{tablesOf, i32, u16, u32, u8, usize, yes, Is, shows, LentAgain, comes-back, lends-again, mem, pointee, uint-lawful}
+use Rattle.walks.proofs.Walk.{tablesOf, i32, u32, u8, usize, yes, Is, shows, LentAgain, comes-back, lends-again, mem, pointee, uint-lawful}
 use Rattle.walks.proofs.Walk.{uint-makes, uint-tells, uint-vals, owns, MutRef, RefT, mut-tells, ptr-vals, plain, shrSliceOf, MutSlice, Room}
 use Rattle.walks.proofs.Walk.{ShrSlice, mut-slice-tells, shr-slice-copy, shr-slice-tells, slice-vals, sliceTy, sliceVal, heard, nothing, only}
 use Rattle.walks.proofs.Walk.{owned, peeks, calls-at-last, ensured, lasts, onEntry, Meets, tripleOf, Contract, Triple, cited, entered, Stays}
 use Rattle.walks.proofs.Walk.{Walks, ends-at, goes-dropped, goes-ref, goes-slice, needs, says, stay-dropped, stay-ref, stay-slice, walk-meets}
 use Rattle.walks.proofs.Walk.{walkOf, walked, Atoms, sem, fullShare, URA, lit<, ℤ, List, [], _∷_, _≡_, ap, refl, subst, sym, Ty, erased, imm}
-use Rattle.walks.proofs.Walk.{mut, named, tyBool, tyInt, tyRef, w16, w32, w64, w8, Val, vint, vptr, Memory, Routine, Heap, Tables, WpFn, WpFn-mono}
+use Rattle.walks.proofs.Walk.{mut, named, tyBool, tyInt, tyRef, w32, w64, w8, Val, vint, vptr, Memory, Routine, Heap, Tables, WpFn, WpFn-mono}
 use Rattle.walks.proofs.Walk.{fmOf, !, Given, Item, _$_, _∵_, _⊛_, await, by, done, drop, feqL, fjoin, frame, fsplit, join, keep, later, move}
 use Rattle.walks.proofs.Walk.{pick, qed, raw, rewrite, some, split, suffices, use1, use2, use3, ‵, ⋆, agg, look-in, sub, whole, addr, again}
 use Rattle.walks.proofs.Walk.{alloc0, alloc1, and-then, bin, enter, fld, forget, free0, free1, from, hop, init, land-last, lit, load, look}
@@ -45,7 +45,7 @@ stayed = (
   (
     stay-dropped (shrSliceOf (1 ∷ []) tt (plain (λ _. u8))) yes,
     (
-      stay-dropped (shrSliceOf (2 ∷ []) tt (plain (λ _. u16))) yes,
+      stay-dropped (shrSliceOf (2 ∷ []) tt (plain (λ _. u32))) yes,
       (
         stay-dropped (shrSliceOf (3 ∷ []) tt (plain (λ _. u8))) yes,
         (
@@ -118,7 +118,7 @@ module _ {M : Type 1} (𝓤 : URA M) (H : Heap 𝓤) (A : Atoms 𝓤) (W : Given
   Jo = ShrSlice (named 1) (s .κ₁) u8 .own (s .job) (sliceOf (s .job) ∷ [])
 
   abbrev Ju : Fml
-  Ju = ShrSlice (named 2) (s .κ₂) u16 .own (s .jumps) (sliceOf (s .jumps) ∷ [])
+  Ju = ShrSlice (named 2) (s .κ₂) u32 .own (s .plan) (sliceOf (s .plan) ∷ [])
 
   abbrev Le : Fml
   Le = ShrSlice (named 3) (s .κ₃) u8 .own (s .levels) (sliceOf (s .levels) ∷ [])
@@ -153,7 +153,7 @@ module _ {M : Type 1} (𝓤 : URA M) (H : Heap 𝓤) (A : Atoms 𝓤) (W : Given
       q₅ = fullShare;
       q₆ = fullShare;
       job = s .job;
-      jumps = s .jumps;
+      plan = s .plan;
       levels = s .levels;
       f = s .f;
       limit = s .limit;
@@ -226,8 +226,8 @@ module _ {M : Type 1} (𝓤 : URA M) (H : Heap 𝓤) (A : Atoms 𝓤) (W : Given
         ∷ ‵ (fat fullShare F′.mir l₅ 0 (frameVal (s .f))) ∷ ‵ (fdies F′.mir l₅)
         ∷ ‵ (fat fullShare (sliceTy (tyRef (named 3) imm (tyInt w8))) l₄ 0 (sliceOf (s .levels))) ∷ ‵ (fdies (sliceTy (tyRef (named 3) imm (tyInt
         w8))) l₄)
-        ∷ ‵ (fat fullShare (sliceTy (tyRef (named 2) imm (tyInt w16))) l₃ 0 (sliceOf (s .jumps))) ∷ ‵ (fdies (sliceTy (tyRef (named 2) imm (tyInt
-        w16))) l₃)
+        ∷ ‵ (fat fullShare (sliceTy (tyRef (named 2) imm (tyInt w32))) l₃ 0 (sliceOf (s .plan))) ∷ ‵ (fdies (sliceTy (tyRef (named 2) imm (tyInt
+        w32))) l₃)
         ∷ ‵ (fat fullShare (sliceTy (tyRef (named 1) imm (tyInt w8))) l₂ 0 (sliceOf (s .job))) ∷ ‵ (fdies (sliceTy (tyRef (named 1) imm (tyInt w8)))
         l₂)
         ∷ ‵ (fat fullShare (tyRef (named 0) mut (pointee (R.the-row .written))) l₁ 0 (vptr b o)) ∷ ‵ (fdies (tyRef (named 0) mut (pointee (R.the-row
@@ -246,7 +246,7 @@ module _ {M : Type 1} (𝓤 : URA M) (H : Heap 𝓤) (A : Atoms 𝓤) (W : Given
         alloc1 ! (λ l₀. alloc1 ! (λ l₁. alloc1 ! (λ l₂. alloc1 ! (λ l₃. alloc1 ! (λ l₄. alloc1 ! (λ l₅. alloc1 ! (λ l₆. alloc1 ! (λ l₇. alloc1 ! (λ
         l₈. alloc1 ! (λ l₉. alloc1 ! (λ l₁₀. alloc1 ! (λ l₁₁. alloc1 ! (λ l₁₂. alloc1 ! (λ l₁₃. alloc1 ! (λ l₁₄. alloc1 ! (λ l₁₅. alloc1 ! (λ l₁₆.
         alloc1 ! (λ l₁₇. alloc1 ! (λ l₁₈. alloc0 ! $ params1 ! $
-        pass1 ! (init ! 34 refl (tt, tt)) $ pass1 ! (init ! 32 refl (sized (z .job .0))) $ pass1 ! (init ! 30 refl (sized (z .jumps .0))) $
+        pass1 ! (init ! 34 refl (tt, tt)) $ pass1 ! (init ! 32 refl (sized (z .job .0))) $ pass1 ! (init ! 30 refl (sized (z .plan .0))) $
         pass1 ! (init ! 28 refl (sized (z .levels .0))) $
         pass1 ! (init ! 26 refl (LL.lawful F.the-type F′.the-laws 𝓤 H A W .typed (s .f) _ (z .frame) .0)) $
         pass1 ! (init ! 24 refl (tt, record { fits = z .limit })) $ pass1 ! (init ! 22 refl (sized (z .words .0))) $
@@ -284,7 +284,7 @@ module _ {M : Type 1} (𝓤 : URA M) (H : Heap 𝓤) (A : Atoms 𝓤) (W : Given
         .lines)) (w .board)) $ await ! tt $ pick ! (λ δ₆.
         split ! $ move ! (12 ∷ []) $
         use1 W (‵ Jo ⊛ ‵ Jo) (shr-slice-copy 𝓤 H A W (named 1) (s .κ₁) u8 .twice (s .job) (sliceOf (s .job) ∷ [])) $ split ! $
-        move ! (14 ∷ []) $ use1 W (‵ Ju ⊛ ‵ Ju) (shr-slice-copy 𝓤 H A W (named 2) (s .κ₂) u16 .twice (s .jumps) (sliceOf (s .jumps) ∷ [])) $
+        move ! (14 ∷ []) $ use1 W (‵ Ju ⊛ ‵ Ju) (shr-slice-copy 𝓤 H A W (named 2) (s .κ₂) u32 .twice (s .plan) (sliceOf (s .plan) ∷ [])) $
         split ! $ move ! (16 ∷ []) $
         use1 W (‵ Le ⊛ ‵ Le) (shr-slice-copy 𝓤 H A W (named 3) (s .κ₃) u8 .twice (s .levels) (sliceOf (s .levels) ∷ [])) $ split ! $
         nothing ! $ move ! (9 ∷ 0 ∷ []) $ join ! $ move ! (11 ∷ 0 ∷ []) $ join ! $ move ! (13 ∷ 0 ∷ []) $ join ! $ move ! (18 ∷ 0 ∷ []) $
@@ -388,7 +388,7 @@ module _ {M : Type 1} (𝓤 : URA M) (H : Heap 𝓤) (A : Atoms 𝓤) (W : Given
         (
           shr-slice-tells (named 1) (κs .1 .0) u8,
           (
-            shr-slice-tells (named 2) (κs .1 .1 .0) u16,
+            shr-slice-tells (named 2) (κs .1 .1 .0) u32,
             (
               shr-slice-tells (named 3) (κs .1 .1 .1 .0) u8,
               (
@@ -413,7 +413,7 @@ module _ {M : Type 1} (𝓤 : URA M) (H : Heap 𝓤) (A : Atoms 𝓤) (W : Given
       walk 𝓤 H A W at-mem run (κs .0) (qs .0) (a .0 .ptr .0) (a .0 .ptr .1) (a .0 .name) (a .0 .now) (passed (κs .1) (qs .1) (a .1)) 𝓣 known
       (record {
         job = are .1 .0 .0 .1;
-        jumps = are .1 .1 .0 .0 .1;
+        plan = are .1 .1 .0 .0 .1;
         levels = are .1 .1 .1 .0 .0 .1;
         frame = are .1 .1 .1 .1 .0;
         limit = are .1 .1 .1
@@ -430,7 +430,7 @@ module _ {M : Type 1} (𝓤 : URA M) (H : Heap 𝓤) (A : Atoms 𝓤) (W : Given
       goes-dropped 𝓤 H A W 7 (shrSliceOf (1 ∷ []) tt (plain (λ _. u8))) yes (λ κs x f. refl),
       (
         goes-dropped 𝓤 H A W 7 (shrSliceOf (2 ∷ []) tt (plain
-            (λ _. u16))) yes (λ κs x f. refl),
+            (λ _. u32))) yes (λ κs x f. refl),
         (
           goes-dropped 𝓤 H A W 7 (shrSliceOf (3 ∷ []) tt (plain (λ _. u8))) yes (λ κs x f. refl),
           (

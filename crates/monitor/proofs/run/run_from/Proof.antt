@@ -5,7 +5,7 @@ use denote.Memory.{partAt}
 use denote.Lend.{lends-ref, ref-back}
 use borrow.Table.OneValue.{part-in, part-out}
 use Rattle.walks.proofs.Walk.{_-_, ℕ, Fml, GName, fat, flent, flft, ftrue, SProp, emp, ent, exE, id⊢, sep, snd∗, Fun, fact, givenOf, tables}
-use Rattle.walks.proofs.Walk.{tablesOf, i32, u16, u32, u8, usize, yes, Is, shows, mem, uint-lawful, uint-makes, uint-tells, uint-vals, owns, MutRef}
+use Rattle.walks.proofs.Walk.{tablesOf, i32, u32, u8, usize, yes, Is, shows, mem, uint-lawful, uint-makes, uint-tells, uint-vals, owns, MutRef}
 use Rattle.walks.proofs.Walk.{RefT, plain, shrSliceOf, finally, mut-slice-tells, shr-slice-tells, slice-vals, heard, nothing, owned, peeks}
 use Rattle.walks.proofs.Walk.{calls-at, ensured, lasts, onEntry, Meets, tripleOf, Contract, Triple, cited, entered, Stays, Walks, ends-at}
 use Rattle.walks.proofs.Walk.{gave-slice, goes-dropped, goes-gave-slice, needs, says, stay-dropped, walk-meets, walkOf, walked, Atoms, sem}
@@ -48,7 +48,7 @@ stayed = (
   (
     stay-dropped (shrSliceOf (0 ∷ []) tt (plain (λ _. u8))) yes,
     (
-      stay-dropped (shrSliceOf (1 ∷ []) tt (plain (λ _. u16))) yes,
+      stay-dropped (shrSliceOf (1 ∷ []) tt (plain (λ _. u32))) yes,
       (
         stay-dropped (shrSliceOf (2 ∷ []) tt (plain (λ _. u8))) yes,
         (
@@ -150,7 +150,7 @@ module _ {M : Type 1} (𝓤 : URA M) (H : Heap 𝓤) (A : Atoms 𝓤) (W : Given
         l₈. alloc1 ! (λ l₉. alloc1 ! (λ l₁₀. alloc1 ! (λ l₁₁. alloc1 ! (λ l₁₂. alloc1 ! (λ l₁₃. alloc1 ! (λ l₁₄. alloc1 ! (λ l₁₅. alloc1 ! (λ l₁₆.
         alloc1 ! (λ l₁₇. alloc1 ! (λ l₁₈. alloc1 ! (λ l₁₉. alloc0 ! $ params1 ! $
         pass1 ! (init ! 36 refl (LL.lawful R.the-type R′.the-laws 𝓤 H A W .typed h _ ish .0)) $ pass1 ! (init ! 34 refl (sized (z .job .0))) $
-        pass1 ! (init ! 32 refl (sized (z .jumps .0))) $ pass1 ! (init ! 30 refl (sized (z .levels .0))) $
+        pass1 ! (init ! 32 refl (sized (z .plan .0))) $ pass1 ! (init ! 30 refl (sized (z .levels .0))) $
         pass1 ! (init ! 28 refl (LL.lawful F.the-type F′.the-laws 𝓤 H A W .typed (s .f) _ (z .frame) .0)) $
         pass1 ! (init ! 26 refl (tt, record { fits = z .limit })) $ pass1 ! (init ! 24 refl (sized (z .words .0))) $
         pass1 ! (init ! 22 refl (sized (z .values .0))) $ pass1 ! (init ! 20 refl (sized (z .lines .0))) $ pass0 ! $
@@ -244,7 +244,7 @@ module _ {M : Type 1} (𝓤 : URA M) (H : Heap 𝓤) (A : Atoms 𝓤) (W : Given
         (
           shr-slice-tells (named 0) (κs .0) u8,
           (
-            shr-slice-tells (named 1) (κs .1 .0) u16,
+            shr-slice-tells (named 1) (κs .1 .0) u32,
             (
               shr-slice-tells (named 2) (κs .1 .1 .0) u8,
               (
@@ -269,7 +269,7 @@ module _ {M : Type 1} (𝓤 : URA M) (H : Heap 𝓤) (A : Atoms 𝓤) (W : Given
       walk 𝓤 H A W at-mem run (a .0) (passed κs qs (a .1)) 𝓣 k₁ k₂ (are .0)
       (record {
         job = are .1 .0 .0 .1;
-        jumps = are .1 .1 .0 .0 .1;
+        plan = are .1 .1 .0 .0 .1;
         levels = are .1 .1 .1 .0 .0 .1;
         frame = are .1 .1 .1 .1 .0;
         limit = are .1 .1 .1
@@ -286,7 +286,7 @@ module _ {M : Type 1} (𝓤 : URA M) (H : Heap 𝓤) (A : Atoms 𝓤) (W : Given
       goes-dropped 𝓤 H A W 6 (shrSliceOf (0 ∷ []) tt (plain (λ _. u8))) yes (λ κs x f. refl),
       (
         goes-dropped 𝓤 H A W 6 (shrSliceOf (1 ∷ []) tt (plain
-            (λ _. u16))) yes (λ κs x f. refl),
+            (λ _. u32))) yes (λ κs x f. refl),
         (
           goes-dropped 𝓤 H A W 6 (shrSliceOf (2 ∷ []) tt (plain (λ _. u8))) yes (λ κs x f. refl),
           (

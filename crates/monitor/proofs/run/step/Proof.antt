@@ -1,7 +1,7 @@
 -- `run::step` meets its contract: a walk of its code by hand. The borrow of r is opened, the record is copied and passed by value to `turn`, to which
 -- the slices are passed on; what that gives is stored, and the borrow is closed at it. Assumes nothing.
 use Rattle.walks.proofs.Walk.{_<_, _^_, ℕ, Fml, GName, Lft, Share, fat, fbor, flft, fobs, SProp, ent, id⊢, sep, Fun, fact, givenOf, tables}
-use Rattle.walks.proofs.Walk.{tablesOf, i32, u16, u32, u8, usize, yes, Is, shows, mem, uint-makes, uint-tells, uint-vals, owns, MutRef, RefT}
+use Rattle.walks.proofs.Walk.{tablesOf, i32, u32, u8, usize, yes, Is, shows, mem, uint-makes, uint-tells, uint-vals, owns, MutRef, RefT}
 use Rattle.walks.proofs.Walk.{mut-tells, ptr-vals, plain, shrSliceOf, finally, mut-slice-tells, shr-slice-tells, slice-vals, closes, heard}
 use Rattle.walks.proofs.Walk.{nothing, only, opens, owned, peeks, spelt, calls-at, ensured, lasts, onEntry, Meets, tripleOf, Contract, Triple}
 use Rattle.walks.proofs.Walk.{cited, entered, Stays, Walks, ends-at, gave-slice, goes-dropped, goes-gave-slice, goes-ref, needs, says}
@@ -40,7 +40,7 @@ stayed = (
   (
     stay-dropped (shrSliceOf (1 ∷ []) tt (plain (λ _. u8))) yes,
     (
-      stay-dropped (shrSliceOf (2 ∷ []) tt (plain (λ _. u16))) yes,
+      stay-dropped (shrSliceOf (2 ∷ []) tt (plain (λ _. u32))) yes,
       (
         stay-dropped (shrSliceOf (3 ∷ []) tt (plain (λ _. u8))) yes,
         (
@@ -116,7 +116,7 @@ module _ {M : Type 1} (𝓤 : URA M) (H : Heap 𝓤) (A : Atoms 𝓤) (W : Given
         alloc1 ! (λ l₀. alloc1 ! (λ l₁. alloc1 ! (λ l₂. alloc1 ! (λ l₃. alloc1 ! (λ l₄. alloc1 ! (λ l₅. alloc1 ! (λ l₆. alloc1 ! (λ l₇. alloc1 ! (λ
         l₈. alloc1 ! (λ l₉. alloc1 ! (λ l₁₀. alloc1 ! (λ l₁₁. alloc1 ! (λ l₁₂. alloc1 ! (λ l₁₃. alloc1 ! (λ l₁₄. alloc1 ! (λ l₁₅. alloc1 ! (λ l₁₆.
         alloc1 ! (λ l₁₇. alloc1 ! (λ l₁₈. alloc0 ! $ params1 ! $
-        pass1 ! (init ! 34 refl (tt, tt)) $ pass1 ! (init ! 32 refl (sized (z .job .0))) $ pass1 ! (init ! 30 refl (sized (z .jumps .0))) $
+        pass1 ! (init ! 34 refl (tt, tt)) $ pass1 ! (init ! 32 refl (sized (z .job .0))) $ pass1 ! (init ! 30 refl (sized (z .plan .0))) $
         pass1 ! (init ! 28 refl (sized (z .levels .0))) $
         pass1 ! (init ! 26 refl (LL.lawful F.the-type F′.the-laws 𝓤 H A W .typed (s .f) _ (z .frame) .0)) $
         pass1 ! (init ! 24 refl (tt, record { fits = z .limit })) $ pass1 ! (init ! 22 refl (sized (z .words .0))) $
@@ -210,7 +210,7 @@ module _ {M : Type 1} (𝓤 : URA M) (H : Heap 𝓤) (A : Atoms 𝓤) (W : Given
         (
           shr-slice-tells (named 1) (κs .1 .0) u8,
           (
-            shr-slice-tells (named 2) (κs .1 .1 .0) u16,
+            shr-slice-tells (named 2) (κs .1 .1 .0) u32,
             (
               shr-slice-tells (named 3) (κs .1 .1 .1 .0) u8,
               (
@@ -235,7 +235,7 @@ module _ {M : Type 1} (𝓤 : URA M) (H : Heap 𝓤) (A : Atoms 𝓤) (W : Given
       walk 𝓤 H A W at-mem run (κs .0) (qs .0) (a .0 .ptr .0) (a .0 .ptr .1) (a .0 .name) (a .0 .now) (passed (κs .1) (qs .1) (a .1)) 𝓣 known
       (record {
         job = are .1 .0 .0 .1;
-        jumps = are .1 .1 .0 .0 .1;
+        plan = are .1 .1 .0 .0 .1;
         levels = are .1 .1 .1 .0 .0 .1;
         frame = are .1 .1 .1 .1 .0;
         limit = are .1 .1 .1
@@ -252,7 +252,7 @@ module _ {M : Type 1} (𝓤 : URA M) (H : Heap 𝓤) (A : Atoms 𝓤) (W : Given
       goes-dropped 𝓤 H A W 7 (shrSliceOf (1 ∷ []) tt (plain (λ _. u8))) yes (λ κs x f. refl),
       (
         goes-dropped 𝓤 H A W 7 (shrSliceOf (2 ∷ []) tt (plain
-            (λ _. u16))) yes (λ κs x f. refl),
+            (λ _. u32))) yes (λ κs x f. refl),
         (
           goes-dropped 𝓤 H A W 7 (shrSliceOf (3 ∷ []) tt (plain (λ _. u8))) yes (λ κs x f. refl),
           (
