@@ -2,13 +2,14 @@
 ghost use mathlib.Core.Path.{_≡_};
 ghost use Prim.Native.Nat.{_*_, _≤_};
 ghost use lib.ListN.{length};
+ghost use Rattle.table.specs.Cells.{cellSize};
 ghost use Rattle.table.specs.Lent.{stored, loaded};
 use table::Node;
 use table::lent;
 
 // Makes the first n records those of the first n places.
 pub fn store(table: &mut [Node], words: &[u32], n: usize)
-    requires { ⌜ (n ≤ length (now table)) × (8 * n ≤ length (now words)) ⌝ }
+    requires { ⌜ (n ≤ length (now table)) × (cellSize * n ≤ length (now words)) ⌝ }
     ensures { λ _. ⌜ now (table .exit) ≡ stored (now (words .entry)) n (now (table .entry)) ⌝ }
 {
     let mut x = 0;
@@ -20,7 +21,7 @@ pub fn store(table: &mut [Node], words: &[u32], n: usize)
 
 // Makes the first places those of all records.
 pub fn load(table: &[Node], words: &mut [u32])
-    requires { ⌜ 8 * length (now table) ≤ length (now words) ⌝ }
+    requires { ⌜ cellSize * length (now table) ≤ length (now words) ⌝ }
     ensures { λ _. ⌜ now (words .exit) ≡ loaded (now (table .entry)) (length (now (table .entry))) (now (words .entry)) ⌝ }
 {
     let n = table.len();

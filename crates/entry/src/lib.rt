@@ -2,6 +2,7 @@
 ghost use mathlib.Core.Path.{_≡_};
 ghost use Prim.Native.Nat.{_*_, _≤_, min};
 ghost use lib.ListN.{length};
+ghost use Rattle.table.specs.Cells.{cellSize};
 ghost use Rattle.monitor.specs.Promises.{lent, Promises};
 ghost use Rattle.entry.specs.Promises.{Tree, keptOf, ownPlaces, Owned};
 use copies::load;
@@ -9,6 +10,7 @@ use copies::store;
 use monitor::Outcome;
 use monitor::run_places;
 use table::Node;
+use table::WORDS;
 use table::lent::blank;
 
 mod copies;
@@ -44,7 +46,7 @@ pub fn run_job(
         (lent (now (table .exit)) (now (levels .exit)) (now (values .exit)) (now (lines .exit))) r ⌝ }
 {
     let n = table.len();
-    let mut words = [0u32; 4096];
+    let mut words = [0u32; WORDS];
     let outcome = run_places(job, budget, n, &mut words, levels, values, lines);
     let filled = kept(outcome, n);
     store(table, &words, filled);
@@ -72,7 +74,7 @@ pub fn run_own(
     lines: &mut [u8],
     words: &mut [u32],
 ) -> Outcome
-    requires { ⌜ 8 * ownPlaces ≤ length (now words) ⌝ }
+    requires { ⌜ cellSize * ownPlaces ≤ length (now words) ⌝ }
     ensures { λ r. ⌜ Owned (now (job .entry)) budget (min places ownPlaces)
         (lent (now (words .entry)) (now (levels .entry)) (now (values .entry)) (now (lines .entry)))
         (lent (now (words .exit)) (now (levels .exit)) (now (values .exit)) (now (lines .exit))) r ⌝ }

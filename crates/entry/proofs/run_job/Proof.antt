@@ -28,6 +28,8 @@ use Rattle.table.proofs.lent.Node as N
 use Rattle.monitor.specs.declared.entry.Outcome.{Outcome}
 use Rattle.monitor.proofs.entry.Outcome as O
 use Rattle.monitor.proofs.entry.Outcome.Laws as O′
+use Rattle.table.specs.Cells.{cells}
+use Rattle.table.specs.Promises.{Behind}
 use Rattle.monitor.specs.Promises as Words
 use Rattle.monitor.specs.Promises.{lent, Promises}
 use Rattle.entry.specs.Promises.{Tree, keptOf}
