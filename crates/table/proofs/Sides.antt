@@ -1,6 +1,6 @@
 -- The two sides of the cursor's node: what its cell says of each, and that a node with a sibling has a parent. Assumes nothing.
 use mathlib.Core.Path.{_≡_, refl, ap}
-use Prim.Native.Nat.{ℕ, suc, _<_, _≤_}
+use Prim.Native.Nat.{ℕ, suc, _<_}
 use native.Mathlib.Omega.{arith}
 use Rattle.rules.specs.Tree.{Label, Forest, Side, child, sibling, Place, count}
 use Rattle.table.specs.Cells.{Table, link, parentOn}
