@@ -12,7 +12,7 @@ fn wide(x: u8) -> u64 {
     x as u64
 }
 
-fn indent(buf: &mut [u8; SIZE], out: Out, depth: u32) -> Out
+fn indent(buf: &mut [u8; SIZE], out: Out, depth: usize) -> Out
     requires { ⌜ out .used ≤ 65536 ⌝ }
     ensures { λ r. ⌜ r .used ≤ 65536 ⌝ }
 {
@@ -56,7 +56,7 @@ fn nodes(buf: &mut [u8; SIZE], out: Out, words: &[u32; WORDS]) -> Out
 {
     let mut r = out;
     let mut v = preorder::first();
-    let mut k: u32 = 0;
+    let mut k = 0;
     while k < PLACES {
         r = line(buf, r, words, v);
         v = preorder::next(words, PLACES, v);

@@ -11,8 +11,8 @@ use table::walk;
 // The next node, where there is one: its place, and how many steps it stands below the root.
 pub struct Visit {
     pub found: bool,
-    pub place: u32,
-    pub depth: u32,
+    pub place: usize,
+    pub depth: usize,
 }
 
 // The root.
@@ -37,7 +37,7 @@ fn nothing() -> Visit
 }
 
 // The right sibling of the node at a place, or of the nearest node above it that has one. There are no more nodes above it than places.
-fn after(words: &[u32], places: u32, at: u32, depth: u32) -> Visit
+fn after(words: &[u32], places: usize, at: usize, depth: usize) -> Visit
     requires { ⌜ Within (now words) places at ⌝ }
     ensures { λ r. ⌜ (r .place < places) × (r .depth ≤ depth) ⌝ }
 {
@@ -67,7 +67,7 @@ fn after(words: &[u32], places: u32, at: u32, depth: u32) -> Visit
 }
 
 // The node that comes after the one at a place, in a tree of a number of places.
-pub fn next(words: &[u32], places: u32, v: Visit) -> Visit
+pub fn next(words: &[u32], places: usize, v: Visit) -> Visit
     requires { ⌜ Within (now words) places (v .place) × (v .depth < 512) ⌝ }
     ensures { λ r. ⌜ (r .place < places) × (r .depth ≤ v .depth + 1) ⌝ }
 {
@@ -85,7 +85,7 @@ pub fn next(words: &[u32], places: u32, v: Visit) -> Visit
 }
 
 // How many nodes there are.
-pub fn count(words: &[u32], places: u32) -> u32
+pub fn count(words: &[u32], places: usize) -> usize
     requires { ⌜ Within (now words) places 0 ⌝ }
     ensures { λ r. ⌜ r ≤ places ⌝ }
 {

@@ -4,7 +4,7 @@ ghost use Prim.Native.Nat.{_≤_};
 
 pub const BUDGET: u64 = 100000;
 
-pub const PLACES: u32 = 512;
+pub const PLACES: usize = 512;
 
 // Eight words to a place.
 pub const WORDS: usize = 4096;

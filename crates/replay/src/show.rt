@@ -80,7 +80,7 @@ fn put_levels(buf: &mut [u8; SIZE], out: Out, existence: u8, content: u8, list: 
     print::byte(buf, r, b' ')
 }
 
-fn put_node(buf: &mut [u8; SIZE], out: Out, words: &[u32], places: u32, v: Visit) -> Out
+fn put_node(buf: &mut [u8; SIZE], out: Out, words: &[u32], places: usize, v: Visit) -> Out
     requires { ⌜ (out .used ≤ 65536) × Within (now words) places (v .place) ⌝ }
     ensures { λ r. ⌜ r .used ≤ 65536 ⌝ }
 {
@@ -95,13 +95,13 @@ fn put_node(buf: &mut [u8; SIZE], out: Out, words: &[u32], places: u32, v: Visit
     print::byte(buf, r, b'\n')
 }
 
-fn put_tree(buf: &mut [u8; SIZE], out: Out, words: &[u32], places: u32) -> Out
+fn put_tree(buf: &mut [u8; SIZE], out: Out, words: &[u32], places: usize) -> Out
     requires { ⌜ (out .used ≤ 65536) × Within (now words) places 0 ⌝ }
     ensures { λ r. ⌜ r .used ≤ 65536 ⌝ }
 {
     let mut r = out;
     let mut v = preorder::first();
-    let mut k: u32 = 0;
+    let mut k = 0;
     while k < places {
         r = put_node(buf, r, words, places, v);
         v = preorder::next(words, places, v);
@@ -124,7 +124,7 @@ fn put_lent_tree(buf: &mut [u8; SIZE], out: Out, words: &[u32; WORDS], places: u
     if places > 512 {
         return out;
     }
-    put_tree(buf, out, words, places as u32)
+    put_tree(buf, out, words, places)
 }
 
 // What became of job k: its answer, and where it was run its lines, variables and tree.
