@@ -7,7 +7,7 @@ DESTDIR =
 
 help:
 	@echo 'make run       build the programs of the first page and show the board of an example job'
-	@echo 'make test      prove every crate, try every must-fail edit, run every other test'
+	@echo 'make test      prove every crate, try every wrong edit, run every other test'
 	@echo 'make check     prove every crate that changed, and run its programs'
 	@echo 'make programs  prove and build the programs board, inspect and replay, in target/bin'
 	@echo 'make lib       prove and build include/libportal.a, for a portal in C or C++'

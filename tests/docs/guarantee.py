@@ -80,9 +80,15 @@ class Theorems(unittest.TestCase):
                 self.assertRegex(specs, rf"(?m)^ *(?:\w+ )*{name}\b[^=\n]* :")
 
     def test_files(self):
-        for path in re.findall(r"`(crates/[^`*]+)`", TEXT):
+        for path in re.findall(r"`(crates/[^`]+)`", TEXT):
             with self.subTest(path):
-                self.assertTrue((HOME / path).exists())
+                self.assertTrue(list(HOME.glob(path)))
+
+    def test_leaks(self):
+        """As many loosened rules as are said."""
+        said = re.search(r"^(\w+) loosened rules are kept as wrong edits \((.*?)\)", TEXT, re.M | re.S)
+        found = [path for pattern in re.findall(r"`([^`]+)`", said[2]) for path in HOME.glob(pattern)]
+        self.assertEqual(len(found), ["One", "Two", "Three", "Four", "Five", "Six", "Seven", "Eight", "Nine", "Ten"].index(said[1]) + 1)
 
 
 if __name__ == "__main__":
