@@ -128,13 +128,18 @@ class Streams(unittest.TestCase):
     def test_an_interrupt(self):
         with scratch() as folder:
             slow = Path(folder, "inspect")
-            slow.write_text("#!/bin/sh\nexec sleep 20\n")
+            slow.write_text(f"#!/bin/sh\ntouch {folder}/begun\nexec sleep 60\n")
             slow.chmod(0o755)
+            # Whoever starts the tests in the background has them ignore interrupts; the tool must not inherit that.
             child = subprocess.Popen([sys.executable, "tools/job", "run", "examples/first.yoke"], cwd=HOME, stdout=subprocess.PIPE,
-                                     stderr=subprocess.PIPE, env=dict(os.environ, INSPECT=str(slow)), start_new_session=True)
-            time.sleep(1)
+                                     stderr=subprocess.PIPE, env=dict(os.environ, INSPECT=str(slow)), start_new_session=True,
+                                     preexec_fn=lambda: signal.signal(signal.SIGINT, signal.SIG_DFL))
+            for _ in range(300):
+                if Path(folder, "begun").exists():
+                    break
+                time.sleep(0.1)
             os.killpg(child.pid, signal.SIGINT)
-            output, error = child.communicate(timeout=10)
+            output, error = child.communicate(timeout=30)
         self.assertEqual((child.returncode, output, error), (-signal.SIGINT, b"", b""))
 
     def test_a_mistake_of_the_tool_is_no_traceback(self):
