@@ -5,9 +5,8 @@ use mathlib.Core.List.{List}
 use Prim.Native.Nat.{ℕ, suc, _+_, _*_, _/_, _%_, _≤_, _<_}
 use lib.ListN.{getD}
 use Rattle.rules.specs.Limits.{badBlock}
-use Rattle.rules.specs.Blocks.{parts, goesTo}
+use Rattle.rules.specs.Blocks.{isIn, parts, goesTo}
 use Rattle.rules.specs.Check as Check
-use Rattle.rules.proofs.Jumps.{isIn}
 
 -- the word of a record: its command, and where it goes if not to the next
 unfoldable pub entry : ℕ → ℕ → ℕ

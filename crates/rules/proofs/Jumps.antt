@@ -9,6 +9,7 @@ use native.Mathlib.Decide.{ℕ-discrete, decLt}
 use native.Mathlib.Omega.{arith}
 use lib.Dec.{eqb}
 use borrow.Author.Tests.{eq-eqb, ne-eqb}
+unfoldable pub use Rattle.rules.specs.Blocks.{isIn}
 use Rattle.rules.specs.Blocks.{closes, headIs, after, parts, closesPart, firstFrom, closer, pastElse, pastEnd, goesTo}
 use Rattle.rules.proofs.Search.{here, further, search}
 use Rattle.rules.proofs.Tests.{clash}
@@ -64,11 +65,6 @@ module _ (code : ℕ → ℕ) (n : ℕ) where
   unfolding closesPart headIs
   closed-here i p ps h e k =
       known (subst (Open i i) e (parts-open i (le-of-lt h))) ∙ here (closesPart code p) n i h (rw (k, e, eq-eqb p p refl))
-
--- a part is among the open ones
-unfoldable pub isIn : ℕ → List ℕ → Bool
-isIn p [] = false
-isIn p (q ∷ ps) = eqb p q || isIn p ps
 
 in-later : (q p : ℕ) (ps : List ℕ) → isIn p ps ≡ true → isIn p (q ∷ ps) ≡ true
 unfolding isIn

@@ -24,6 +24,11 @@ unfoldable pub headIs : ℕ → List ℕ → Bool
 headIs o [] = false
 headIs o (p ∷ ps) = eqb o p
 
+-- a part is among the open ones
+unfoldable pub isIn : ℕ → List ℕ → Bool
+isIn p [] = false
+isIn p (q ∷ ps) = eqb p q || isIn p ps
+
 -- the first of the n indexes i, i + 1, .. that passes the test, or the one after them
 unfoldable pub firstFrom : (ℕ → Bool) → ℕ → ℕ → ℕ
 firstFrom f zero i = i
