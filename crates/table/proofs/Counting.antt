@@ -119,6 +119,9 @@ module _ (m : Table) (b u : ℕ) (f : Placed) (s : Spare) (h : Stored m b u f) (
         sum-one b,
       )
 
+  pub size-most : size (erase f) ≤ b
+  size-most = omega (arith, sum-both)
+
   pub size-all : ((y : ℕ) → spareTimes y s ≡ 0) → size (erase f) ≡ b
   size-all z = omega (arith, sum-both, sum-ext b (λ _. 0) (λ y. spareTimes y s) (λ y _. z y), sum-zero b)
 

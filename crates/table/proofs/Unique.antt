@@ -5,11 +5,11 @@ use mathlib.Core.Bool.{true≢false}
 use mathlib.Core.Option.{Option, Option·some-ne-none, Option·some-injective}
 use Prim.Native.Nat.{ℕ, _<_, _≤_}
 use native.Mathlib.Omega.{arith}
-use Rattle.rules.specs.Tree.{Label, Forest, Side, child, sibling, Place, root, to, sub, exists}
+use Rattle.rules.specs.Tree.{Label, Forest, Side, child, sibling, Place, root, to, sub, exists, size}
 use Rattle.table.specs.Cells.{Table, gone}
 use Rattle.table.specs.Holds.{Placed, empty, node, erase, head, beside, part, Stored, Spare, hit, times, Holds}
 use Rattle.table.specs.Promises.{Leads, outside, missing, found}
-use Rattle.table.proofs.Counting.{hit-same}
+use Rattle.table.proofs.Counting.{hit-same, size-most}
 use Rattle.table.proofs.Ways.{Way, plug, replug, plug-times, Some, some-node, split}
 use Rattle.table.proofs.Focus.{Focus}
 use Rattle.table.proofs.Moves.{stands}
@@ -132,6 +132,11 @@ module _ {m : Table} {n used free x : ℕ} {t : Forest} {p : Place} where
 
   pub own-node : {x′ : ℕ} → Holds m n used free x t p → Holds m n used free x′ t p → x ≡ x′
   own-node h h′ = sym (h .here) ∙ ap (λ f. head (part p f)) (one-placing h h′) ∙ h′ .here
+
+  -- a tree has no more nodes than the table has places
+  pub few-nodes : Holds m n used free x t p → size t ≤ n
+  few-nodes h =
+      omega (arith, ap size (h .is-tree), size-most m used gone (h .placed) (h .spare) (h .stored) (h .each), h .room)
 
 -- a move leads to one place
 pub one-lead : {m : Table} {n used free r r′ : ℕ} {t : Forest} {o : Option Place} → Leads m n used free t o r → Leads m n used free t o r′ → r < n
