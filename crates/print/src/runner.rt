@@ -1,6 +1,8 @@
 // What the board runner lends a job, and the house's inspection of one.
 use job::Checked;
+ghost use mathlib.Core.Path.{_≡_};
 ghost use Prim.Native.Nat.{_≤_};
+ghost use Rattle.print.specs.Answers.{variablesIn};
 
 pub const BUDGET: u64 = 100000;
 
@@ -14,19 +16,13 @@ pub const VARIABLES: usize = 64;
 // Four bytes for each of 256 lines.
 pub const AREA: usize = 1024;
 
-// How many variables a job has that the checks accept, within the room that is lent.
+// How many variables a job has that the checks accept.
 pub fn variables_of(job: &[u8]) -> usize
-    ensures { λ r. ⌜ r ≤ 64 ⌝ }
+    ensures { λ r. ⌜ (r ≤ 64) × (r ≡ variablesIn (now (job .entry))) ⌝ }
 {
-    match job::check(job) {
-        Checked::Accepted(l) => {
-            if l.variables < VARIABLES {
-                return l.variables;
-            }
-            return VARIABLES;
-        }
-        Checked::Refused { number, index } => {
-            return 0;
-        }
+    let answer = job::check(job);
+    match answer {
+        Checked::Accepted(l) => l.variables,
+        Checked::Refused { number, index } => 0,
     }
 }
