@@ -1,12 +1,15 @@
 // A job in text form: hexadecimal digits, two to a byte, where [3*00ff] stands for three times 00ff. All other characters are left out.
-ghost use Prim.Native.Nat.{_<_, _≤_};
-ghost use lib.ListN.{length};
+ghost use mathlib.Core.List.{List, _∷_, _++_};
+ghost use mathlib.Core.Path.{_≡_};
+ghost use Prim.Native.Nat.{ℕ, _+_, _<_, _≤_, min};
+ghost use lib.ListN.{length, drop};
 ghost use Rattle.io.specs.Counts.{Counts};
+ghost use Rattle.text.specs.Hex.{firstOf, digitOf, digits, oneMore, numberOf, bytesOf, plain, times, spelled, placed, Leaves};
 
 // The first place from `from` on with the character, or the length.
 pub fn find(text: &[u8], from: usize, c: u8) -> usize
     requires { ⌜ from ≤ length (now text) ⌝ }
-    ensures { λ r. ⌜ (from ≤ r) × (r ≤ length (now (text .entry))) ⌝ }
+    ensures { λ r. ⌜ (from ≤ r) × (r ≤ length (now (text .entry))) × (r ≡ from + firstOf c (drop from (now (text .entry)))) ⌝ }
 {
     let mut i = from;
     while i < text.len() {
@@ -20,7 +23,7 @@ pub fn find(text: &[u8], from: usize, c: u8) -> usize
 
 // What a hexadecimal digit stands for, or 16.
 fn digit(c: u8) -> u8
-    ensures { λ r. ⌜ r ≤ 16 ⌝ }
+    ensures { λ r. ⌜ (r ≤ 16) × (r ≡ digitOf c) ⌝ }
 {
     match c {
         b'0'..=b'9' => c - b'0',
@@ -32,7 +35,7 @@ fn digit(c: u8) -> u8
 // A number with one digit more. What follows eight digits is left out.
 fn more(value: usize, d: u8) -> usize
     requires { ⌜ value < 100000000 ⌝ }
-    ensures { λ r. ⌜ r < 100000000 ⌝ }
+    ensures { λ r. ⌜ (r < 100000000) × (r ≡ oneMore value d) ⌝ }
 {
     if value < 10000000 {
         if d < 10 {
@@ -44,7 +47,7 @@ fn more(value: usize, d: u8) -> usize
 
 // The number that the decimal digits spell, whatever else stands among them.
 pub fn decimal(text: &[u8]) -> usize
-    ensures { λ r. ⌜ r < 100000000 ⌝ }
+    ensures { λ r. ⌜ (r < 100000000) × (r ≡ numberOf 0 (digits (now (text .entry)))) ⌝ }
 {
     let mut value = 0;
     let mut i = 0;
@@ -65,6 +68,7 @@ struct Spot {
 fn put(bytes: &mut [u8], s: Spot, d: u8) -> Spot
     requires { ⌜ (s .count ≤ length (now bytes)) × (s .high ≤ 16) ⌝ }
     ensures { λ r. ⌜ (r .count ≤ length (now (bytes .exit))) × (r .high ≤ 16) ⌝ }
+    ensures { λ r. ⌜ ((ds k : List ℕ) → Leaves (now (bytes .entry)) (s .count) (bytesOf (s .high) (d ∷ ds) ++ k) (now (bytes .exit)) (r .count) (bytesOf (r .high) ds ++ k)) ⌝ }
 {
     let count = s.count;
     let high = s.high;
@@ -88,6 +92,7 @@ fn put(bytes: &mut [u8], s: Spot, d: u8) -> Spot
 fn append(text: &[u8], bytes: &mut [u8], n: usize) -> usize
     requires { ⌜ n ≤ length (now bytes) ⌝ }
     ensures { λ r. ⌜ r ≤ length (now (bytes .exit)) ⌝ }
+    ensures { λ r. ⌜ ((k : List ℕ) → Leaves (now (bytes .entry)) n (plain (now (text .entry)) ++ k) (now (bytes .exit)) r k) ⌝ }
 {
     let mut s = Spot { count: n, high: 16 };
     let mut i = 0;
@@ -99,12 +104,13 @@ fn append(text: &[u8], bytes: &mut [u8], n: usize) -> usize
 }
 
 // Puts them so many times.
-fn repeat(text: &[u8], times: usize, bytes: &mut [u8], n: usize) -> usize
+fn repeat(text: &[u8], often: usize, bytes: &mut [u8], n: usize) -> usize
     requires { ⌜ n ≤ length (now bytes) ⌝ }
     ensures { λ r. ⌜ r ≤ length (now (bytes .exit)) ⌝ }
+    ensures { λ r. ⌜ ((k : List ℕ) → Leaves (now (bytes .entry)) n (times often (plain (now (text .entry))) ++ k) (now (bytes .exit)) r k) ⌝ }
 {
     let mut count = n;
-    let mut left = times;
+    let mut left = often;
     while left > 0 {
         count = append(text, bytes, count);
         left -= 1;
@@ -114,7 +120,8 @@ fn repeat(text: &[u8], times: usize, bytes: &mut [u8], n: usize) -> usize
 
 // The bytes of a job in text form, as far as there is room, and how many there are.
 pub fn expand(text: &[u8], bytes: &mut [u8]) -> usize
-    ensures { λ r. ⌜ Counts r (now (bytes .exit)) ⌝ }
+    ensures { λ r. ⌜ Counts r (now (bytes .exit)) × (r ≡ min (length (spelled (now (text .entry)))) (length (now (bytes .entry)))) ⌝ }
+    ensures { λ _. ⌜ now (bytes .exit) ≡ placed (now (bytes .entry)) 0 (spelled (now (text .entry))) ⌝ }
 {
     let mut n = 0;
     let mut i = 0;
