@@ -6,7 +6,7 @@ use Prim.Native.Nat.{ℕ, _*_, _<_, _≤_, min}
 use native.Mathlib.Omega.{arith}
 use lib.Dec.{leb}
 use lib.ListN.{length}
-use borrow.Author.Tests.{leb-true}
+use borrow.Author.Tests.{leb-true, le-leb}
 use Rattle.rules.specs.Limits.{maxNodes, maxBudget, badBudget, badBuffers}
 use Rattle.rules.specs.Tree.{Forest, Place}
 use Rattle.rules.specs.Bytes.{nodeCount, variableCount, scriptAt, recordCount}
@@ -16,7 +16,7 @@ use Rattle.rules.specs.Job.{script}
 use Rattle.rules.specs.Run.{Buffers, Ending, finished, stopped, Ended, run}
 use Rattle.rules.specs.Outcome as Rules
 use Rattle.rules.specs.Outcome.{answer, endingNumber, endingIndex, runJob, checkJob, andThen, budgetRule, bufferRule, begin}
-use Rattle.rules.proofs.Tests.{both}
+use Rattle.rules.proofs.Tests.{both, Test, holds, fails, test}
 use Rattle.rules.proofs.Noninterference.{runs}
 use Rattle.rules.proofs.Accepted.{right, jumps-agree}
 use Rattle.job.specs.declared.sections.Layout.{Layout}
@@ -27,7 +27,7 @@ use Rattle.monitor.specs.declared.entry.Outcome.{Outcome}
 use Rattle.monitor.specs.declared.entry.Outcome.the-variants.{Refused}
 use Rattle.actions.specs.Board.{capacity}
 use Rattle.actions.specs.Shows.{Slices}
-use Rattle.monitor.specs.Promises.{answerOf, told, toldBy, Lent, lentBy, Ran, Tree, Leaves, Promises}
+use Rattle.monitor.specs.Promises.{answerOf, placesFor, told, toldBy, Lent, lentBy, Ran, Tree, Leaves, Promises}
 use Rattle.monitor.specs.Starting.{bufferTest, Begun, asLent, Left}
 
 -- an outcome that says what the rules' outcome is has its answer
@@ -147,6 +147,20 @@ module _ (b : List ℕ) (budget places : ℕ) (x : Slices) where
               leaves = subst (Leaves (λ _. places) Tree (variableCount b) (asLent x) (asLent x′)) (sym o) (h .leaves given refl refl);
             }
 
+-- the places that are asked for have their words
+pub room-for : (n k held : ℕ) → held ≡ placesFor n k → cellSize * min held maxNodes ≤ k
+unfolding placesFor
+room-for n k held e = pick (test (leb (cellSize * min n maxNodes) k))
+  where
+    pick : Test (leb (cellSize * min n maxNodes) k) → cellSize * min held maxNodes ≤ k
+    pick (holds t) = let i : held ≡ n = e ∙ rw t in rw i (leb-true _ _ t)
+    pick (fails t) = let i : held ≡ 0 = e ∙ rw t in omega (arith, i)
+
+-- words that are enough for all places asked for
+pub all-places : (n k : ℕ) → cellSize * min n maxNodes ≤ k → placesFor n k ≡ n
+unfolding placesFor
+all-places n k h = rw (le-leb (cellSize * min n maxNodes) k h)
+
 -- the promise rests on how many places the table lent has, and on nothing else of how places are counted
 module _ {T : Type 0} (HoldsTree : T → ℕ → Forest → Place → Type 0) (places counted : T → ℕ) (b : List ℕ) (budget : ℕ) (x x′ : Lent T) (r : Outcome)
     (e : places (x .table) ≡ counted (x .table)) where
@@ -165,3 +179,8 @@ module _ {T : Type 0} (HoldsTree : T → ℕ → Forest → Place → Type 0) (p
         answered = h .answered ∙ ap (λ l. answer (runJob b budget l)) same;
         leaves = subst (λ l. Leaves counted HoldsTree (variableCount b) x x′ (runJob b budget l)) same (leaves (runJob b budget (lentBy places x)) (h .leaves));
       }
+
+-- so it is one for as many places as are asked for
+pub counted-so : (n : ℕ) {b : List ℕ} {budget : ℕ} {x x′ : Slices} {r : Outcome} (held : ℕ) → held ≡ placesFor n (length (x .words))
+    → Promises (λ _. held) Tree b budget (asLent x) (asLent x′) r → Promises (λ w. placesFor n (length w)) Tree b budget (asLent x) (asLent x′) r
+counted-so n {b} {budget} {x} {x′} {r} held e p = recount Tree (λ _. held) (λ w. placesFor n (length w)) b budget (asLent x) (asLent x′) r e p

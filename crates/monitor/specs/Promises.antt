@@ -1,9 +1,12 @@
 -- What the run over a job's bytes promises, for every job, budget and buffer. Assumes nothing.
 use mathlib.Core.Path.{_≡_}
-use Prim.Native.Nat.{ℕ, _/_, _≤_, min}
+use Prim.Native.Nat.{ℕ, _*_, _/_, _≤_, min}
+use mathlib.Core.Bool.{cond}
+use lib.Dec.{leb}
 use mathlib.Core.List.{List}
 use lib.ListN.{length, getD}
 use lib.IntN.{ℤ, pos}
+use Rattle.rules.specs.Limits.{maxNodes}
 use Rattle.rules.specs.Tree.{Forest, Place}
 use Rattle.rules.specs.Bytes.{variableCount}
 use Rattle.rules.specs.Run.{Buffers, Ending, finished, stopped, stopNumber, Ended}
@@ -70,6 +73,10 @@ module _ {T : Type 0} (places : T → ℕ) (HoldsTree : T → ℕ → Forest →
 -- a table of words has eight to a place
 abbrev pub placesIn : List ℕ → ℕ
 placesIn words = length words / cellSize
+
+-- as many places as are asked for, in so many words; none where these are too few (no table has more than 512 places)
+unfoldable pub placesFor : ℕ → ℕ → ℕ
+placesFor n words = cond (leb (cellSize * min n maxNodes) words) n 0
 
 -- it holds a tree with the cursor at a place, somewhere in its places: which, and what free places hold, is left open
 pub record Tree (words : List ℕ) (places : ℕ) (t : Forest) (p : Place) : Type 0 where

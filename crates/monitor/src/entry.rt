@@ -16,14 +16,14 @@ use rules::limits::MAX_BUDGET;
 use rules::limits::MAX_NODES;
 use table::records;
 ghost use mathlib.Core.Path.{_≡_};
-ghost use Prim.Native.Nat.{_*_, _≤_, min};
+ghost use Prim.Native.Nat.{_≤_, min};
 ghost use lib.ListN.{length};
-ghost use Rattle.rules.specs.Limits.{maxNodes, maxBudget};
-ghost use Rattle.table.specs.Cells.{cellSize, cells};
+ghost use Rattle.rules.specs.Limits.{maxBudget};
+ghost use Rattle.table.specs.Cells.{cells};
 ghost use Rattle.table.specs.Promises.{Behind};
 ghost use Rattle.rules.specs.Outcome.{budgetRule};
 ghost use Rattle.actions.specs.Shows.{slices};
-ghost use Rattle.monitor.specs.Promises.{lent, placesIn, Tree, Promises};
+ghost use Rattle.monitor.specs.Promises.{lent, placesIn, placesFor, Tree, Promises};
 ghost use Rattle.monitor.specs.Starting.{outcomeOf, bufferTest, Loading, VariablesLoaded, Begun, Left};
 
 // What becomes of a job: turned back with a number and an index; or run, to its end or to a stop with its number and record.
@@ -75,6 +75,17 @@ fn smaller(a: usize, b: usize) -> usize
     ensures { λ r. ⌜ r ≡ min a b ⌝ }
 {
     if a < b { a } else { b }
+}
+
+// As many places as are asked for, if there are words for them.
+fn asked(places: usize, words: usize) -> usize
+    ensures { λ r. ⌜ r ≡ placesFor places words ⌝ }
+{
+    if table::CELL * smaller(places, MAX_NODES) <= words {
+        places
+    } else {
+        0
+    }
 }
 
 // How a run has ended, as an outcome.
@@ -147,7 +158,8 @@ fn run_accepted(
 }
 
 // The run over a job's bytes, with a budget and what the caller lends: a node table of some places, eight words to each, the variables' levels and
-// values, and an area for board lines of four bytes each. With more than 512 places, which is check 10, no more words are needed than for 512.
+// values, and an area for board lines of four bytes each. Words that are too few hold no place, which is check 10; so is more than 512 places, for
+// which no more words are needed than for 512.
 pub fn run_places(
     job: &[u8],
     budget: u64,
@@ -157,11 +169,10 @@ pub fn run_places(
     values: &mut [i32],
     lines: &mut [u8],
 ) -> Outcome
-    requires { ⌜ cellSize * min places maxNodes ≤ length (now words) ⌝ }
-    ensures { λ r. ⌜ Promises (λ _. places) Tree (now (job .entry)) budget
+    ensures { λ r. ⌜ Promises (λ w. placesFor places (length w)) Tree (now (job .entry)) budget
         (lent (now (words .entry)) (now (levels .entry)) (now (values .entry)) (now (lines .entry)))
         (lent (now (words .exit)) (now (levels .exit)) (now (values .exit)) (now (lines .exit))) r
-        × Behind places (cells (now (words .entry))) (cells (now (words .exit))) ⌝ }
+        × Behind (placesFor places (length (now (words .entry)))) (cells (now (words .entry))) (cells (now (words .exit))) ⌝ }
 {
     let mut plan = [0u32; WORDS];
     let checked = prepare(job, &mut plan);
@@ -175,7 +186,8 @@ pub fn run_places(
                 };
             }
             let room = smaller(levels.len(), values.len());
-            if !buffers_ok(l.nodes, l.variables, places, room) {
+            let held = asked(places, words.len());
+            if !buffers_ok(l.nodes, l.variables, held, room) {
                 return Outcome::Refused {
                     number: BAD_BUFFERS,
                     index: 0,
@@ -187,7 +199,7 @@ pub fn run_places(
                 &plan,
                 budget as usize,
                 words,
-                places,
+                held,
                 levels,
                 values,
                 lines,

@@ -31,7 +31,8 @@ use Rattle.monitor.proofs.entry.Outcome.Laws as O′
 use Rattle.table.specs.Cells.{cells}
 use Rattle.table.specs.Promises.{Behind}
 use Rattle.monitor.specs.Promises as Words
-use Rattle.monitor.specs.Promises.{lent, Promises}
+use Rattle.monitor.specs.Promises.{lent, placesFor, Promises}
+use Rattle.monitor.proofs.Answered.{recount, all-places}
 use Rattle.entry.specs.Promises.{Tree, keptOf}
 use Rattle.walks.proofs.Locals.{sized, var, sets, result}
 use Rattle.walks.proofs.Slots.{spread, gather, lends-row, row-back}
@@ -182,17 +183,18 @@ module _ {M : Type 1} (𝓤 : URA M) (H : Heap 𝓤) (A : Atoms 𝓤) (W : Given
     tt,
   )
 
-  goes-core : (ν p : ℕ) (δ : GName) (l : List ℕ) → n < 2 ^ 64 → 8 * min n 512 ≤ length l
+  goes-core : (ν p : ℕ) (δ : GName) (l : List ℕ) → n < 2 ^ 64
       → ent 𝓤 (⋆ 𝓤 H A (‵ (flft κ₀ q₀) ∷ ‵ (flft (ν ∷ []) fullShare) ∷ ‵ (flft κ₂ q₂) ∷ ‵ (flft κ₃ q₃) ∷ ‵ (flft κ₄ q₄) ∷ ‵ J
       ∷ ‵ (MutSlice (named 1) (ν ∷ []) u32 .own (c p δ l) (sc p ∷ [])) ∷ ‵ Le ∷ ‵ Va ∷ ‵ Li ∷ [])) (Core 𝓤 H A mem run .pre (to-core ν p δ l))
-  goes-core ν p δ l n-fits room =
+  goes-core ν p δ l n-fits =
       qed W (‵ (flft κ₀ q₀) ∷ ‵ (flft (ν ∷ []) fullShare) ∷ ‵ (flft κ₂ q₂) ∷ ‵ (flft κ₃ q₃) ∷ ‵ (flft κ₄ q₄) ∷ ‵ J
       ∷ ‵ (MutSlice (named 1) (ν ∷ []) u32 .own (c p δ l) (sc p ∷ [])) ∷ ‵ Le ∷ ‵ Va ∷ ‵ Li ∷ []) ∵
-      says ! room $ nothing ! $ move ! (5 ∷ 0 ∷ []) $ join ! $ move ! (4 ∷ 0 ∷ []) $ join ! $ move ! (3 ∷ 0 ∷ []) $ join ! $
-      move ! (2 ∷ 0 ∷ []) $ join ! $ move ! (1 ∷ 0 ∷ []) $ join ! $ frame ! $
-      nothing ! $ move ! (5 ∷ 0 ∷ []) $ fjoin ! $ move ! (4 ∷ 0 ∷ []) $ fjoin ! $ move ! (3 ∷ 0 ∷ []) $ fjoin ! $ move ! (2 ∷ 0 ∷ []) $ fjoin ! $
+      nothing ! $ move ! (5 ∷ 0 ∷ []) $ join ! $ move ! (4 ∷ 0 ∷ []) $ join ! $ move ! (3 ∷ 0 ∷ []) $ join ! $
+      move ! (2 ∷ 0 ∷ []) $ join ! $ move ! (1 ∷ 0 ∷ []) $ join ! $
+      nothing ! $ move ! (6 ∷ 0 ∷ []) $ fjoin ! $ move ! (5 ∷ 0 ∷ []) $ fjoin ! $ move ! (4 ∷ 0 ∷ []) $ fjoin ! $ move ! (3 ∷ 0 ∷ []) $ fjoin ! $
       owned ! usize (Is usize) (uint-makes 𝓤 H A W w64) n _ (refl, n-fits) $ fjoin ! $
-      owned ! u64 (Is u64) (uint-makes 𝓤 H A W w64) budget _ (refl, budget-fits) $ fjoin ! $ move ! (1 ∷ 0 ∷ []) $ fjoin ! $ done !
+      owned ! u64 (Is u64) (uint-makes 𝓤 H A W w64) budget _ (refl, budget-fits) $ fjoin ! $ move ! (2 ∷ 0 ∷ []) $ fjoin ! $
+      move ! (1 ∷ 0 ∷ []) $ join ! $ frame ! $ done !
 
   abbrev to-kept : Outcome → Val → Kept 𝓤 H A mem run .Ghost
   to-kept r w = ((tt, tt, tt, (r, (n, tt)), (w ∷ [], (vint w64 n ∷ [], tt))), tt)
@@ -218,12 +220,19 @@ module _ {M : Type 1} (𝓤 : URA M) (H : Heap 𝓤) (A : Atoms 𝓤) (W : Given
   -- what `run_places` says of its last values and its answer
   abbrev Said : Lasts → Outcome → Type 0
   Said zs r =
+      Promises (λ w. placesFor n (length w)) Words.Tree (job .now) budget (lent zeros (le .now) (va .now) (li .now))
+      (lent (zs .1 .1 .1 .0) (zs .1 .1 .1 .1 .0) (zs .1 .1 .1 .1 .1 .0) (zs .1 .1 .1 .1 .1 .1 .0)) r
+      × Behind (placesFor n (length zeros)) (cells zeros) (cells (zs .1 .1 .1 .0))
+
+  -- there are words for as many places as there are records
+  abbrev Counted : Lasts → Outcome → Type 0
+  Counted zs r =
       Promises (λ _. n) Words.Tree (job .now) budget (lent zeros (le .now) (va .now) (li .now))
       (lent (zs .1 .1 .1 .0) (zs .1 .1 .1 .1 .0) (zs .1 .1 .1 .1 .1 .0) (zs .1 .1 .1 .1 .1 .1 .0)) r
-      × Behind n (cells zeros) (cells (zs .1 .1 .1 .0))
 
-  core-asks : length zeros ≡ 4096 → 8 * min n 512 ≤ length zeros
-  core-asks len = omega arith
+  counted : length zeros ≡ 4096 → (zs : Lasts) (r : Outcome) → Said zs r → Counted zs r
+  counted len zs r said =
+      recount Words.Tree (λ w. placesFor n (length w)) (λ _. n) (job .now) budget _ _ r (all-places n (length zeros) (omega arith)) (said .0)
 
   -- the exit, with what was passed on at its last values
   module _ (ts : List Node) (ls : List ℕ) (vs : List ℤ) (bs : List ℕ) where
@@ -298,7 +307,7 @@ module _ {M : Type 1} (𝓤 : URA M) (H : Heap 𝓤) (A : Atoms 𝓤) (W : Given
         -- [the slice; the lender's part; the token of ν; the tokens (3); the job (8); the table; the levels; the values; the lines; _23 (13); …]
         move ! (8 ∷ []) $ use1 W (‵ J ⊛ ‵ J) (shr-slice-copy 𝓤 H A W (named 0) κ₀ u8 .twice job (sj ∷ [])) $ split ! $
         move ! (5 ∷ 4 ∷ 7 ∷ 8 ∷ 9 ∷ 0 ∷ 2 ∷ 11 ∷ 12 ∷ 13 ∷ []) $ group ! 10 $
-        use1 W (raw (Core 𝓤 H A mem run .pre (to-core ν l₈ δ zeros))) (goes-core ν l₈ δ zeros (rt .0) (core-asks len)) $
+        use1 W (raw (Core 𝓤 H A mem run .pre (to-core ν l₈ δ zeros))) (goes-core ν l₈ δ zeros (rt .0)) $
         -- [the pre; the job; the lender's part; the second token; the table; _23 (5); …]
         calls-at ! (fmOf 𝓤 H (W .laws) 𝓣) (Core 𝓤 H A mem run) known-core (to-core ν l₈ δ zeros)
         (and-then ! (var ! 48 refl) (and-then ! (var ! 46 refl) (and-then ! (var ! 36 refl) (and-then ! (var ! 27 refl) (and-then ! (var ! 23 refl)
@@ -351,7 +360,7 @@ module _ {M : Type 1} (𝓤 : URA M) (H : Heap 𝓤) (A : Atoms 𝓤) (W : Given
         -- (11); the table; _23 (13); …]
         move ! (11 ∷ 2 ∷ 12 ∷ 0 ∷ []) $ group ! 4 $
         use1 W (raw (Store 𝓤 H A mem run .pre (to-store μ l₈ ε ws k v))) (goes-store μ l₈ ε ws k v isk (store-asks _ _ ys (lent _ _ _ _) (lent _ _ _
-        _) r k ek (said .0) (same ∙ len))) $
+        _) r k ek (counted len zs r said) (same ∙ len))) $
         -- [the pre; the lender's part; the tokens but the second; the last levels, values, lines; the job; _23 (10); …]
         calls-at ! (fmOf 𝓤 H (W .laws) 𝓣) (Store 𝓤 H A mem run) known-store (to-store μ l₈ ε ws k v) (and-then ! (var ! 14 refl) (and-then ! (var !
         10 refl) (and-then ! (var ! 36 refl) (no-more !)))) (λ w₂.
@@ -383,7 +392,7 @@ module _ {M : Type 1} (𝓤 : URA M) (H : Heap 𝓤) (A : Atoms 𝓤) (W : Given
         move ! (18 ∷ 19 ∷ []) $ free1 ! $ move ! (16 ∷ 17 ∷ []) $ free1 ! $ move ! (14 ∷ 15 ∷ []) $ free1 ! $ move ! (12 ∷ 13 ∷ []) $ free1 ! $
         free0 ! $
         keep ! (4 ∷ 2 ∷ 5 ∷ 6 ∷ 7 ∷ 11 ∷ 3 ∷ 8 ∷ 9 ∷ 10 ∷ []) $ by ! (exits (us .0) (zs .1 .1 .1 .1 .0) (zs .1 .1 .1 .1 .1 .0) (zs .1 .1 .1 .1 .1 .1
-        .0) r w (promised _ _ ys (lent _ _ _ _) (lent _ _ _ _) r k ek (said .0) (us .0) et) lt ll lv lb
+        .0) r w (promised _ _ ys (lent _ _ _ _) (lent _ _ _ _) r k ek (counted len zs r said) (us .0) et) lt ll lv lb
         isr)))))))))))))))))))))))))))))))))))))))))))))))))))
 
 module _ {M : Type 1} (𝓤 : URA M) (H : Heap 𝓤) (A : Atoms 𝓤) (W : Given 𝓤 H A) (mem : Memory → SProp 𝓤) (run : Routine → Fun 𝓤) (𝓣 : Tables 𝓤 H)

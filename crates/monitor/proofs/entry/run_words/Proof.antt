@@ -1,16 +1,22 @@
--- `entry::run_words` meets its contract: it has the places that its words make. Assumes nothing.
-use mathlib.Core.Path.{refl}
-use Rattle.monitor.specs.Promises.{lent, placesIn, Tree}
-use Rattle.monitor.proofs.Answered.{recount}
+-- It has the places that its words make, and words for all of them. Assumes nothing.
+use mathlib.Core.Path.{sym, subst}
+use Prim.Native.Nat.{_≤_}
+use native.Mathlib.Omega.{arith}
+use lib.ListN.{length}
+use Rattle.monitor.specs.Promises.{lent, placesIn, placesFor, Tree}
+use Rattle.monitor.proofs.Answered.{recount, all-places}
 use borrow.Author.Needs.{needs}
 use Rattle.monitor.proofs.entry.run_words.Statement.{statement}
 use Rattle.monitor.proofs.entry.run_words.Tie as tie
 
 returns : tie.Need-returns
 returns c =
-    let s = c .before .before .before .before .before .before .before .before .before .before .before .before .before .before .before .before in
+    let w = c .before .before .before .before .before .before .before .before .before .before .before .before .before .before .before .before .args .words .now in
     let e = c .before .before .before .before .before .before .before .run-places .ensures in
-    (recount Tree (λ _. placesIn (s .args .words .now)) placesIn _ _ (lent _ _ _ _) (lent _ _ _ _) _ refl (e .0), e .1)
+    let z = all-places (placesIn w) (length w) (omega arith) in (
+      recount Tree (λ (v : _). placesFor (placesIn w) (length v)) placesIn _ _ (lent _ _ _ _) (lent _ _ _ _) _ z (e .0),
+      record { same = λ y h. e .1 .same y (subst (λ k. k ≤ y) (sym z) h) },
+    )
 
 pub run-words-spec : {M : Type 1} → statement M
 run-words-spec =
