@@ -4,6 +4,7 @@ mod names;
 mod tree;
 
 use libc::STDIN_FILENO;
+use monitor::Outcome;
 use monitor::run_words;
 use print::Out;
 use print::SIZE;
@@ -51,6 +52,26 @@ fn variable(buf: &mut [u8; SIZE], out: Out, i: usize, level: u8, value: i32) -> 
     print::byte(buf, r, b'\n')
 }
 
+// The first n variables, each on a line of its own.
+fn each(
+    buf: &mut [u8; SIZE],
+    out: Out,
+    n: usize,
+    levels: &[u8; VARIABLES],
+    values: &[i32; VARIABLES],
+) -> Out
+    requires { ⌜ (out .used ≤ 65536) × (n ≤ 64) ⌝ }
+    ensures { λ r. ⌜ r .used ≤ 65536 ⌝ }
+{
+    let mut r = out;
+    let mut i = 0;
+    while i < n {
+        r = variable(buf, r, i, levels[i], values[i]);
+        i += 1;
+    }
+    r
+}
+
 // The variables with their levels.
 fn variables(
     buf: &mut [u8; SIZE],
@@ -64,16 +85,59 @@ fn variables(
 {
     let mut r = print::item(buf, out, b"variables ", n as u64);
     r = print::byte(buf, r, b'\n');
-    let mut i = 0;
-    while i < n {
-        r = variable(buf, r, i, levels[i], values[i]);
-        i += 1;
-    }
-    r
+    each(buf, r, n, levels, values)
 }
 
 fn wide(x: u8) -> u64 {
     x as u64
+}
+
+// What a run has left: its lines, its variables and its tree.
+fn left(
+    buf: &mut [u8; SIZE],
+    out: Out,
+    a: Answer,
+    n: usize,
+    words: &[u32; WORDS],
+    levels: &[u8; VARIABLES],
+    values: &[i32; VARIABLES],
+    lines: &[u8],
+) -> Out
+    requires { ⌜ (out .used ≤ 65536) × (n ≤ 64) ⌝ }
+    ensures { λ r. ⌜ r .used ≤ 65536 ⌝ }
+{
+    let mut r = board(buf, out, a, lines);
+    r = variables(buf, r, n, levels, values);
+    tree::show(buf, r, words)
+}
+
+// What became of a job, and what its run has left if it was run.
+fn show(
+    job: &[u8],
+    o: Outcome,
+    words: &[u32; WORDS],
+    levels: &[u8; VARIABLES],
+    values: &[i32; VARIABLES],
+    lines: &[u8],
+) {
+    let a = answer::of(o);
+    let mut buf = io::large_buffer();
+    let mut out = ending(&mut buf, print::to(print::OUTPUT), a);
+    if answer::was_run(o) {
+        out = left(
+            &mut buf,
+            out,
+            a,
+            variables_of(job),
+            words,
+            levels,
+            values,
+            lines,
+        );
+        print::flush(&buf, out);
+    } else {
+        print::flush(&buf, out);
+    }
 }
 
 fn run(job: &[u8]) {
@@ -89,17 +153,7 @@ fn run(job: &[u8]) {
         &mut values,
         &mut lines,
     );
-    let a = answer::of(o);
-    let mut buf = io::large_buffer();
-    let mut out = ending(&mut buf, print::to(print::OUTPUT), a);
-    if answer::was_run(o) {
-        out = board(&mut buf, out, a, &lines);
-        out = variables(&mut buf, out, variables_of(job), &levels, &values);
-        out = tree::show(&mut buf, out, &words);
-        print::flush(&buf, out);
-    } else {
-        print::flush(&buf, out);
-    }
+    show(job, o, &words, &levels, &values, &lines);
 }
 
 // The buffer has more places than a job has bytes, so that a job that is too long is seen.

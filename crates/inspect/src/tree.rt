@@ -16,7 +16,7 @@ fn indent(buf: &mut [u8; SIZE], out: Out, depth: usize) -> Out
     requires { ⌜ out .used ≤ 65536 ⌝ }
     ensures { λ r. ⌜ r .used ≤ 65536 ⌝ }
 {
-    let mut r = print::text(buf, out, b"  ");
+    let mut r = out;
     let mut left = depth;
     while left > 0 {
         r = print::text(buf, r, b"  ");
@@ -45,7 +45,7 @@ fn line(buf: &mut [u8; SIZE], out: Out, words: &[u32; WORDS], v: Visit) -> Out
     let content = node::content(words, PLACES, at);
     let list = node::structure(words, PLACES, at);
     let mut r = indent(buf, out, v.depth);
-    r = print::text(buf, r, b"value ");
+    r = print::text(buf, r, b"  value ");
     r = print::signed(buf, r, value);
     levels(buf, r, existence, content, list)
 }

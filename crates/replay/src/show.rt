@@ -127,6 +127,26 @@ fn put_lent_tree(buf: &mut [u8; SIZE], out: Out, words: &[u32; WORDS], places: u
     put_tree(buf, out, words, places)
 }
 
+// What a run has left: its lines, its variables and its tree.
+fn put_left(
+    buf: &mut [u8; SIZE],
+    out: Out,
+    count: usize,
+    n: usize,
+    places: usize,
+    words: &[u32; WORDS],
+    levels: &[u8; VARIABLES],
+    values: &[i32; VARIABLES],
+    lines: &[u8],
+) -> Out
+    requires { ⌜ (out .used ≤ 65536) × (n ≤ 64) ⌝ }
+    ensures { λ r. ⌜ r .used ≤ 65536 ⌝ }
+{
+    let mut r = print::lines(buf, out, b"line ", lines, count);
+    r = put_variables(buf, r, n, levels, values);
+    put_lent_tree(buf, r, words, places)
+}
+
 // What became of job k: its answer, and where it was run its lines, variables and tree.
 fn put_run(
     buf: &mut [u8; SIZE],
@@ -144,13 +164,21 @@ fn put_run(
     ensures { λ r. ⌜ r .used ≤ 65536 ⌝ }
 {
     let a = answer::of(o);
-    let mut r = put_answer(buf, out, k, a);
+    let r = put_answer(buf, out, k, a);
     if !answer::was_run(o) {
         return r;
     }
-    r = print::lines(buf, r, b"line ", lines, a.lines);
-    r = put_variables(buf, r, variables_of(job), levels, values);
-    put_lent_tree(buf, r, words, places)
+    put_left(
+        buf,
+        r,
+        a.lines,
+        variables_of(job),
+        places,
+        words,
+        levels,
+        values,
+        lines,
+    )
 }
 
 // Runs a job through the run over lent node records, and puts what became of it.

@@ -3,20 +3,12 @@ mod report;
 mod settings;
 
 ghost use Prim.Native.Nat.{_≤_};
-use job::Checked;
 use libc::STDIN_FILENO;
 use monitor::run_words;
+use print::runner::variables_of;
 use settings::Settings;
 use text::expand;
 use text::find;
-
-// How many variables a job has, where the checks accept it.
-fn variables(bytes: &[u8]) -> usize {
-    match job::check(bytes) {
-        Checked::Accepted(l) => l.variables,
-        Checked::Refused { number, index } => 0,
-    }
-}
 
 // Runs a job with what it is lent, and prints what it comes to.
 fn run_lent(
@@ -29,7 +21,7 @@ fn run_lent(
     lines: &mut [u8],
 ) {
     let o = run_words(bytes, budget, words, levels, values, lines);
-    report::show(name, o, lines, values, variables(bytes));
+    report::show(name, o, lines, values, variables_of(bytes));
 }
 
 // Lends a job buffers of the lengths that it asks for.

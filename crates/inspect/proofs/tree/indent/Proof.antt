@@ -5,13 +5,13 @@ use Rattle.inspect.proofs.tree.indent.Statement.{statement}
 use Rattle.inspect.proofs.tree.indent.Tie as tie
 
 abbrev Inv-loop : tie.InvT-loop
-Inv-loop buf₀ depth r₀ left₀ t7 buf r left = r .used ≤ 65536
+Inv-loop buf₀ depth r₀ left₀ t buf r left = r .used ≤ 65536
 
 abbrev μ-loop : tie.MeasureT-loop
-μ-loop buf₀ depth r₀ left₀ t7 buf r left = left
+μ-loop buf₀ depth r₀ left₀ t buf r left = left
 
 pub indent-spec : {M : Type 1} → statement M
 indent-spec =
     tie.close (tie.spec
-    Inv-loop μ-loop (λ c. search needs) (λ c κs. search needs) (λ c. search needs) (λ c. search needs) (λ c κs. search needs) (λ c. search needs)
-    (λ c. search needs) (λ c. search needs) (λ c. search needs))
+    Inv-loop μ-loop (λ c. search needs) (λ c. search needs) (λ c κs. search needs) (λ c. search needs) (λ c. search needs)
+    (λ c. search needs) (λ c. search needs))
