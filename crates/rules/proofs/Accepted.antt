@@ -1,5 +1,5 @@
 -- What is known of an accepted job: every rule holds, as the chain of checks has passed each; and its script's command numbers are its bytes, so the
--- jumps by the bytes are the jumps by the script. Assumes nothing.
+-- jumps by the bytes are the jumps by the script. The same of a bare section. Assumes nothing.
 use mathlib.Core.Path.{_≡_, sym, ap, _∙_}
 use mathlib.Core.Bool.{true}
 use mathlib.Core.List.{List}
@@ -13,13 +13,13 @@ use Rattle.rules.specs.Script.{number, numberAt}
 use Rattle.rules.specs.Blocks.{blockRule, goesTo}
 use Rattle.rules.specs.Check.{accepted, lengthRule, offsetRule, countRule, variableRule, parent, parentRule, nodeRule, recordRule, code}
 use Rattle.rules.specs.Check.{checkRecords, checkBytes}
-use Rattle.rules.specs.Job.{script}
+use Rattle.rules.specs.Job.{script, scriptOf}
 use Rattle.rules.proofs.Parts.{byIf}
 use Rattle.rules.proofs.Jumps.{isIn, closed}
 use Rattle.rules.proofs.SameNumbers.{rule-agree, goes-agree}
 use Rattle.rules.proofs.Nests.{parts-done}
 use Rattle.rules.proofs.Checks.{passed-one, passed-each}
-use Rattle.rules.proofs.Decode.{spelled, numbered-at}
+use Rattle.rules.proofs.Decode.{section-spelled, numbered-at}
 
 -- the eight rules
 pub record Right (b : List ℕ) : Type 0 where
@@ -59,19 +59,30 @@ pub parent-before : (b : List ℕ) (base i : ℕ) → (i ≡ 0 → ⊥) → pare
 unfolding parentRule
 parent-before b base i n h = ltb-true _ _ (rw (ne-eqb i 0 n) at h)
 
-module _ (b : List ℕ) (r : Right b) where
+-- n records from base on that pass the checks 7 and 8, of a job or of a bare section
+module _ (b : List ℕ) (vars base n : ℕ) (records : (i : ℕ) → i < n → recordRule b vars (recordPlace base i) ≡ true)
+    (blocks : (i : ℕ) → i < suc n → blockRule (code b base) n i ≡ true) where
   -- the first byte of a record is the number of its command
-  pub numbered : (i : ℕ) → i < recordCount b → code b (scriptAt b) i ≡ numberAt (script b) i
+  pub section-numbered : (i : ℕ) → i < n → code b base i ≡ numberAt (scriptOf b base n) i
   unfolding code numberAt
-  numbered i h = sym (ap number (spelled b i h) ∙ numbered-at b (variableCount b) (recordPlace (scriptAt b) i) (r .records i h))
+  section-numbered i h = sym (ap number (section-spelled b base n i h) ∙ numbered-at b vars (recordPlace base i) (records i h))
 
   -- check 8, of the script's command numbers
+  pub section-blocks : (i : ℕ) → i < suc n → blockRule (numberAt (scriptOf b base n)) n i ≡ true
+  section-blocks i h = sym (rule-agree (code b base) (numberAt (scriptOf b base n)) n section-numbered i (omega arith)) ∙ blocks i h
+
+  pub section-jumps : (k : ℕ) → k < n → goesTo (code b base) n k ≡ goesTo (numberAt (scriptOf b base n)) n k
+  unfolding isIn
+  section-jumps k h =
+      let f = code b base in
+      goes-agree f (numberAt (scriptOf b base n)) n section-numbered k h (λ e. closed f n n k h (byIf e) (ap (isIn k) (parts-done f n blocks)))
+
+-- a job's own script
+module _ (b : List ℕ) (r : Right b) where
   pub blocks-right : (i : ℕ) → i < suc (recordCount b) → blockRule (numberAt (script b)) (recordCount b) i ≡ true
-  blocks-right i h = sym (rule-agree (code b (scriptAt b)) (numberAt (script b)) (recordCount b) numbered i (omega arith)) ∙ r .blocks i h
+  unfolding script
+  blocks-right = section-blocks b (variableCount b) (scriptAt b) (recordCount b) (r .records) (r .blocks)
 
   pub jumps-agree : (k : ℕ) → k < recordCount b → goesTo (code b (scriptAt b)) (recordCount b) k ≡ goesTo (numberAt (script b)) (recordCount b) k
-  unfolding isIn
-  jumps-agree k h =
-      let n = recordCount b in
-      let f = code b (scriptAt b) in
-      goes-agree f (numberAt (script b)) n numbered k h (λ e. closed f n n k h (byIf e) (ap (isIn k) (parts-done f n (r .blocks))))
+  unfolding script
+  jumps-agree = section-jumps b (variableCount b) (scriptAt b) (recordCount b) (r .records) (r .blocks)

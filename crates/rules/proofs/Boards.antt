@@ -1,6 +1,6 @@
 -- What boards can tell: of lists that begin one another the longest has all as beginnings, and two are equal where they are equally long, so there are
 -- no more of them than lengths. Assumes nothing.
-use mathlib.Core.Path.{_≡_, refl, sym, _∙_, ap}
+use mathlib.Core.Path.{_≡_, sym, _∙_, ap}
 use mathlib.Core.Logic.{inl, inr}
 use Prim.Native.Nat.{ℕ, suc, _≤_}
 use native.Mathlib.Omega.{arith}

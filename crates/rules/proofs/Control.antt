@@ -1,19 +1,19 @@
 -- What every step keeps of a run's state: its memory is sound, its guards are levels, its record lies in the script, and its block stack is as
 -- deep as the script's nesting there. A step keeps to the blocks that are open, opens one, or leaves the innermost. Assumes nothing.
 use mathlib.Core.Path.{_≡_, refl, sym, _∙_, ap}
-use Prim.Native.Nat.{ℕ, zero, suc, _≤_, _<_}
+use Prim.Native.Nat.{ℕ, suc, _≤_, _<_}
 use native.Mathlib.Omega.{arith}
 use mathlib.Core.Bool.{Bool, true, false, cond}
 use mathlib.Core.List.{List, [], _∷_, tail}
 use lib.ListN.{length}
-use lib.Dec.{eqb, ltb}
+use lib.Dec.{eqb}
 use borrow.Author.Tests.{eqb-false, ltb-true}
-use Rattle.rules.specs.Level.{Level, public, isLevel}
+use Rattle.rules.specs.Level.{isLevel}
 use Rattle.rules.specs.Number.{isZero}
 use Rattle.rules.specs.Tree.{child, sibling}
 use Rattle.rules.specs.Script.{Expression, Action, Command, act, actionNumber, number, fetch, numberAt}
-use Rattle.rules.specs.Blocks.{opens, blockRule, goesTo}
-use Rattle.rules.specs.Run.{Memory, Block, State, Buffers, Result, context, value, levelOf, effect, stepped, onward, pushed, enterIf, enterWhile, carried, step}
+use Rattle.rules.specs.Blocks.{blockRule, goesTo}
+use Rattle.rules.specs.Run.{Memory, Block, State, Buffers, context, value, levelOf, stepped, pushed, enterIf, enterWhile, carried, step}
 use Rattle.rules.proofs.Tests.{Test, holds, fails, test}
 use Rattle.rules.proofs.Lattice.{na-right, level-below, level-join}
 use Rattle.rules.proofs.Parts.{Plain, if-opens, while-opens}

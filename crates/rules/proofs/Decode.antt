@@ -37,14 +37,23 @@ pub variable-at : (b : List ℕ) (d : Variable) (i : ℕ) → i < variableCount 
 unfolding variables
 variable-at b d i h = listed-from-zero (λ (k : ℕ). variableOf b (variablePlace k)) d (variableCount b) i h
 
-pub script-length : (b : List ℕ) → length (script b) ≡ recordCount b
-unfolding script scriptOf
-script-length b = listed-length _ (recordCount b) 0
+-- what a run goes by: record i of a section's script is what its bytes spell
+module _ (b : List ℕ) (base n : ℕ) where
+  pub section-length : length (scriptOf b base n) ≡ n
+  unfolding scriptOf
+  section-length = listed-length _ n 0
 
--- what a run goes by: record i of the script is what its bytes spell
+  pub section-spelled : (i : ℕ) → i < n → fetch (scriptOf b base n) i ≡ commandOf b (recordPlace base i)
+  unfolding scriptOf fetch
+  section-spelled i h = listed-from-zero (λ (k : ℕ). commandOf b (recordPlace base k)) (act Action.skip) n i h
+
+pub script-length : (b : List ℕ) → length (script b) ≡ recordCount b
+unfolding script
+script-length b = section-length b (scriptAt b) (recordCount b)
+
 pub spelled : (b : List ℕ) (i : ℕ) → i < recordCount b → fetch (script b) i ≡ commandOf b (recordPlace (scriptAt b) i)
-unfolding script scriptOf fetch
-spelled b i h = listed-from-zero (λ (k : ℕ). commandOf b (recordPlace (scriptAt b) k)) (act Action.skip) (recordCount b) i h
+unfolding script
+spelled b = section-spelled b (scriptAt b) (recordCount b)
 
 numbered : (t : ℕ) (e : Expression) (k : ℕ) → k < commandCount → number (getD (commands t e) k (act Action.skip)) ≡ k
 unfolding commands actionNumber number listed

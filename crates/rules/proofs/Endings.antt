@@ -5,8 +5,8 @@ use native.Mathlib.Omega.{arith}
 use mathlib.Core.List.{List}
 use Rattle.rules.specs.Check.{Checked, accepted, refused}
 use Rattle.rules.specs.Job.{script}
-use Rattle.rules.specs.Run.{State, Buffers, Stop, flow, absent, tableFull, boardFull, spent, low, stopNumber, Ending, finished, stopped, Ended, run}
-use Rattle.rules.specs.Outcome.{checkJob, Outcome, rejected, ran, begin, runJob, endingNumber, answer, LowNeverGiven}
+use Rattle.rules.specs.Run.{State, Buffers, Stop, flow, absent, tableFull, boardFull, spent, low, stopNumber, Ending, finished, stopped, run}
+use Rattle.rules.specs.Outcome.{checkJob, rejected, ran, begin, runJob, endingNumber, answer, LowNeverGiven}
 use Rattle.rules.specs.Public.{Finishes}
 use Rattle.rules.proofs.Checks.{refuses-with, Numbered, job-numbered}
 use Rattle.rules.proofs.Sound.{High}

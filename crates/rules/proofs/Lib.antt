@@ -32,6 +32,7 @@ pub mod Loaded
 pub mod Control
 pub mod Region
 pub mod Secrecy
+pub mod Starts
 pub mod Noninterference
 pub mod Invariants
 pub mod Endings
@@ -39,3 +40,8 @@ pub mod Witness
 pub mod Distinct
 pub mod Boards
 pub mod Reached
+pub mod Preserved
+pub mod Size
+pub mod Stores
+pub mod History
+pub mod HistoryTrials

@@ -1,15 +1,13 @@
 -- A run only adds to its lines. Assumes nothing.
 use mathlib.Core.Path.{_≡_, refl, sym, _∙_, ap}
 use Prim.Native.Nat.{ℕ}
-use mathlib.Core.Bool.{Bool, true, false, cond}
 use mathlib.Core.Option.{Option, none, some}
 use mathlib.Core.List.{List, [], _∷_, _++_, IsPrefix, append-nil, append-assoc}
 use lib.IntN.{ℤ}
 use Rattle.rules.specs.Level.{Level}
-use Rattle.rules.specs.Number.{isZero}
 use Rattle.rules.specs.Tree.{Place}
 use Rattle.rules.specs.Script.{Expression, Action, Command, act, fetch}
-use Rattle.rules.specs.Run.{Memory, State, Buffers, Result, value, withVariables, withTree, withCursor, withLine, assign, output, moveTo, goTo, insertAt, removeAt, write, effect, stepped, onward, enterIf, enterWhile, carried, step, run}
+use Rattle.rules.specs.Run.{Memory, State, Buffers, value, withVariables, withTree, withCursor, withLine, assign, output, moveTo, goTo, insertAt, removeAt, write, effect, stepped, enterIf, enterWhile, carried, step, run}
 use Rattle.rules.proofs.Results.{Good, good-need, good-map, good-onward}
 use Rattle.rules.proofs.Runs.{run-keeps}
 

@@ -1,20 +1,19 @@
 -- The tree of node records that pass the checks 5 and 6 keeps the tree rules: the children of each record are bounded below by the nearest
 -- earlier record with the same parent, or by the parent. Assumes nothing.
-use mathlib.Core.Path.{_≡_, refl, sym, _∙_, ap}
+use mathlib.Core.Path.{_≡_, refl, ap}
 use Prim.Native.Nat.{ℕ, zero, suc, _+_, _-_, _≤_, _<_}
 use native.Mathlib.Omega.{arith}
-use mathlib.Core.Bool.{Bool, true, false, cond, _&&_}
+use mathlib.Core.Bool.{true, false}
 use mathlib.Core.Option.{Option, none, some}
 use mathlib.Core.List.{List}
-use lib.Dec.{eqb, ltb, eqb·suc-zero}
-use borrow.Author.Tests.{eqb-true, ltb-true, ne-eqb, eq-eqb}
-use Rattle.rules.specs.Level.{Level, public, notAbove, isLevel}
-use Rattle.rules.specs.Tree.{Label, Levels, Fit, Fits, TreeRules}
+use lib.Dec.{eqb, eqb·suc-zero}
+use borrow.Author.Tests.{eqb-true, ltb-true, ne-eqb}
+use Rattle.rules.specs.Level.{Level, notAbove, isLevel}
+use Rattle.rules.specs.Tree.{Levels, Fit, Fits, TreeRules}
 use Rattle.rules.specs.Check.{parent, existence, content, structure, parentRule, labelRule, nearest, leftRule, childRule, nodeRule}
-use Rattle.rules.specs.Job.{labelOf, childrenOf, treeOf, Variable, variableOf, listed}
+use Rattle.rules.specs.Job.{labelOf, childrenOf, treeOf, Variable, allLevels, listed}
 use Rattle.rules.proofs.Tests.{Test, holds, fails, test, both}
 use Rattle.rules.proofs.Lattice.{na-public}
-use Rattle.rules.proofs.Sound.{AllLevels}
 
 module _
     (b : List ℕ) (base n : ℕ) (few : n ≤ 512) (parents : (i : ℕ) → i < n → parentRule b base i ≡ true) (rules : (i : ℕ) → i < n → nodeRule b base i ≡ true)
@@ -112,7 +111,7 @@ module _
         )
 
 -- the levels of variable records that pass check 4 are levels
-pub all-levels : (f : ℕ → Variable) (n i : ℕ) → ((k : ℕ) → i ≤ k → k < i + n → isLevel ((f k) .level) ≡ true) → AllLevels (listed f n i)
-unfolding listed
-all-levels f zero i h = tt
-all-levels f (suc n) i h = (h i (omega arith) (omega arith), all-levels f n (suc i) (λ k a c. h k (omega arith) (omega arith)))
+pub all-levels : (f : ℕ → Variable) (n i : ℕ) → ((k : ℕ) → i ≤ k → k < i + n → isLevel ((f k) .level) ≡ true) → allLevels (listed f n i) ≡ true
+unfolding listed allLevels
+all-levels f zero i h = refl
+all-levels f (suc n) i h = rw (h i (omega arith) (omega arith)) (all-levels f n (suc i) (λ k a c. h k (omega arith) (omega arith)))

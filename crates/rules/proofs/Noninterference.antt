@@ -2,81 +2,61 @@
 -- indistinguishable. A job that 9 or 10 turns back has no lines. Assumes nothing.
 use mathlib.Core.Path.{_≡_, refl, sym, subst}
 use mathlib.Core.Logic.{inl, inr}
-use Prim.Native.Nat.{ℕ, suc, _+_, _≤_, _<_}
+use Prim.Native.Nat.{ℕ}
 use native.Mathlib.Omega.{arith}
-use mathlib.Core.Bool.{Bool, true, false, _&&_}
-use mathlib.Core.List.{List, []}
-use lib.ListN.{length}
-use Rattle.rules.specs.Level.{Level, public, notAbove}
-use Rattle.rules.specs.Tree.{Forest, exists, label, sub, TreeRules}
-use Rattle.rules.specs.Script.{Command, numberAt}
+use mathlib.Core.Bool.{true, false}
+use mathlib.Core.List.{List}
+use Rattle.rules.specs.Level.{Level, public}
+use Rattle.rules.specs.Tree.{exists}
 use Rattle.rules.specs.Bytes.{variablePlace, nodesAt, scriptAt, variableCount, nodeCount, recordCount}
-use Rattle.rules.specs.Check.{Checked, accepted, refused, checkBytes, countRule, variableRule}
-use Rattle.rules.specs.Job.{Variable, variables, variableOf, treeOf, jobTree, script}
-use Rattle.rules.specs.Run.{State, Buffers, context, current, start, run}
+use Rattle.rules.specs.Check.{Checked, accepted, refused, checkBytes, variableRule}
+use Rattle.rules.specs.Job.{variables, variableOf, treeOf, jobTree, script}
+use Rattle.rules.specs.Run.{State, Buffers, run}
 use Rattle.rules.specs.Outcome.{andThen, checkJob, Outcome, rejected, ran, runJob, begin, boardLines}
-use Rattle.rules.specs.Public.{AgreeVariables, Alike, Finishes, Indistinguishable, Noninterference, Demand3}
+use Rattle.rules.specs.Public.{Alike, Finishes, Indistinguishable, Noninterference, Demand3}
 use Rattle.rules.proofs.Tests.{clash}
-use Rattle.rules.proofs.Lattice.{na-public, level-public, vis-public}
-use Rattle.rules.proofs.Nests.{nest}
-use Rattle.rules.proofs.Sound.{Sound, AllLevels}
-use Rattle.rules.proofs.View.{view}
-use Rattle.rules.proofs.ByPlace.{cuts-equal}
 use Rattle.rules.proofs.Loaded.{tree-rules, all-levels}
-use Rattle.rules.proofs.Accepted.{Right, right, blocks-right}
+use Rattle.rules.proofs.Accepted.{right}
 use Rattle.rules.proofs.Checks.{counts}
-use Rattle.rules.proofs.Decode.{script-length}
 use Rattle.rules.proofs.Control.{Closed, Valid}
-use Rattle.rules.proofs.Secrecy.{Twins, indistinguishable}
+use Rattle.rules.proofs.Secrecy.{indistinguishable}
+use Rattle.rules.proofs.Starts.{closed-section, Kept, start-valid, start-twins}
 
 -- what an accepted job holds
 pub record Loads (b : List ℕ) : Type 0 where
-  pub tree : TreeRules (jobTree b)
-  pub variables : AllLevels (variables b)
+  pub kept : Kept (variables b) (jobTree b)
   pub script : Closed (script b)
 
-closed-script : (b : List ℕ) → Right b → Closed (script b)
-closed-script b r = record { blocks = rw (script-length b) (blocks-right b r) }
-
 pub loads : (b : List ℕ) → checkBytes b ≡ accepted → Loads b
-unfolding jobTree variables variableOf variableRule
+unfolding jobTree treeOf exists variables variableOf variableRule script
 loads b e =
     let r = right b e in
     let n = counts _ _ _ (r .counts) in
     record {
-      tree = tree-rules b (nodesAt b) (nodeCount b) (n .nodes) (r .parents) (r .nodes) (n .some);
-      variables = all-levels (λ i. variableOf b (variablePlace i)) (variableCount b) 0 (λ k a c. r .variables k (omega arith));
-      script = closed-script b r;
+      kept =
+          record {
+            variables = all-levels (λ i. variableOf b (variablePlace i)) (variableCount b) 0 (λ k a c. r .variables k (omega arith));
+            root = refl;
+            tree = tree-rules b (nodesAt b) (nodeCount b) (n .nodes) (r .parents) (r .nodes) (n .some);
+          };
+      script = closed-section b (variableCount b) (scriptAt b) (recordCount b) (r .records) (r .blocks);
     }
 
 -- an accepted job starts in a valid state
 pub begin-valid : (b : List ℕ) → Loads b → Valid (script b) (begin b)
-unfolding begin start context nest current sub jobTree treeOf exists label
-begin-valid b l =
-    record {
-      memory = record { rules = l .tree; stands = refl; covered = l .tree .0 .under; cursor = level-public; variables = l .variables };
-      guards = level-public;
-      within = omega arith;
-      depth = refl;
-    }
-
--- two jobs that are alike start as twins
-begin-twins : (o : Level) (a b : List ℕ) → Loads a → Loads b → Alike o a b → Twins o (begin a) (begin b)
-unfolding begin start view context AgreeVariables
-begin-twins o a b la lb s =
-    let t = cuts-equal o (jobTree a) (jobTree b) (la .tree) (lb .tree) (s .parts .trees) in
-    record {
-      seen = λ i. record { variables = s .parts .variables i; tree = t i; cursor = (view o ((begin a) .memory)) .cursor; lines = [] };
-      blocks = refl;
-      at = refl;
-      light = vis-public o;
-    }
+unfolding begin
+begin-valid b l = start-valid (variables b) (jobTree b) (l .kept) (script b)
 
 -- what acceptance says of the run
 accepted-bytes : (c d : Checked) → andThen c d ≡ accepted → c ≡ accepted
 unfolding andThen
 accepted-bytes accepted d e = refl
 accepted-bytes (refused k i) d e = e
+
+pub accepted-rest : (c d : Checked) → andThen c d ≡ accepted → d ≡ accepted
+unfolding andThen
+accepted-rest accepted d e = e
+accepted-rest (refused k i) d e = let z : true ≡ false = cc in clash refl z
 
 pub bytes-accepted : (b : List ℕ) (n : ℕ) (lent : Buffers) → checkJob b n lent ≡ accepted → checkBytes b ≡ accepted
 unfolding checkJob
@@ -106,12 +86,13 @@ module _ (o : Level) where
   module _ (a b : List ℕ) (n m : ℕ) (lent lent′ : Buffers) (ha : checkBytes a ≡ accepted) (hb : checkBytes b ≡ accepted) (alike : Alike o a b) where
     -- both are run
     both-run : Indistinguishable o (ran (run lent (script a) n (begin a))) (ran (run lent′ (script b) m (begin b)))
+    unfolding begin
     both-run =
         let la = loads a ha in
         let lb = loads b hb in
         subst (λ cs. Indistinguishable o (ran (run lent (script a) n (begin a))) (ran (run lent′ cs m (begin b)))) (alike .script)
         (indistinguishable o lent lent′ (script a) (la .script) n m (begin a) (begin b) (begin-valid a la)
-        (subst (λ cs. Valid cs (begin b)) (sym (alike .script)) (begin-valid b lb)) (begin-twins o a b la lb alike))
+        (subst (λ cs. Valid cs (begin b)) (sym (alike .script)) (begin-valid b lb)) (start-twins o _ _ _ _ (la .kept) (lb .kept) (alike .parts)))
 
     told : Indistinguishable o (runJob a n lent) (runJob b m lent′)
     unfolding runJob

@@ -7,10 +7,8 @@ use lib.ListN.{length}
 use borrow.Author.Tests.{eqb-false}
 use lib.IntN.{ℤ, pos}
 use Rattle.rules.specs.Level.{public}
-use Rattle.rules.specs.Run.{Buffers}
-use Rattle.rules.specs.Outcome.{Answer, answer}
 use Rattle.rules.specs.Trials.{usual, one, both, bare, v, number, value, withPlaces}
-use Rattle.rules.specs.Board.{Different, Family, outcome, board}
+use Rattle.rules.specs.Board.{Different, Family, board}
 use Rattle.rules.proofs.Computed.{computed}
 
 -- if v1 is z, up (there is nothing above the root, so 22), end, print value
@@ -38,12 +36,12 @@ numbers = pos 0 ∷ pos 1 ∷ pos 2 ∷ pos 3 ∷ []
 
 -- their boards
 pub boards-differ : map (board jobs) numbers ≡ [] ∷ (pos 10 ∷ []) ∷ (pos 10 ∷ pos 10 ∷ []) ∷ (pos 10 ∷ pos 10 ∷ pos 10 ∷ []) ∷ []
-unfolding computed leave-at job jobs numbers outcome board
+unfolding computed leave-at job jobs numbers
 boards-differ = refl
 
 -- as many as the bound allows
 pub bound-reached : Different (board jobs) (λ z. length (board jobs z)) 3 numbers × (length numbers ≡ 4)
-unfolding computed leave-at job jobs numbers outcome board
+unfolding computed leave-at job jobs numbers
 bound-reached = (
   (
     omega arith,

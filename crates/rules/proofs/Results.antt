@@ -1,6 +1,6 @@
 -- What holds of the results of steps: of one, wherever it goes on or stops, and of two, wherever both go on. Assumes nothing.
 use mathlib.Core.Path.{_≡_, refl}
-use mathlib.Core.Bool.{Bool, true, false, cond}
+use mathlib.Core.Bool.{Bool, true, false}
 use Rattle.rules.specs.Run.{Memory, State, Stop, Result, next, stop, need, stepped, onward}
 
 module _ {A : Type 0} where

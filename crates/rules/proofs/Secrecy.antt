@@ -1,24 +1,22 @@
 -- Two runs of one script from states that look the same. In a context that the reader sees they go in lockstep; at a guard that is not seen
 -- each ends in its block or comes to the record behind it, still looking the same. By induction on the sum of the budgets. Assumes nothing.
 use mathlib.Core.Path.{_≡_, refl, sym, _∙_, ap, subst}
-use mathlib.Core.Logic.{_⊎_, inl, inr}
-use Prim.Native.Nat.{ℕ, zero, suc, _+_, _≤_, _<_}
+use mathlib.Core.Logic.{inl, inr}
+use Prim.Native.Nat.{ℕ, zero, suc, _+_, _<_}
 use native.Mathlib.Omega.{arith}
 use mathlib.Core.Bool.{Bool, true, false, cond}
-use mathlib.Core.List.{List, [], _∷_, tail, map}
+use mathlib.Core.List.{List, [], _∷_, tail}
 use lib.ListN.{length}
-use lib.IntN.{ℤ}
-use lib.Dec.{ltb}
 use borrow.Author.Tests.{ltb-true}
-use Rattle.rules.specs.Level.{Level, public, visible}
+use Rattle.rules.specs.Level.{Level, visible}
 use Rattle.rules.specs.Number.{isZero}
 use Rattle.rules.specs.Script.{Expression, Command, act, fetch, numberAt}
 use Rattle.rules.specs.Blocks.{goesTo}
-use Rattle.rules.specs.Run.{Memory, Block, State, Buffers, Stop, spent, Result, next, context, value, levelOf, effect, stepped, onward, pushed, enterIf, enterWhile, carried, step, Ending, finished, stopped, Ended, run}
+use Rattle.rules.specs.Run.{Memory, Block, State, Buffers, Stop, spent, context, value, levelOf, effect, stepped, pushed, enterIf, enterWhile, carried, step, finished, stopped, Ended, run}
 use Rattle.rules.specs.Outcome.{Outcome, rejected, ran, boardLines}
-use Rattle.rules.specs.Public.{AgreeVariables, Agree, Finishes, Same, Indistinguishable}
+use Rattle.rules.specs.Public.{AgreeVariables, Finishes, Same, Indistinguishable}
 use Rattle.rules.proofs.Tests.{Test, holds, fails, test, clash}
-use Rattle.rules.proofs.Lattice.{vis-both, vis-right, vis-public}
+use Rattle.rules.proofs.Lattice.{vis-both, vis-right}
 use Rattle.rules.proofs.ByPlace.{places-agree}
 use Rattle.rules.proofs.Results.{Good₂, good₂-onward, good₂-next, good-next}
 use Rattle.rules.proofs.View.{view}

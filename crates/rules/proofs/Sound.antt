@@ -1,21 +1,22 @@
 -- What every action keeps, in a context that is a level: the tree rules, a cursor on a node whose existence is not above the cursor level,
 -- and that all levels are levels. So stop 26 is never given. Assumes nothing.
-use mathlib.Core.Path.{_≡_, refl, sym, _∙_, ap}
+use mathlib.Core.Path.{_≡_, refl, _∙_, ap}
 use Prim.Native.Nat.{ℕ, zero, suc}
-use mathlib.Core.Bool.{Bool, true, false, cond}
+use mathlib.Core.Bool.{Bool, true, false}
 use mathlib.Core.Option.{Option, none, some}
 use mathlib.Core.List.{List, [], _∷_}
-use lib.ListN.{getD, set}
+use lib.ListN.{set}
 use lib.IntN.{ℤ}
-use Rattle.rules.specs.Level.{Level, public, secret, join, notAbove, isLevel}
+use Rattle.rules.specs.Level.{Level, public, secret, notAbove, isLevel}
 use Rattle.rules.specs.Tree as Tree
-use Rattle.rules.specs.Tree.{Label, Forest, nil, tree, Side, Place, root, to, up, sub, label, exists, change, onSide, remove, setValue, withValue, Levels, Fit, Fits, TreeRules}
-use Rattle.rules.specs.Script.{Operand, Expression, alone, both, Action}
-use Rattle.rules.specs.Job.{Variable}
+use Rattle.rules.specs.Tree.{Forest, nil, tree, Side, Place, root, to, up, sub, label, exists, change, onSide, remove, setValue, withValue, Levels, Fits, TreeRules}
+use Rattle.rules.specs.Script.{Operand, Expression, alone, Action}
+use Rattle.rules.specs.Script as Script
+use Rattle.rules.specs.Job.{Variable, allLevels}
 use Rattle.rules.specs.Run.{Memory, Buffers, Stop, flow, absent, tableFull, boardFull, spent, low, noVariable, variableAt, current, operandLevel, levelOf, value, withVariables, withTree, withCursor, withLine, secretIf, position, flowOf, assign, output, moveTo, goTo, mayTouch, newLabel, insertAt, removeAt, write, effect}
-use Rattle.rules.proofs.Tests.{clash}
-use Rattle.rules.proofs.Lattice.{na-public, na-refl, na-trans, na-left, na-right, level-secret, level-public, secret-level, level-below, level-join}
-use Rattle.rules.proofs.Trees.{loAt, hiAt, hiOf, fits-sub, fits-change, fit-first, hi-parent, fits-remove, fits-value, sub-change, exists-sub, on-exists, on-label}
+use Rattle.rules.proofs.Tests.{both, clash}
+use Rattle.rules.proofs.Lattice.{na-public, na-trans, na-left, na-right, level-secret, level-public, secret-level, level-join}
+use Rattle.rules.proofs.Trees.{loAt, hiAt, fits-sub, fits-change, fit-first, hi-parent, fits-remove, fits-value, sub-change, exists-sub, on-exists, on-label}
 use Rattle.rules.proofs.Results.{Good, good-need, Stops, stops-need}
 
 -- every stop but 26
@@ -27,28 +28,24 @@ High boardFull = Unit {0}
 High spent = Unit {0}
 High low = ⊥
 
--- the levels of variables are levels
-abbrev pub AllLevels : List Variable → Type 0
-AllLevels [] = Unit {0}
-AllLevels (v ∷ vs) = (isLevel (v .level) ≡ true) × AllLevels vs
-
-all-at : (vs : List Variable) (i : ℕ) → AllLevels vs → isLevel ((variableAt vs i) .level) ≡ true
-unfolding variableAt noVariable
+all-at : (vs : List Variable) (i : ℕ) → allLevels vs ≡ true → isLevel ((variableAt vs i) .level) ≡ true
+unfolding variableAt noVariable allLevels
 all-at [] i h = level-public
-all-at (v ∷ vs) zero h = h .0
-all-at (v ∷ vs) (suc i) h = all-at vs i (h .1)
+all-at (v ∷ vs) zero h = both (isLevel (v .level)) (allLevels vs) h .0
+all-at (v ∷ vs) (suc i) h = all-at vs i (both (isLevel (v .level)) (allLevels vs) h .1)
 
-all-set : (vs : List Variable) (i : ℕ) (w : Variable) → isLevel (w .level) ≡ true → AllLevels vs → AllLevels (set vs i w)
-all-set [] i w e h = tt
-all-set (v ∷ vs) zero w e h = (e, h .1)
-all-set (v ∷ vs) (suc i) w e h = (h .0, all-set vs i w e (h .1))
+all-set : (vs : List Variable) (i : ℕ) (w : Variable) → isLevel (w .level) ≡ true → allLevels vs ≡ true → allLevels (set vs i w) ≡ true
+unfolding allLevels
+all-set [] i w e h = refl
+all-set (v ∷ vs) zero w e h = rw e (both (isLevel (v .level)) (allLevels vs) h .1)
+all-set (v ∷ vs) (suc i) w e h = let k = both (isLevel (v .level)) (allLevels vs) h in rw (k .0) (all-set vs i w e (k .1))
 
 pub record Sound (m : Memory) : Type 0 where
   pub rules : TreeRules (m .tree)
   pub stands : exists (current m) ≡ true
   pub covered : notAbove ((label (current m)) .existence) (m .level) ≡ true
   pub cursor : isLevel (m .level) ≡ true
-  pub variables : AllLevels (m .variables)
+  pub variables : allLevels (m .variables) ≡ true
 
 secret-if : (b : Bool) → isLevel (secretIf b) ≡ true
 unfolding secretIf
@@ -81,7 +78,7 @@ module _ (m : Memory) (sound : Sound m) where
   pub expression-level : (e : Expression) → isLevel (levelOf m e) ≡ true
   unfolding levelOf
   expression-level (alone a) = operand-level a
-  expression-level (both f a b) = level-join _ _ (operand-level a) (operand-level b)
+  expression-level (Script.both f a b) = level-join _ _ (operand-level a) (operand-level b)
 
   -- the memory with the cursor elsewhere
   moved : (p : Place) (l : Level) → exists (sub p (m .tree)) ≡ true → notAbove ((label (sub p (m .tree))) .existence) l ≡ true → isLevel l ≡ true

@@ -16,7 +16,7 @@ pub record Seen : Type 0 where
   pub index : ℕ
   pub lines : List ℤ
 
-pub seen : Outcome → Seen
+unfoldable pub seen : Outcome → Seen
 seen w = record { ending = (answer w) .ending; index = (answer w) .index; lines = boardLines w }
 
 done : List ℤ → Seen

@@ -1,11 +1,8 @@
 -- The secrecy theorem is about something: two jobs with other house values, one with a house node that the other lacks, meet all that it
 -- asks, both finish, and the board has two lines. By computation; the trees agree as their cuts are equal. Assumes nothing.
-use mathlib.Core.Path.{_≡_, refl, sym, _∙_, ap}
+use mathlib.Core.Path.{_≡_, refl}
 use Prim.Native.Nat.{ℕ}
-use native.Mathlib.Omega.{arith}
-use mathlib.Core.Bool.{true, false}
 use mathlib.Core.List.{List, [], _∷_}
-use lib.ListN.{length}
 use lib.IntN.{pos}
 use Rattle.rules.specs.Limits.{noParent}
 use Rattle.rules.specs.Level.{public, secret}
@@ -20,17 +17,17 @@ use Rattle.rules.proofs.ByPlace.{places-agree}
 use Rattle.rules.proofs.Noninterference.{loads, bytes-accepted}
 
 -- print value; if v1, v1 := 7, end; first child; print value
-script : List (List ℕ)
+unfoldable pub script : List (List ℕ)
 script = one 6 0 value ∷ one 2 0 (v 1) ∷ one 1 1 (number (pos 7)) ∷ bare 5 ∷ bare 9 ∷ one 6 0 value ∷ []
 
 -- v1 is 5, and there is a house node
-pub left : List ℕ
+unfoldable pub left : List ℕ
 left =
     job (pair (pos 5))
     (node noParent public public secret (pos 10) ∷ node 0 public public public (pos 3) ∷ node 0 secret secret secret (pos 99) ∷ []) script
 
 -- v1 is 0, and there is none
-pub right : List ℕ
+unfoldable pub right : List ℕ
 right = job (pair (pos 0)) (node noParent public public secret (pos 10) ∷ node 0 public public public (pos 3) ∷ []) script
 
 pub left-accepted : checkJob left 100 (withPlaces 512) ≡ accepted
@@ -51,8 +48,8 @@ alike =
             variables = refl;
             trees =
                 places-agree public (jobTree left) (jobTree right)
-                ((loads left (bytes-accepted left 100 (withPlaces 512) left-accepted)) .tree)
-                ((loads right (bytes-accepted right 50 (withPlaces 2) right-accepted)) .tree) refl;
+                ((loads left (bytes-accepted left 100 (withPlaces 512) left-accepted)) .kept .tree)
+                ((loads right (bytes-accepted right 50 (withPlaces 2) right-accepted)) .kept .tree) refl;
           };
     }
 

@@ -123,14 +123,18 @@ require k test next = cond test next (refused k 0)
 unfoldable pub requireEach : ℕ → (ℕ → Bool) → ℕ → Checked → Checked
 requireEach k good n next = cond (ltb (firstFault good n 0) n) (refused k (firstFault good n 0)) next
 
+-- the checks 7 and 8, of rs script records from script on where there are vars variables, then the rest; a job and a bare section share them
+abbrev pub checkScript : List ℕ → ℕ → ℕ → ℕ → Checked → Checked
+checkScript b vars script rs next =
+    requireEach badRecord (λ i. recordRule b vars (recordPlace script i)) rs
+    (requireEach badBlock (blockRule (code b script) rs) (suc rs) next)
+
 -- the checks 4 to 8, of vs variables, ns nodes from tree on and rs script records from script on
 unfoldable pub checkRecords : List ℕ → ℕ → ℕ → ℕ → ℕ → ℕ → Checked
 checkRecords b vs tree ns script rs =
     requireEach badVariable (variableRule b) vs
     (requireEach badParent (parentRule b tree) ns
-    (requireEach badNode (nodeRule b tree) ns
-    (requireEach badRecord (λ i. recordRule b vs (recordPlace script i)) rs
-    (requireEach badBlock (blockRule (code b script) rs) (suc rs) accepted))))
+    (requireEach badNode (nodeRule b tree) ns (checkScript b vs script rs accepted)))
 
 -- "Job checks go in order of number."
 unfoldable pub checkBytes : List ℕ → Checked

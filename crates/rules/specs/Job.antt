@@ -1,11 +1,11 @@
 -- What the bytes of an accepted job hold: variables, tree and script. Assumes nothing.
 use Prim.Native.Nat.{ℕ, zero, suc, _+_, _-_}
-use mathlib.Core.Bool.{true, false}
+use mathlib.Core.Bool.{Bool, true, false, _&&_}
 use mathlib.Core.List.{List, [], _∷_}
 use lib.ListN.{getD}
 use lib.Dec.{eqb}
-use lib.IntN.{ℤ, pos}
-use Rattle.rules.specs.Level.{Level, public}
+use lib.IntN.{ℤ}
+use Rattle.rules.specs.Level.{Level, isLevel}
 use Rattle.rules.specs.Number.{signed}
 use Rattle.rules.specs.Tree.{Label, Forest, nil, tree}
 use Rattle.rules.specs.Script.{Operand, Operator, Expression, alone, both, Command, act, Action, commands}
@@ -16,6 +16,11 @@ use Rattle.rules.specs.Check.{parent, existence, content, structure}
 pub record Variable : Type 0 where
   pub level : Level
   pub value : ℤ
+
+-- the levels of variables are levels
+unfoldable pub allLevels : List Variable → Bool
+allLevels [] = true
+allLevels (v ∷ vs) = isLevel (v .level) && allLevels vs
 
 -- f i, f (i + 1), .., n of them
 unfoldable pub listed {ℓ} : {A : Type ℓ} → (ℕ → A) → ℕ → ℕ → List A

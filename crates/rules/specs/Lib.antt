@@ -12,4 +12,5 @@ pub mod Run
 pub mod Outcome
 pub mod Public
 pub mod Board
+pub mod History
 pub mod Trials

@@ -89,3 +89,7 @@ badBudget = 9
 -- 10: the lent buffers
 abbrev pub badBuffers : ℕ
 badBuffers = 10
+
+-- 11: a bare section, or a lent tree and variables
+abbrev pub badFollowOn : ℕ
+badFollowOn = 11

@@ -1,7 +1,7 @@
 -- The labelled tree, its places, what a command does at a place, and the tree rules. Assumes nothing.
 use mathlib.Core.Path.{_≡_}
 use Prim.Native.Nat.{ℕ, suc, _+_}
-use mathlib.Core.Bool.{Bool, true, false}
+use mathlib.Core.Bool.{Bool, true, false, _&&_}
 use mathlib.Core.Option.{Option, none, some}
 use lib.IntN.{ℤ, pos}
 use Rattle.rules.specs.Level.{Level, public, notAbove, isLevel}
@@ -119,3 +119,14 @@ Fits lo hi (tree l c r) = Fit lo hi l × Fits (l .existence) (l .structure) c ×
 -- "Every tree, at start and after each step": "the root has existence 0", and each node below it keeps the rules
 abbrev pub TreeRules : Forest → Type 0
 TreeRules t = Fits public public t
+
+-- the rules of a node, as a test
+unfoldable pub fitsNode : Level → Level → Label → Bool
+fitsNode lo hi l =
+    isLevel (l .existence) && isLevel (l .content) && isLevel (l .structure) && notAbove lo (l .existence) && notAbove (l .existence) hi
+    && notAbove (l .existence) (l .content) && notAbove (l .existence) (l .structure)
+
+-- the tree rules for siblings and all below them, as a test
+unfoldable pub fits : Level → Level → Forest → Bool
+fits lo hi nil = true
+fits lo hi (tree l c r) = fitsNode lo hi l && fits (l .existence) (l .structure) c && fits (l .existence) hi r
