@@ -9,7 +9,7 @@ use native.Mathlib.Omega.{arith}
 use lib.Dec.{leb, ltb, eqb}
 use lib.ListN.{length}
 use borrow.Author.Tests.{lt-ltb, le-ltb, ltb-false, leb-true, eqb-true}
-use Rattle.rules.specs.Limits.{maxVariables, maxNodes, maxRecords, maxBytes, trailerSize, variableSize, nodeSize, recordSize, badBuffers}
+use Rattle.rules.specs.Limits.{maxVariables, maxNodes, maxRecords, maxBytes, trailerSize, variableSize, nodeSize, recordSize}
 use Rattle.rules.specs.Bytes.{variablesAt, nodesAt, scriptAt, trailerAt, variableCount, nodeCount, recordCount}
 use Rattle.rules.specs.Check.{Checked, accepted, refused, firstFault, require, requireEach, lengthRule, whole, offsetRule, countRule, checkRecords, checkBytes}
 use Rattle.rules.specs.Run.{Buffers}
@@ -106,12 +106,12 @@ pub refuses-with : (P : ℕ → Type 0) (c : Checked) (k i : ℕ) → c ≡ refu
 refuses-with P c k i e h = rw e at h
 
 module _ (P : ℕ → Type 0) (k : ℕ) (h : P k) where
-  refuses-one : (t : Bool) (c : Checked) → Refuses P c → Refuses P (require k t c)
+  pub refuses-one : (t : Bool) (c : Checked) → Refuses P c → Refuses P (require k t c)
   unfolding require
   refuses-one true c g = g
   refuses-one false c g = h
 
-  refuses-each : (good : ℕ → Bool) (n : ℕ) (c : Checked) → Refuses P c → Refuses P (requireEach k good n c)
+  pub refuses-each : (good : ℕ → Bool) (n : ℕ) (c : Checked) → Refuses P c → Refuses P (requireEach k good n c)
   unfolding requireEach
   refuses-each good n c g = pick (ltb (firstFault good n 0) n)
     where
@@ -124,9 +124,9 @@ unfolding andThen
 refuses-then P accepted d h g = g
 refuses-then P (refused k i) d h g = h
 
--- 1 to 10
+-- neither that of a finished run nor that of a stop
 abbrev pub Numbered : ℕ → Type 0
-Numbered k = (1 ≤ k) × (k ≤ badBuffers)
+Numbered k = (1 ≤ k) × (k ≤ 20)
 
 pub job-numbered : (b : List ℕ) (budget : ℕ) (lent : Buffers) → Refuses Numbered (checkJob b budget lent)
 unfolding checkJob checkBytes checkRecords

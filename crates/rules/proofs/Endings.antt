@@ -1,12 +1,11 @@
--- How a job can end: it is turned back with 1 to 10, finishes with 0, or is stopped, and not by 26. Assumes nothing.
-use mathlib.Core.Path.{_≡_, refl, sym, _∙_, ap}
+-- How a job can end: it is turned back with a number of its own, finishes with 0, or is stopped, and not by 26. Assumes nothing.
+use mathlib.Core.Path.{_≡_, refl}
 use Prim.Native.Nat.{ℕ}
 use native.Mathlib.Omega.{arith}
 use mathlib.Core.List.{List}
 use Rattle.rules.specs.Check.{Checked, accepted, refused}
-use Rattle.rules.specs.Job.{script}
-use Rattle.rules.specs.Run.{State, Buffers, Stop, flow, absent, tableFull, boardFull, spent, low, stopNumber, Ending, finished, stopped, run}
-use Rattle.rules.specs.Outcome.{checkJob, rejected, ran, begin, runJob, endingNumber, answer, LowNeverGiven}
+use Rattle.rules.specs.Run.{State, Buffers, Stop, flow, absent, tableFull, boardFull, spent, low, stopNumber, Ending, finished, stopped}
+use Rattle.rules.specs.Outcome.{checkJob, Outcome, rejected, ran, runJob, endingNumber, answer, LowNeverGiven}
 use Rattle.rules.specs.Public.{Finishes}
 use Rattle.rules.proofs.Checks.{refuses-with, Numbered, job-numbered}
 use Rattle.rules.proofs.Sound.{High}
@@ -38,39 +37,33 @@ high-number (stopped boardFull) h e = omega arith
 high-number (stopped spent) h e = omega arith
 high-number (stopped low) h e = h
 
+-- an outcome is turned back with a number of its own, or is not stopped by 26
+abbrev pub Among : Outcome → Type 0
+Among (rejected k i) = Numbered k
+Among (ran e) = Ends High (e .ending)
+
+-- the ending 0 is that of a run that has finished
+pub finishes-among : (w : Outcome) → Among w → answer w .ending ≡ 0 → (s : State) × Finishes w s
+unfolding answer
+finishes-among (rejected k i) h z = absurd (let g = h .0 in omega arith)
+finishes-among (ran e) h z = let f = ends (e .ending) z in (e .last, λ i. ran (record { ending = f i; last = e .last }))
+
+pub low-among : (w : Outcome) → Among w → answer w .ending ≡ stopNumber low → ⊥
+unfolding answer stopNumber
+low-among (rejected k i) h z = let g = h .1 in omega arith
+low-among (ran e) h z = high-number (e .ending) h z
+
 module _ (b : List ℕ) (budget : ℕ) (lent : Buffers) where
-  -- what becomes of a job
-  data Becomes : Type 0 where
-    sent-back : (k i : ℕ) → Numbered k → runJob b budget lent ≡ rejected k i → Becomes
-    is-run : checkJob b budget lent ≡ accepted → runJob b budget lent ≡ ran (run lent (script b) budget (begin b)) → Becomes
-
-  becomes : Becomes
-  becomes = pick (checkJob b budget lent) refl
+  job-among : Among (runJob b budget lent)
+  job-among = pick (checkJob b budget lent) refl
     where
-      pick : (c : Checked) → checkJob b budget lent ≡ c → Becomes
-      pick accepted e = is-run e (runs b budget lent e)
-      pick (refused k i) e = sent-back k i (refuses-with Numbered _ k i e (job-numbered b budget lent)) (turned-back b budget lent e)
+      pick : (c : Checked) → checkJob b budget lent ≡ c → Among (runJob b budget lent)
+      pick accepted e = rw (runs b budget lent e) (never-low lent b (bytes-accepted b budget lent e) budget)
+      pick (refused k i) e = rw (turned-back b budget lent e) (refuses-with Numbered _ k i e (job-numbered b budget lent))
 
-  -- the ending 0 is that of a run that has finished
   pub finishes : answer (runJob b budget lent) .ending ≡ 0 → (s : State) × Finishes (runJob b budget lent) s
-  unfolding answer
-  finishes z = pick becomes
-    where
-      pick : Becomes → (s : State) × Finishes (runJob b budget lent) s
-      pick (sent-back k i h q) = let n : k ≡ 0 = sym (ap (λ w. answer w .ending) q) ∙ z in absurd (let g = h .0 in omega arith)
-      pick (is-run e q) =
-          let f = ends _ (sym (ap (λ w. answer w .ending) q) ∙ z) in
-          ((run lent (script b) budget (begin b)) .last, q ∙ (λ i. ran (record { ending = f i; last = (run lent (script b) budget (begin b)) .last })))
-
-  low-never : answer (runJob b budget lent) .ending ≡ stopNumber low → ⊥
-  unfolding answer stopNumber
-  low-never z = pick becomes
-    where
-      pick : Becomes → ⊥
-      pick (sent-back k i h q) = let n : k ≡ 26 = sym (ap (λ w. answer w .ending) q) ∙ z in let g = h .1 in omega arith
-      pick (is-run e q) =
-          high-number _ (never-low lent b (bytes-accepted b budget lent e) budget) (sym (ap (λ w. answer w .ending) q) ∙ z)
+  finishes = finishes-among (runJob b budget lent) job-among
 
 pub low-never-given : LowNeverGiven
 unfolding LowNeverGiven
-low-never-given = low-never
+low-never-given b budget lent = low-among (runJob b budget lent) (job-among b budget lent)

@@ -13,18 +13,20 @@ use Rattle.rules.specs.Bytes.{nodesAt, nodeCount, variableCount}
 use Rattle.rules.specs.Tree.{Label, Forest, nil, tree, exists, count, size, Fit, Fits, TreeRules, fitsNode, fits}
 use Rattle.rules.specs.Check.{Checked, accepted, refused, checkBytes}
 use Rattle.rules.specs.Job.{variables, jobTree, treeOf, allLevels, script}
-use Rattle.rules.specs.Run.{Memory, Buffers, run, start}
-use Rattle.rules.specs.Outcome.{bufferRule, checkJob, rejected, ran, begin}
-use Rattle.rules.specs.History.{Store, FollowOn, sectionCount, sectionScript, sectionRule, storeRule, checkFollowOn, follow, leaves, after, afterAll, jobStore, afterJob, StoreKept}
+use Rattle.rules.specs.Run.{Memory, State, Buffers, run, start}
+use Rattle.rules.specs.Outcome.{bufferRule, checkJob, rejected, ran, answer, begin}
+use Rattle.rules.specs.Public.{Finishes}
+use Rattle.rules.specs.History.{Store, FollowOn, sectionCount, sectionScript, sectionRule, storeRule, checkFollowOn, follow, leaves, after, afterAll, jobStore, afterJob, StoreKept, LowNeverFollows}
 use Rattle.rules.proofs.Tests.{both}
 use Rattle.rules.proofs.Sound.{Sound}
-use Rattle.rules.proofs.Checks.{counts, passed-one, passed-each}
+use Rattle.rules.proofs.Checks.{counts, passed-one, passed-each, Refuses, refuses-with, refuses-one, refuses-each, Numbered}
 use Rattle.rules.proofs.Decode.{variables-length}
 use Rattle.rules.proofs.Accepted.{right}
 use Rattle.rules.proofs.Control.{Closed}
 use Rattle.rules.proofs.Starts.{closed-section, Kept, start-valid}
 use Rattle.rules.proofs.Noninterference.{loads, accepted-rest, turned-back, runs}
-use Rattle.rules.proofs.Invariants.{run-valid, reached-valid}
+use Rattle.rules.proofs.Invariants.{run-valid, run-high, reached-valid}
+use Rattle.rules.proofs.Endings.{Among, finishes-among, low-among}
 use Rattle.rules.proofs.Size.{tree-size}
 use Rattle.rules.proofs.Preserved.{Held, run-held}
 
@@ -205,3 +207,30 @@ store-kept =
       job = λ b n lent e. holdable-rule _ (job-holdable b n lent e);
       scripts = λ s fs e. holdable-rule _ (all-holdable fs s (holdable s e));
     }
+
+-- how a follow-on script can end
+follow-numbered : (s : Store) (f : FollowOn) → Refuses Numbered (checkFollowOn s f)
+unfolding checkFollowOn
+follow-numbered s f =
+    refuses-one Numbered _ (omega arith, omega arith) _ _
+    (refuses-each Numbered _ (omega arith, omega arith) _ _ _
+    (refuses-each Numbered _ (omega arith, omega arith) _ _ _
+    (refuses-one Numbered _ (omega arith, omega arith) _ _ (refuses-one Numbered _ (omega arith, omega arith) _ _ tt))))
+
+module _ (s : Store) (f : FollowOn) where
+  follow-among : Among (follow s f)
+  follow-among = pick (checkFollowOn s f) refl
+    where
+      pick : (c : Checked) → checkFollowOn s f ≡ c → Among (follow s f)
+      pick (refused k i) e = rw (turned-away s f e) (refuses-with Numbered _ k i e (follow-numbered s f))
+      pick accepted e =
+          let w = taken s f e in
+          rw (followed s f e)
+          (run-high (f .lent) (sectionScript (f .section)) (w .script) (f .budget) _ (start-valid _ _ (holdable-kept s (w .store)) _))
+
+  pub follow-finishes : answer (follow s f) .ending ≡ 0 → (g : State) × Finishes (follow s f) g
+  follow-finishes = finishes-among (follow s f) follow-among
+
+pub low-never-follows : LowNeverFollows
+unfolding LowNeverFollows
+low-never-follows s f = low-among (follow s f) (follow-among s f)
