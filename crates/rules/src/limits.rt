@@ -43,6 +43,8 @@ pub const BAD_BUDGET: u8 = 9;
 
 pub const BAD_BUFFERS: u8 = 10;
 
+pub const BAD_FOLLOW_ON: u8 = 11;
+
 pub const MAX_BUDGET: u64 = 1000000;
 
 // The numbers of the stops: a rule of information flow, no such node, a full table, a full board, a used-up budget, a level that is too low.
