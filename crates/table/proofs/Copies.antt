@@ -9,10 +9,10 @@ use lib.Dec.{ltb}
 use borrow.Author.Tests.{ltb-true, ltb-false}
 use lib.ListN.{length, getD, set, length-set}
 use lib.Seq.{getD-set-same, getD-set-other}
-use Rattle.rules.specs.Tree.{Label, Forest, Place, count}
+use Rattle.rules.specs.Tree.{Forest, Place, count}
 use Rattle.rules.proofs.Tests.{Test, holds, fails, test}
 use Rattle.table.specs.declared.lent.Node.{Node}
-use Rattle.table.specs.Cells.{cell, Table, ByteLevels, gone, cells}
+use Rattle.table.specs.Cells.{Cell, cell, Table, ByteLevels, gone, cells}
 use Rattle.table.specs.Holds.{Placed, empty, node, erase, head, Stored, Spare, end, more, Linked, Free, Holds}
 use Rattle.table.specs.Lent.{nodeOf, cellOf, blank, nodesTable, stored, putNode, loaded}
 use Rattle.table.proofs.Counting.{none-beyond, free-beyond}
@@ -73,20 +73,21 @@ module _ {m m′ : Table} {n used free at : ℕ} {t : Forest} {p : Place} (agree
 abbrev narrow : Table → Table
 narrow m x = cellOf (nodeOf (m x))
 
-module _ (m : Table) (used : ℕ) where
-  bytes-kept : (l : Label) → ByteLevels l
-      → record { value = l .value; existence = l .existence % 256; content = l .content % 256; structure = l .structure % 256 } ≡ l
-  bytes-kept l b =
-      let e : l .existence % 256 ≡ l .existence = omega (arith, b .existence) in
-      let c : l .content % 256 ≡ l .content = omega (arith, b .content) in
-      let s : l .structure % 256 ≡ l .structure = omega (arith, b .structure) in
-      λ i. record { value = l .value; existence = e i; content = c i; structure = s i }
+-- a cell whose levels are bytes is that of its record
+pub same-cell : (a : Cell) → ByteLevels (a .label) → cellOf (nodeOf a) ≡ a
+same-cell a b =
+    let l = a .label in
+    let e : l .existence % 256 ≡ l .existence = omega (arith, b .existence) in
+    let c : l .content % 256 ≡ l .content = omega (arith, b .content) in
+    let s : l .structure % 256 ≡ l .structure = omega (arith, b .structure) in
+    λ i. cell (a .first) (a .right) (a .parent) (a .children) (record { value = l .value; existence = e i; content = c i; structure = s i })
 
+module _ (m : Table) (used : ℕ) where
   narrow-stored : (u : ℕ) (f : Placed) → Stored m used u f → Stored (narrow m) used u f
   narrow-stored u empty h = tt
   narrow-stored u (node x l c r) h = (
     h .0,
-    ap (λ a. cellOf (nodeOf a)) (h .1) ∙ ap (cell (head c) (head r) u (count (erase c))) (bytes-kept l (h .4)),
+    ap (λ a. cellOf (nodeOf a)) (h .1) ∙ same-cell (cell (head c) (head r) u (count (erase c)) l) (h .4),
     narrow-stored x c (h .2),
     narrow-stored u r (h .3),
     h .4,

@@ -39,7 +39,7 @@ sum-one : (n : ℕ) → sumTo n (λ _. 1) ≡ n
 sum-one zero = refl
 sum-one (suc n) = omega (arith, sum-one n)
 
-sum-add : (n : ℕ) (f g : ℕ → ℕ) → sumTo n (λ i. f i + g i) ≡ sumTo n f + sumTo n g
+pub sum-add : (n : ℕ) (f g : ℕ → ℕ) → sumTo n (λ i. f i + g i) ≡ sumTo n f + sumTo n g
 sum-add zero f g = refl
 sum-add (suc n) f g = omega (arith, sum-add n f g)
 
@@ -52,7 +52,7 @@ sum-spike (suc n) p a f g lt e h = go (ℕ-discrete n p) (λ z. sum-spike n p a 
     go (yes q) r = omega (arith, rw (← q) at e, sum-ext n f g (λ i z. h i (λ y. omega arith)))
     go (no q) r = omega (arith, h n q, r (omega arith))
 
-sum-bound : (n : ℕ) (f : ℕ → ℕ) → ((i : ℕ) → f i ≤ 1) → sumTo n f ≤ n
+pub sum-bound : (n : ℕ) (f : ℕ → ℕ) → ((i : ℕ) → f i ≤ 1) → sumTo n f ≤ n
 sum-bound zero f h = omega arith
 sum-bound (suc n) f h = omega (arith, h n, sum-bound n f h)
 
@@ -67,7 +67,7 @@ sum-term (suc n) p f lt = go (ℕ-discrete p n) (λ z. sum-term n p f z)
 sum-hit : (n x : ℕ) → x < n → sumTo n (λ y. hit y x) ≡ 1
 sum-hit n x lt = omega (arith, sum-spike n x 1 (λ _. 0) (λ y. hit y x) lt (hit-same x) (λ i ne. hit-other i x ne), sum-zero n)
 
-count-size : (f : Placed) → count (erase f) ≤ size (erase f)
+pub count-size : (f : Placed) → count (erase f) ≤ size (erase f)
 unfolding count size
 count-size empty = omega arith
 count-size (node x l c r) = omega (arith, count-size r)

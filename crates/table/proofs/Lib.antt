@@ -2,7 +2,10 @@
 pub mod Behind
 pub mod Copies
 pub mod Moves
+pub mod Once
+pub mod Resuming
 pub mod Unique
+pub mod Walking
 mod Counting
 mod Frames
 mod Ways
@@ -18,3 +21,5 @@ mod Adding
 mod Kids
 mod Loading
 mod Jobs
+mod Covers
+mod Reclaiming

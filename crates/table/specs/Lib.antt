@@ -3,4 +3,5 @@ pub mod Cells
 pub mod Holds
 pub mod Lent
 pub mod Promises
+pub mod Stands
 pub mod Steps

@@ -7,6 +7,7 @@ pub mod node;
 pub mod records;
 pub mod shape;
 mod space;
+pub mod standing;
 pub mod walk;
 
 pub use lent::Node;
