@@ -1,8 +1,8 @@
 -- A lent table whose records are those of the places of a table holds what that table holds: every place that a tree or the free places use is one of
 -- them. Assumes nothing.
-use mathlib.Core.Path.{_≡_, refl, ap, _∙_}
+use mathlib.Core.Path.{_≡_, refl, ap, subst, _∙_}
 use mathlib.Core.List.{List}
-use Prim.Native.Nat.{ℕ, zero, suc, _%_, _<_, _≤_}
+use Prim.Native.Nat.{ℕ, zero, suc, _+_, _*_, _%_, _<_, _≤_}
 use native.Mathlib.Omega.{arith}
 use native.Mathlib.Decide.{ℕ-discrete}
 use lib.Dec.{ltb}
@@ -10,11 +10,19 @@ use borrow.Author.Tests.{ltb-true, ltb-false}
 use lib.ListN.{length, getD, set, length-set}
 use lib.Seq.{getD-set-same, getD-set-other}
 use Rattle.rules.specs.Tree.{Forest, Place, count}
+use mir.Syntax.{w32}
+use mir.Val.{SFits}
+use Rattle.rules.specs.Number.{bits}
+use Rattle.rules.proofs.Number.{signed-bits}
 use Rattle.rules.proofs.Tests.{Test, holds, fails, test}
 use Rattle.table.specs.declared.lent.Node.{Node}
-use Rattle.table.specs.Cells.{Cell, cell, Table, ByteLevels, gone, cells}
+use Rattle.table.specs.Cells.{Cell, cell, Table, cellSize, ByteLevels, gone, cells}
 use Rattle.table.specs.Holds.{Placed, empty, node, erase, head, Stored, Spare, end, more, Linked, Free, Holds}
 use Rattle.table.specs.Lent.{nodeOf, cellOf, blank, nodesTable, stored, putNode, loaded}
+use Rattle.table.specs.Promises.{Behind}
+use Rattle.table.specs.Steps.{withWord, Put}
+use Rattle.table.proofs.Behind.{same-behind, then-behind, put-behind}
+use Rattle.table.proofs.Words.{put-word, twice}
 use Rattle.table.proofs.Counting.{none-beyond, free-beyond}
 use Rattle.table.proofs.Frames as Frames
 
@@ -125,3 +133,53 @@ pub lent : (ws : List ℕ) (ns : List Node) {n used free at : ℕ} {t : Forest} 
     → Holds (nodesTable (stored ws n ns)) n used free at t p
 unfolding nodesTable
 lent ws ns long h = agrees (λ x q. ap cellOf (stored-at ws _ ns long x (omega (arith, h .room)))) (narrowed h)
+
+-- the words of a place are those of a record, and no other cell changes
+put-node : (ws : List ℕ) (x : ℕ) (d : Node) → SFits w32 (d .value) → cellSize * x + cellSize ≤ length ws
+    → Put (cells ws) (cells (putNode ws x d)) x (cellOf d)
+unfolding putNode withWord
+put-node ws x d fits long =
+    let at : ℕ → ℕ = λ j. cellSize * x + j in
+    let start : at 0 ≡ cellSize * x = omega arith in
+    let w₁ = set ws (cellSize * x) (d .first) in
+    let w₂ = set w₁ (at 1) (d .right) in
+    let w₃ = set w₂ (at 2) (d .parent) in
+    let w₄ = set w₃ (at 3) (d .existence) in
+    let w₅ = set w₄ (at 4) (bits (d .value)) in
+    let w₆ = set w₅ (at 5) (d .children) in
+    let w₇ = set w₆ (at 6) (d .content) in
+    let p₁ : Put (cells ws) (cells w₁) x (withWord 0 (d .first) (cells ws x)) =
+    subst (λ i. Put (cells ws) (cells (set ws i (d .first))) x (withWord 0 (d .first) (cells ws x))) start
+    (put-word ws x long 0 (d .first) (omega arith)) in
+    let p₂ = twice (withWord 1 (d .right)) p₁ (put-word w₁ x (simp length-set long) 1 (d .right) (omega arith)) in
+    let p₃ = twice (withWord 2 (d .parent)) p₂ (put-word w₂ x (simp length-set long) 2 (d .parent) (omega arith)) in
+    let p₄ = twice (withWord 3 (d .existence)) p₃ (put-word w₃ x (simp length-set long) 3 (d .existence) (omega arith)) in
+    let p₅ = twice (withWord 4 (bits (d .value))) p₄ (put-word w₄ x (simp length-set long) 4 (bits (d .value)) (omega arith)) in
+    let p₆ = twice (withWord 5 (d .children)) p₅ (put-word w₅ x (simp length-set long) 5 (d .children) (omega arith)) in
+    let p₇ = twice (withWord 6 (d .content)) p₆ (put-word w₆ x (simp length-set long) 6 (d .content) (omega arith)) in
+    let p₈ = twice (withWord 7 (d .structure)) p₇ (put-word w₇ x (simp length-set long) 7 (d .structure) (omega arith)) in
+    record { on = p₈ .on ∙ ap (λ v. cellOf (record { first = d .first; right = d .right; parent = d .parent; children = d .children; value = v; existence = d .existence; content = d .content; structure = d .structure })) (signed-bits fits); off = p₈ .off }
+
+-- records are loaded into the places of words: the first n cells are theirs, and no cell behind them changes
+module _ (ns : List Node) (ws : List ℕ) where
+  pub loaded-at : (n : ℕ) → cellSize * n ≤ length ws → ((x : ℕ) → x < n → SFits w32 (getD ns x blank .value)) → (x : ℕ) → x < n
+      → cells (loaded ns n ws) x ≡ nodesTable ns x
+  unfolding nodesTable
+  loaded-at zero long fits x lt = absurd (omega arith)
+  loaded-at (suc n) long fits x lt =
+      go (ℕ-discrete x n) (loaded-at n (omega arith) (λ y q. fits y (omega arith)) x)
+      (put-node (loaded ns n ws) n (getD ns n blank) (fits n (omega arith)) (omega (arith, length-loaded ns n ws)))
+    where
+      go : Dec (x ≡ n) → (x < n → cells (loaded ns n ws) x ≡ cellOf (getD ns x blank))
+          → Put (cells (loaded ns n ws)) (cells (putNode (loaded ns n ws) n (getD ns n blank))) n (cellOf (getD ns n blank))
+          → cells (putNode (loaded ns n ws) n (getD ns n blank)) x ≡ cellOf (getD ns x blank)
+      go (yes e) before p = rw e (p .on)
+      go (no e) before p = p .off x e ∙ before (omega (arith, e))
+
+  pub loaded-behind : (n : ℕ) → cellSize * n ≤ length ws → ((x : ℕ) → x < n → SFits w32 (getD ns x blank .value))
+      → Behind n (cells ws) (cells (loaded ns n ws))
+  loaded-behind zero long fits = same-behind (λ _. refl)
+  loaded-behind (suc n) long fits =
+      let h = loaded-behind n (omega arith) (λ y q. fits y (omega arith)) in
+      let p = put-node (loaded ns n ws) n (getD ns n blank) (fits n (omega arith)) (omega (arith, length-loaded ns n ws)) in
+      then-behind (record { same = λ y ge. h .same y (omega arith) }) (put-behind (omega arith) p)
