@@ -7,7 +7,7 @@ use Rattle.table.proofs.standing.ask.Statement.{statement}
 use Rattle.table.proofs.standing.ask.Tie as tie
 
 returns : tie.Need-returns
-returns c = short (sym (c .before .before .before .index .ensures) ∙ c .before .before .if1 .taken) (c .if2 .taken) refl
+returns c = short (sym (c .before .before .before .index .ensures) ∙ c .before .before .if1 .taken) (omega (arith, c .if2 .taken)) refl
 
 returns-2 : tie.Need-returns-2
 returns-2 c = over (sym (c .before .before .before .before .before .index .ensures) ∙ c .before .before .before .before .if1 .taken) (omega (arith, c .before .before .if2 .left)) (c .if3 .taken) refl
