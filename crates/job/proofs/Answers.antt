@@ -2,17 +2,18 @@
 use mathlib.Core.Path.{_≡_, refl, sym, _∙_, subst}
 use mathlib.Core.Bool.{true}
 use mathlib.Core.List.{List}
-use Prim.Native.Nat.{ℕ}
+use Prim.Native.Nat.{ℕ, suc, _<_}
 use native.Mathlib.Omega.{arith}
 use lib.ListN.{length}
 use Rattle.rules.specs.Limits.{badBlock}
-use Rattle.rules.specs.Bytes.{scriptAt, variableCount, nodeCount, recordCount}
+use Rattle.rules.specs.Bytes.{scriptAt, variableCount, nodeCount, recordCount, recordPlace}
 use Rattle.rules.specs.Check as Check
-use Rattle.rules.specs.Check.{code, lengthRule, offsetRule, countRule}
+use Rattle.rules.specs.Check.{code, lengthRule, offsetRule, countRule, recordRule}
+use Rattle.rules.specs.Blocks.{blockRule}
 use Rattle.rules.specs.Script.{numberAt}
-use Rattle.rules.specs.Job.{script}
+use Rattle.rules.specs.Job.{scriptOf, script}
 use Rattle.rules.proofs.Checks.{long-enough, sections, counts}
-use Rattle.rules.proofs.Accepted.{Right, numbered, jumps-agree}
+use Rattle.rules.proofs.Accepted.{Right, section-numbered, section-jumps}
 use Rattle.job.specs.declared.sections.Layout.{Layout}
 use Rattle.job.specs.declared.checks.Checked.{Checked}
 use Rattle.job.specs.declared.checks.Checked.the-variants.{Accepted, Refused}
@@ -44,10 +45,20 @@ inside b d e f =
     let n = counts (variableCount b) (nodeCount b) (recordCount b) f in
     record { variables = omega arith; nodes = omega arith; records = omega arith; few = n .nodes; short = n .records }
 
--- a plan by an accepted job's bytes is one by its script
+-- a plan by the bytes of n records from base on is one by their script
+pub section-plan : (b : List ℕ) (vars base n : ℕ) → ((i : ℕ) → i < n → recordRule b vars (recordPlace base i) ≡ true)
+    → ((i : ℕ) → i < suc n → blockRule (code b base) n i ≡ true) → (p p′ : List ℕ) → Whole (code b base) n p p′ → Whole (numberAt (scriptOf b base n)) n p p′
+section-plan b vars base n records blocks p p′ w =
+    record {
+      each = λ k l. w .each k l ∙ rw (section-numbered b vars base n records blocks k l, section-jumps b vars base n records blocks k l);
+      last = w .last;
+      spare = w .spare;
+    }
+
+-- that of an accepted job
 pub script-plan : (b p p′ : List ℕ) → Right b → Whole (code b (scriptAt b)) (recordCount b) p p′ → Whole (numberAt (script b)) (recordCount b) p p′
-script-plan b p p′ r w =
-    record { each = λ k l. w .each k l ∙ rw (numbered b r k l, jumps-agree b r k l); last = w .last; spare = w .spare }
+unfolding script
+script-plan b p p′ r w = section-plan b (variableCount b) (scriptAt b) (recordCount b) (r .records) (r .blocks) p p′ w
 
 pub is-sound : (c : Check.Checked) → told c ≡ Sound → c ≡ Check.accepted
 unfolding told

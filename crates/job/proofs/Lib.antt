@@ -4,4 +4,5 @@ pub mod Words
 pub mod Fill
 pub mod Siblings
 pub mod Answers
+pub mod FollowOns
 pub mod Spell

@@ -2,14 +2,12 @@
 use mathlib.Core.Path.{_≡_}
 use mathlib.Core.Bool.{Bool, cond}
 use mathlib.Core.List.{List}
-use Prim.Native.Nat.{ℕ, suc, _<_}
+use Prim.Native.Nat.{ℕ, _<_}
 use lib.Dec.{eqb}
 use Rattle.rules.specs.Limits.{badVariable}
-use Rattle.rules.specs.Limits.{badRecord, badBlock}
-use Rattle.rules.specs.Bytes.{scriptAt, recordCount, recordPlace}
-use Rattle.rules.specs.Blocks.{blockRule}
+use Rattle.rules.specs.Bytes.{scriptAt, recordCount}
 use Rattle.rules.specs.Check as Check
-use Rattle.rules.specs.Check.{requireEach, checkRecords, checkBytes, variableRule, parentRule, recordRule, code}
+use Rattle.rules.specs.Check.{checkScript, checkRecords, checkBytes, variableRule, parentRule, code}
 use Rattle.job.specs.declared.sections.Layout.{Layout}
 use Rattle.job.specs.declared.checks.Checked.{Checked}
 use Rattle.job.specs.declared.checks.Checked.the-variants.{Accepted, Refused}
@@ -41,13 +39,7 @@ pub record Scannable (b : List ℕ) (l : Layout) (k n : ℕ) : Type 0 where
   pub inside : Inside b l
   pub count : n ≡ countOf l k
 
--- the checks 7 and 8, of rs script records from script on among vars variables
-abbrev pub checkScript : List ℕ → ℕ → ℕ → ℕ → Check.Checked → Check.Checked
-checkScript b vars script rs next =
-    requireEach badRecord (λ i. recordRule b vars (recordPlace script i)) rs
-    (requireEach badBlock (blockRule (code b script) rs) (suc rs) next)
-
--- what they hand back
+-- what the checks 7 and 8 hand back
 unfoldable pub told : Check.Checked → Script
 told Check.accepted = Sound
 told (Check.refused k i) = Faulty k i

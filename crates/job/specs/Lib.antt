@@ -5,3 +5,4 @@ pub mod Fields
 pub mod Parts
 pub mod Plan
 pub mod Answer
+pub mod FollowOn

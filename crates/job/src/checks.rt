@@ -67,7 +67,7 @@ pub enum Script {
 }
 
 // The checks 7 and 8, of `count` records from `base` on, and the plan of them.
-fn check_script(
+pub fn check_script(
     bytes: &[u8],
     base: usize,
     count: usize,

@@ -1,6 +1,7 @@
-// A job's bytes: the checks 1 to 8, the fields of an accepted job, and the plan of its script.
+// A job's bytes: the checks 1 to 8, the fields of an accepted job, and the plan of its script; and the checks of a follow-on script.
 mod blocks;
 mod checks;
+mod follow_on;
 pub mod nodes;
 pub mod plan;
 pub mod reads;
@@ -10,5 +11,7 @@ pub mod sections;
 pub mod variables;
 
 pub use checks::Checked;
+pub use checks::Script;
 pub use checks::check;
 pub use checks::prepare;
+pub use follow_on::prepare_section;

@@ -4,11 +4,11 @@ use mathlib.Core.List.{List}
 use Prim.Native.Nat.{ℕ}
 use native.Mathlib.Omega.{arith}
 use Rattle.rules.specs.Limits.{badVariable, badParent, badNode}
-use Rattle.rules.specs.Check.{Checked, accepted, requireEach, parentRule, nodeRule, checkRecords}
+use Rattle.rules.specs.Check.{Checked, accepted, requireEach, parentRule, nodeRule, checkScript, checkRecords}
 use Rattle.rules.proofs.Search.{all-pass}
 use Rattle.rules.proofs.Checks.{stopped, through}
 use Rattle.job.specs.declared.sections.Layout.{Layout}
-use Rattle.job.specs.Answer.{answer, ruleOf, countOf, checkScript}
+use Rattle.job.specs.Answer.{answer, ruleOf, countOf}
 use Rattle.job.proofs.Answers.{is-sound, is-faulty, plans-not, plans-along}
 use borrow.Author.Needs.{needs}
 use Rattle.job.proofs.checks.check_records.Statement.{statement}

@@ -4,9 +4,9 @@ use Prim.Native.Nat.{suc}
 use native.Mathlib.Omega.{arith}
 use Rattle.rules.specs.Limits.{badRecord, badBlock}
 use Rattle.rules.specs.Blocks.{blockRule}
-use Rattle.rules.specs.Check.{accepted, requireEach, code}
+use Rattle.rules.specs.Check.{accepted, requireEach, checkScript, code}
 use Rattle.rules.proofs.Checks.{stopped, through}
-use Rattle.job.specs.Answer.{checkScript, told}
+use Rattle.job.specs.Answer.{told}
 use Rattle.job.proofs.Answers.{plans-whole, plans-partly, plans-not}
 use borrow.Author.Needs.{needs}
 use Rattle.job.proofs.checks.check_script.Statement.{statement}
