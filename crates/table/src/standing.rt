@@ -2,7 +2,7 @@
 // up. It needs the record of one place a turn, so that it serves words and lent records alike, however many places there are.
 ghost use mathlib.Core.Path.{_≡_};
 ghost use mathlib.Core.Bool.{true};
-ghost use Prim.Native.Nat.{ℕ, _*_, _<_, _≤_};
+ghost use Prim.Native.Nat.{ℕ, _+_, _*_, _<_, _≤_};
 ghost use lib.ListN.{getD, length};
 ghost use Rattle.rules.specs.Limits.{maxNodes};
 ghost use Rattle.table.specs.Cells.{cellSize, cells, gone, wordOf, labelWith, ByteLevels, Within};
@@ -167,20 +167,18 @@ pub fn turn(s: Spot, d: Node, dues: &mut [u32], bounds: &mut [u8], marks: &mut [
 }
 
 // Whether the levels of place x are bytes.
-fn plain(words: &[u32], places: usize, x: usize) -> bool
-    requires { ⌜ Within (now words) places x ⌝ }
+fn plain(words: &[u32], x: usize) -> bool
+    requires { ⌜ cellSize * x + cellSize ≤ length (now words) ⌝ }
     ensures { λ r. ⌜ (r ≡ true → ByteLevels (cells (now (words .entry)) x .label)) × (ByteLevels (cells (now (words .entry)) x .label) → r ≡ true) ⌝ }
 {
-    let e = cells::get(words, places, x, cells::EXISTENCE);
-    let c = cells::get(words, places, x, cells::CONTENT);
-    let s = cells::get(words, places, x, cells::STRUCTURE);
-    if e >= 256 {
+    let at = super::CELL * x;
+    if words[at + 3] >= 256 {
         return false;
     }
-    if c >= 256 {
+    if words[at + 6] >= 256 {
         return false;
     }
-    s < 256
+    words[at + 7] < 256
 }
 
 // Leaves all places with no mark.
@@ -195,7 +193,7 @@ fn clear(marks: &mut [u8])
     }
 }
 
-// Whether a tree stands in the words; if so, its places have a mark then, and no others.
+// Whether a tree stands in the words; if so, its places have a mark then, if they are among the first 512, and no others.
 pub fn held(
     words: &[u32],
     places: usize,
@@ -203,7 +201,7 @@ pub fn held(
     bounds: &mut [u8],
     marks: &mut [u8],
 ) -> bool
-    requires { ⌜ ((cellSize * places ≤ length (now words)) × (places ≤ maxNodes)) × Rooms (now dues) (now bounds) (now marks) ⌝ }
+    requires { ⌜ ((cellSize * places ≤ length (now words)) × (places ≤ gone)) × Rooms (now dues) (now bounds) (now marks) ⌝ }
     ensures { λ r. ⌜ Decided (cells (now (words .entry))) places r ⌝ }
     ensures { λ r. ⌜ (r ≡ true → Marked (cells (now (words .entry))) places (now (marks .exit))) ⌝ }
 {
@@ -211,7 +209,7 @@ pub fn held(
     let mut s = start();
     let mut x = ask(s, places);
     while x < places {
-        if !plain(words, places, x) {
+        if !plain(words, x) {
             return false;
         }
         let d = node_of(words, x);

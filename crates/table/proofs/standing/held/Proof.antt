@@ -41,7 +41,7 @@ loop-holds c =
     )
 
 plain-requires : tie.Need-plain-requires Inv-loop μ-loop
-plain-requires c κs = record { long = c .before .before .before .before .before .before .before .before .before .before .before .before .pre .0 .0; few = c .before .before .before .before .before .before .before .before .before .before .before .before .pre .0 .1; inside = c .loop-test .taken }
+plain-requires c κs = omega (arith, c .before .before .before .before .before .before .before .before .before .before .before .before .pre .0 .0, c .loop-test .taken)
 
 same-length : tie.Need-same-length Inv-loop μ-loop
 same-length c = c .before .before .before .loop .inv .0
