@@ -36,7 +36,7 @@ unfolding answerOf answer toldBy endingNumber endingIndex
 answered-by finished e w = rw w
 answered-by (stopped k) e w = rw w
 
-answers : (o : Rules.Outcome) → answerOf (told o) ≡ answer o
+pub answers : (o : Rules.Outcome) → answerOf (told o) ≡ answer o
 unfolding answerOf answer told
 answers (Rules.rejected k i) = refl
 answers (Rules.ran e) = answered-by (e .ending) e refl

@@ -5,3 +5,8 @@ pub mod Started
 pub mod Answered
 pub mod Secret
 pub mod Passed
+pub mod Rooted
+pub mod Followed
+pub mod Taken
+pub mod Seasons
+pub mod Admitted

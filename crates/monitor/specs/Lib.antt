@@ -3,3 +3,6 @@ pub mod Steps
 pub mod Promises
 pub mod Starting
 pub mod Secrecy
+pub mod FromRoot
+pub mod Follow
+pub mod Season

@@ -58,7 +58,7 @@ fn load_variables(job: &[u8], vars: usize, levels: &mut [u8], values: &mut [i32]
 }
 
 // Check 9.
-fn budget_ok(budget: u64) -> bool
+pub fn budget_ok(budget: u64) -> bool
     ensures { λ r. ⌜ r ≡ budgetRule budget ⌝ }
 {
     (1 <= budget) & (budget <= MAX_BUDGET)
@@ -71,7 +71,7 @@ fn buffers_ok(nodes: usize, variables: usize, places: usize, room: usize) -> boo
     (1 <= places) & (places <= MAX_NODES) & (nodes <= places) & (variables <= room)
 }
 
-fn smaller(a: usize, b: usize) -> usize
+pub fn smaller(a: usize, b: usize) -> usize
     ensures { λ r. ⌜ r ≡ min a b ⌝ }
 {
     if a < b { a } else { b }
@@ -89,7 +89,7 @@ fn asked(places: usize, words: usize) -> usize
 }
 
 // How a run has ended, as an outcome.
-fn ended(a: Stepped) -> Outcome
+pub fn ended(a: Stepped) -> Outcome
     requires { ⌜ a .running .steps ≤ maxBudget ⌝ }
     ensures { λ r. ⌜ r ≡ outcomeOf a ⌝ }
 {

@@ -1,8 +1,11 @@
 // The monitor: one script over one labelled tree, from a job's bytes to its outcome.
 mod entry;
+mod follow;
 mod run;
+mod start;
 mod step;
 
 pub use entry::Outcome;
 pub use entry::run_places;
 pub use entry::run_words;
+pub use follow::follow_words;

@@ -1,0 +1,162 @@
+-- The secrecy rule for calls, from their promise alone and from that rule for the rules' histories. Assumes nothing.
+use mathlib.Core.Path.{_≡_, refl, sym, _∙_, ap, subst}
+use mathlib.Core.Logic.{_⊎_, inl, inr, ⊎-map}
+use mathlib.Core.List.{List, [], _∷_, map}
+use Prim.Native.Nat.{ℕ, _*_}
+use native.Mathlib.Omega.{arith}
+use native.Mathlib.Nat.{le-refl}
+use lib.ListN.{length, take}
+use Rattle.rules.specs.Limits.{badFollowOn}
+use Rattle.rules.specs.Level.{Level}
+use Rattle.rules.specs.Tree.{Forest, Place}
+use Rattle.rules.specs.Run.{State, finished}
+use Rattle.rules.specs.Outcome as Rules
+use Rattle.rules.specs.Outcome.{answer, boardLines}
+use Rattle.rules.specs.Public.{Finishes, Same, Comparable, Indistinguishable}
+use Rattle.rules.specs.History.{Store, FollowOn, sectionScript, follow, leaves, after, history, SameScripts, AgreeStores, HistorySecrecy}
+use Rattle.rules.proofs.History.{history-secrecy}
+use Rattle.rules.proofs.Stores.{follow-finishes}
+use Rattle.table.proofs.Resuming.{stands-one}
+use Rattle.actions.specs.Board.{spell}
+use Rattle.actions.proofs.Board.{spell-prefix, written-lines}
+use Rattle.monitor.specs.declared.entry.Outcome.{Outcome}
+use Rattle.monitor.specs.Promises.{answerOf, Lent, placesIn, Tree, Leaves}
+use Rattle.monitor.specs.Secrecy.{boardOf}
+use Rattle.monitor.specs.Follow.{HoldsStore, followOn, Tells, Follows, over, none, StandsIn}
+use Rattle.monitor.specs.Season.{Call, Stays, Season, AgreeLent, SameAfter, UnseenSeason, SecretSeasons}
+
+module _ {T : Type 0} (places : T → ℕ) (HoldsTree : T → ℕ → Forest → Place → Type 0) where
+  -- the lines of a call
+  board-of : (x x′ : Lent T) (r : Outcome) (w : Rules.Outcome) → answerOf r ≡ answer w → Leaves places HoldsTree (length (x .levels)) x x′ w
+      → boardOf r x′ ≡ spell (boardLines w)
+  unfolding boardOf answer boardLines spell
+  board-of x x′ r (Rules.rejected k i) e l = ap (λ a. take (4 * a .lines) (x′ .board)) e
+  board-of x x′ r (Rules.ran f) e l =
+      ap (λ a. take (4 * a .lines) (x′ .board)) e ∙ ap (take (4 * length (f .last .memory .lines))) (l .board)
+      ∙ written-lines (f .last .memory .lines) (x .board)
+
+  board : (x x′ : Lent T) (r : Outcome) (w : Rules.Outcome) → Tells places HoldsTree x x′ w r → boardOf r x′ ≡ spell (boardLines w)
+  board x x′ r w t = board-of x x′ r w (t .answered) (t .leaves)
+
+  -- the lines of two calls, from those of the rules' outcomes
+  spelled : (x x′ y y′ : Lent T) (r q : Outcome) (w v : Rules.Outcome) → Tells places HoldsTree x x′ w r → Tells places HoldsTree y y′ v q
+      → Comparable (boardLines w) (boardLines v) → Comparable (boardOf r x′) (boardOf q y′)
+  spelled x x′ y y′ r q w v t u h = rw (board x x′ r w t, board y y′ q v u) (⊎-map (spell-prefix _ _) (spell-prefix _ _) h)
+
+  -- a call that was turned away with 11 has not finished
+  unfinished : {X : Type 0} (x x′ : Lent T) (r : Outcome) → Tells places HoldsTree x x′ (Rules.rejected badFollowOn 0) r → answerOf r .ending ≡ 0 → X
+  unfolding answer
+  unfinished x x′ r t e = absurd (let h = sym (ap (λ a. a .ending) (t .answered)) ∙ e in omega arith)
+
+-- and has no lines
+no-lines : (k i : ℕ) (v : Rules.Outcome) → Comparable (boardLines (Rules.rejected k i)) (boardLines v)
+unfolding boardLines
+no-lines k i v = inl (boardLines v, refl)
+
+lines-no : (k i : ℕ) (v : Rules.Outcome) → Comparable (boardLines v) (boardLines (Rules.rejected k i))
+unfolding boardLines
+lines-no k i v = inr (boardLines v, refl)
+
+-- what is lent anew holds what was held
+again : {T : Type 0} {StandsIn : T → Forest → Type 0} (x y : Lent T) (s : Store) → Stays x y → HoldsStore StandsIn y s → HoldsStore StandsIn x s
+again x y s st h =
+    record {
+      even = ap length (sym (st .levels)) ∙ h .even ∙ ap length (st .values);
+      variables = h .variables ∙ rw (st .levels, st .values);
+      tree = rw (st .table) at (h .tree);
+    }
+
+module _ {T : Type 0} (places : T → ℕ) (HoldsTree : T → ℕ → Forest → Place → Type 0) (StandsIn : T → Forest → Type 0)
+    (one : (w : T) (t u : Forest) → StandsIn w t → StandsIn w u → t ≡ u) (o : Level) where
+  -- at most one store is held
+  one-store : (x : Lent T) (s t : Store) → HoldsStore StandsIn x s → HoldsStore StandsIn x t → s ≡ t
+  one-store x s t h k =
+      let v = h .variables ∙ sym (k .variables) in
+      let f = one (x .table) (s .tree) (t .tree) (h .tree) (k .tree) in
+      λ i. record { variables = v i; tree = f i }
+
+  -- two calls with the same script, over stores that agree
+  module _ (c d : Call T) (s t : Store) (same : sectionScript (c .section) ≡ sectionScript (d .section)) (agree : AgreeStores o s t) where
+    abbrev f : FollowOn
+    f = followOn places (c .section) (c .budget) (c .given)
+
+    abbrev g : FollowOn
+    g = followOn places (d .section) (d .budget) (d .given)
+
+    untold : Indistinguishable o (follow s f) (follow t g)
+    unfolding HistorySecrecy SameScripts history
+    untold = (history-secrecy o s t (f ∷ []) (g ∷ []) agree (ap (λ z. z ∷ []) same)) .0
+
+    module _ (tc : Tells places HoldsTree (c .given) (c .left) (follow s f) (c .outcome))
+        (td : Tells places HoldsTree (d .given) (d .left) (follow t g) (d .outcome)) where
+      lines : Comparable (boardOf (c .outcome) (c .left)) (boardOf (d .outcome) (d .left))
+      lines = spelled places HoldsTree _ _ _ _ _ _ _ _ tc td (untold .lines)
+
+      module _ (nc : HoldsStore StandsIn (c .left) (after s f)) (nd : HoldsStore StandsIn (d .left) (after t g)) (ec : answerOf (c .outcome) .ending ≡ 0)
+          (ed : answerOf (d .outcome) .ending ≡ 0) where
+        fc : (z : State) × Finishes (follow s f) z
+        fc = follow-finishes s f (sym (ap (λ a. a .ending) (tc .answered)) ∙ ec)
+
+        fd : (z : State) × Finishes (follow t g) z
+        fd = follow-finishes t g (sym (ap (λ a. a .ending) (td .answered)) ∙ ed)
+
+        equal : Same o (fc .0) (fd .0)
+        equal = untold .finish (fc .0) (fd .0) (fc .1) (fd .1)
+
+        equal-lines : boardLines (follow s f) ≡ boardLines (follow t g)
+        unfolding boardLines
+        equal-lines = ap boardLines (fc .1) ∙ equal .lines ∙ sym (ap boardLines (fd .1))
+
+        after-agree : AgreeStores o (after s f) (after t g)
+        unfolding after leaves
+        after-agree =
+            subst (λ w. AgreeStores o (leaves s w) (leaves t (follow t g))) (sym (fc .1))
+            (subst (λ w. AgreeStores o (leaves s (Rules.ran (record { ending = finished; last = fc .0 }))) (leaves t w)) (sym (fd .1)) (equal .parts))
+
+        same-after : SameAfter places HoldsTree StandsIn o c d
+        unfolding AgreeLent
+        same-after =
+            record {
+              lines = board places HoldsTree _ _ _ _ tc ∙ ap spell equal-lines ∙ sym (board places HoldsTree _ _ _ _ td);
+              agree = λ u v h k.
+                  subst (λ w. AgreeStores o w v) (one-store (c .left) (after s f) u nc h)
+                  (subst (λ w. AgreeStores o (after s f) w) (one-store (d .left) (after t g) v nd k) after-agree);
+            }
+
+  -- a call in each season, and the rest after it
+  abbrev Next : Call T → Call T → Type 0 → Type 0
+  Next c d X =
+      Comparable (boardOf (c .outcome) (c .left)) (boardOf (d .outcome) (d .left))
+      × (answerOf (c .outcome) .ending ≡ 0 → answerOf (d .outcome) .ending ≡ 0 → SameAfter places HoldsTree StandsIn o c d × X)
+
+  calls : (X : Type 0) (c d : Call T) → sectionScript (c .section) ≡ sectionScript (d .section) → AgreeLent places HoldsTree StandsIn o (c .given) (d .given)
+      → Follows places HoldsTree StandsIn (c .section) (c .budget) (c .given) (c .left) (c .outcome)
+      → Follows places HoldsTree StandsIn (d .section) (d .budget) (d .given) (d .left) (d .outcome)
+      → (AgreeLent places HoldsTree StandsIn o (c .left) (d .left) → X) → Next c d X
+  unfolding AgreeLent
+  calls X c d same agree (over s h tc nc) (over t k td nd) rest =
+      let a = agree s t h k in (
+        lines c d s t same a tc td,
+        λ e z. let w = same-after c d s t same a tc td nc nd e z in (w, rest (w .agree)),
+      )
+  calls X c d same agree (none h tc) (over t k td nd) rest = (spelled places HoldsTree _ _ _ _ _ _ _ _ tc td (no-lines badFollowOn 0 _), λ e z. unfinished places HoldsTree _ _ _ tc e)
+  calls X c d same agree (over s h tc nc) (none k td) rest = (spelled places HoldsTree _ _ _ _ _ _ _ _ tc td (lines-no badFollowOn 0 _), λ e z. unfinished places HoldsTree _ _ _ td z)
+  calls X c d same agree (none h tc) (none k td) rest = (spelled places HoldsTree _ _ _ _ _ _ _ _ tc td (no-lines badFollowOn 0 _), λ e z. unfinished places HoldsTree _ _ _ tc e)
+
+  seasons : (cs ds : List (Call T)) (x y : Lent T) → AgreeLent places HoldsTree StandsIn o x y
+      → map (λ c. sectionScript (c .section)) cs ≡ map (λ d. sectionScript (d .section)) ds → Season places HoldsTree StandsIn x cs
+      → Season places HoldsTree StandsIn y ds → UnseenSeason places HoldsTree StandsIn o cs ds
+  unfolding AgreeLent
+  seasons [] ds x y agree same p q = tt
+  seasons (c ∷ cs) [] x y agree same p q = tt
+  seasons (c ∷ cs) (d ∷ ds) x y agree same p q =
+      calls (UnseenSeason places HoldsTree StandsIn o cs ds) c d (cc)
+      (λ s t h k. agree s t (again x (c .given) s (p .0) h) (again y (d .given) t (q .0) k)) (p .1 .0) (q .1 .0)
+      (λ next. seasons cs ds (c .left) (d .left) next (cc) (p .1 .1) (q .1 .1))
+
+  pub secret-seasons-of : SecretSeasons places HoldsTree StandsIn o
+  unfolding SecretSeasons
+  secret-seasons-of x y cs ds agree same p q = seasons cs ds x y agree same p q
+
+pub secret-seasons : (o : Level) → SecretSeasons placesIn Tree StandsIn o
+secret-seasons o = secret-seasons-of placesIn Tree StandsIn (λ w t u h k. stands-one (omega arith) h k) o

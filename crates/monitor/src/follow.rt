@@ -1,0 +1,151 @@
+// A follow-on script over a tree and variables that stay between scripts: 11, 7, 8, 9 and 10 are checked, and then the script is run from the root.
+use super::entry::Outcome;
+use super::entry::budget_ok;
+use super::entry::smaller;
+use super::start::from_root;
+use super::step::Frame;
+use job::Script;
+use job::plan::WORDS;
+use job::prepare_section;
+use rules::levels::is_level;
+use rules::limits::BAD_BUDGET;
+use rules::limits::BAD_BUFFERS;
+use rules::limits::BAD_FOLLOW_ON;
+use rules::limits::MAX_NODES;
+use rules::limits::MAX_VARIABLES;
+use rules::limits::RECORD_SIZE;
+use table::standing;
+ghost use Prim.Native.Nat.{_*_, _≤_, min};
+ghost use lib.ListN.{length};
+ghost use Rattle.table.specs.Cells.{cellSize, cells, gone};
+ghost use Rattle.table.specs.Promises.{Behind};
+ghost use Rattle.monitor.specs.Promises.{lent, placesIn, Tree};
+ghost use Rattle.monitor.specs.Follow.{Storable, Admits, Follows, StandsAmong, StandsIn};
+
+// Whether variables and a table, in which a tree stands or not, are such as an accepted job could hold.
+fn storable(stands: bool, levels: &[u8], values: usize) -> bool
+    ensures { λ r. ⌜ Storable stands (now (levels .entry)) values r ⌝ }
+{
+    if !stands {
+        return false;
+    }
+    if levels.len() != values {
+        return false;
+    }
+    if levels.len() > MAX_VARIABLES {
+        return false;
+    }
+    let mut i = 0;
+    while i < levels.len() {
+        if !is_level(levels[i]) {
+            return false;
+        }
+        i += 1;
+    }
+    true
+}
+
+// The checks of a script over such: 11 of the section, 7, 8, 9 and 10; and the script's plan.
+fn admit(
+    section: &[u8],
+    budget: u64,
+    places: usize,
+    variables: usize,
+    plan: &mut [u32; WORDS],
+) -> Script
+    ensures { λ r. ⌜ Admits (now (section .entry)) budget places variables (now (plan .entry)) (now (plan .exit)) r ⌝ }
+{
+    let script = prepare_section(section, variables, plan);
+    match script {
+        Script::Faulty { number, index } => Script::Faulty { number, index },
+        Script::Sound => {
+            if !budget_ok(budget) {
+                return Script::Faulty {
+                    number: BAD_BUDGET,
+                    index: 0,
+                };
+            }
+            if places > MAX_NODES {
+                return Script::Faulty {
+                    number: BAD_BUFFERS,
+                    index: 0,
+                };
+            }
+            Script::Sound
+        }
+    }
+}
+
+// The run over a bare section, with a budget and what the caller lends, which a tree and variables stand in: a node table of some places, eight words
+// to each, the variables' levels and values, and an area for board lines of four bytes each. No words are needed for places that no link can lead to.
+fn follow_places(
+    section: &[u8],
+    budget: u64,
+    places: usize,
+    words: &mut [u32],
+    levels: &[u8],
+    values: &mut [i32],
+    lines: &mut [u8],
+) -> Outcome
+    requires { ⌜ cellSize * min places gone ≤ length (now words) ⌝ }
+    ensures { λ r. ⌜ Follows (λ _. places) Tree (StandsAmong (min places gone)) (now (section .entry)) budget
+        (lent (now (words .entry)) (now (levels .entry)) (now (values .entry)) (now (lines .entry)))
+        (lent (now (words .exit)) (now (levels .entry)) (now (values .exit)) (now (lines .exit))) r
+        × Behind (min places gone) (cells (now (words .entry))) (cells (now (words .exit))) ⌝ }
+{
+    let n = smaller(places, table::NIL);
+    let mut dues = [0u32; MAX_NODES];
+    let mut bounds = [0u8; MAX_NODES];
+    let mut marks = [0u8; MAX_NODES];
+    let stands = standing::held(words, n, &mut dues, &mut bounds, &mut marks);
+    if !storable(stands, levels, values.len()) {
+        return Outcome::Refused {
+            number: BAD_FOLLOW_ON,
+            index: 0,
+        };
+    }
+    let mut plan = [0u32; WORDS];
+    let script = admit(section, budget, places, levels.len(), &mut plan);
+    match script {
+        Script::Faulty { number, index } => Outcome::Refused { number, index },
+        Script::Sound => {
+            let free = standing::reclaim(words, places, &marks);
+            let f = Frame {
+                script: 0,
+                records: section.len() / RECORD_SIZE,
+                vars: levels.len(),
+                places,
+            };
+            from_root(
+                section,
+                &plan,
+                f,
+                budget as usize,
+                places,
+                free,
+                words,
+                levels,
+                values,
+                lines,
+            )
+        }
+    }
+}
+
+// The same with a table of words alone: it has as many places as there are eights of words.
+pub fn follow_words(
+    section: &[u8],
+    budget: u64,
+    words: &mut [u32],
+    levels: &[u8],
+    values: &mut [i32],
+    lines: &mut [u8],
+) -> Outcome
+    ensures { λ r. ⌜ Follows placesIn Tree StandsIn (now (section .entry)) budget
+        (lent (now (words .entry)) (now (levels .entry)) (now (values .entry)) (now (lines .entry)))
+        (lent (now (words .exit)) (now (levels .entry)) (now (values .exit)) (now (lines .exit))) r
+        × Behind (placesIn (now (words .entry))) (cells (now (words .entry))) (cells (now (words .exit))) ⌝ }
+{
+    let places = words.len() / table::CELL;
+    follow_places(section, budget, places, words, levels, values, lines)
+}
