@@ -8,5 +8,5 @@ pub mod Passed
 pub mod Rooted
 pub mod Followed
 pub mod Taken
-pub mod Seasons
+pub mod Histories
 pub mod Admitted

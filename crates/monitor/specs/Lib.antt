@@ -5,4 +5,4 @@ pub mod Starting
 pub mod Secrecy
 pub mod FromRoot
 pub mod Follow
-pub mod Season
+pub mod Histories

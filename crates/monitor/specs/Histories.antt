@@ -28,10 +28,10 @@ pub record Stays {T : Type 0} (x y : Lent T) : Type 0 where
 -- for node tables of any kind
 module _ {T : Type 0} (places : T → ℕ) (HoldsTree : T → ℕ → Forest → Place → Type 0) (StandsIn : T → Forest → Type 0) where
   -- "script after script", from what x holds
-  abbrev pub Season : Lent T → List (Call T) → Type 0
-  Season x [] = Unit {0}
-  Season x (c ∷ cs) =
-      Stays x (c .given) × (Follows places HoldsTree StandsIn (c .section) (c .budget) (c .given) (c .left) (c .outcome) × Season (c .left) cs)
+  abbrev pub CallHistory : Lent T → List (Call T) → Type 0
+  CallHistory x [] = Unit {0}
+  CallHistory x (c ∷ cs) =
+      Stays x (c .given) × (Follows places HoldsTree StandsIn (c .section) (c .budget) (c .given) (c .left) (c .outcome) × CallHistory (c .left) cs)
 
   module _ (o : Level) where
     -- "starts that agree on their public parts"
@@ -44,15 +44,15 @@ module _ {T : Type 0} (places : T → ℕ) (HoldsTree : T → ℕ → Forest →
       pub agree : AgreeLent (c .left) (d .left)
 
     -- "up to and including the first script that stops or is turned away in either"
-    abbrev pub UnseenSeason : List (Call T) → List (Call T) → Type 0
-    UnseenSeason [] ds = Unit {0}
-    UnseenSeason (c ∷ cs) [] = Unit {0}
-    UnseenSeason (c ∷ cs) (d ∷ ds) =
+    abbrev pub UnseenHistory : List (Call T) → List (Call T) → Type 0
+    UnseenHistory [] ds = Unit {0}
+    UnseenHistory (c ∷ cs) [] = Unit {0}
+    UnseenHistory (c ∷ cs) (d ∷ ds) =
         Comparable (boardOf (c .outcome) (c .left)) (boardOf (d .outcome) (d .left))
-        × (answerOf (c .outcome) .ending ≡ 0 → answerOf (d .outcome) .ending ≡ 0 → SameAfter c d × UnseenSeason cs ds)
+        × (answerOf (c .outcome) .ending ≡ 0 → answerOf (d .outcome) .ending ≡ 0 → SameAfter c d × UnseenHistory cs ds)
 
-    -- two seasons of calls that keep the promise, with the same scripts, whatever their budgets and areas
-    unfoldable pub SecretSeasons : Type 0
-    SecretSeasons =
+    -- two histories of calls that keep the promise, with the same scripts, whatever their budgets and areas
+    unfoldable pub SecretHistories : Type 0
+    SecretHistories =
         (x y : Lent T) (cs ds : List (Call T)) → AgreeLent x y
-        → map (λ c. sectionScript (c .section)) cs ≡ map (λ d. sectionScript (d .section)) ds → Season x cs → Season y ds → UnseenSeason cs ds
+        → map (λ c. sectionScript (c .section)) cs ≡ map (λ d. sectionScript (d .section)) ds → CallHistory x cs → CallHistory y ds → UnseenHistory cs ds

@@ -23,7 +23,7 @@ use Rattle.monitor.specs.declared.entry.Outcome.{Outcome}
 use Rattle.monitor.specs.Promises.{answerOf, Lent, placesIn, Tree, Leaves}
 use Rattle.monitor.specs.Secrecy.{boardOf}
 use Rattle.monitor.specs.Follow.{HoldsStore, followOn, Tells, Follows, over, none, StandsIn}
-use Rattle.monitor.specs.Season.{Call, Stays, Season, AgreeLent, SameAfter, UnseenSeason, SecretSeasons}
+use Rattle.monitor.specs.Histories.{Call, Stays, CallHistory, AgreeLent, SameAfter, UnseenHistory, SecretHistories}
 
 module _ {T : Type 0} (places : T → ℕ) (HoldsTree : T → ℕ → Forest → Place → Type 0) where
   -- the lines of a call
@@ -123,7 +123,7 @@ module _ {T : Type 0} (places : T → ℕ) (HoldsTree : T → ℕ → Forest →
                   (subst (λ w. AgreeStores o (after s f) w) (one-store (d .left) (after t g) v nd k) after-agree);
             }
 
-  -- a call in each season, and the rest after it
+  -- a call in each history, and the rest after it
   abbrev Next : Call T → Call T → Type 0 → Type 0
   Next c d X =
       Comparable (boardOf (c .outcome) (c .left)) (boardOf (d .outcome) (d .left))
@@ -143,20 +143,20 @@ module _ {T : Type 0} (places : T → ℕ) (HoldsTree : T → ℕ → Forest →
   calls X c d same agree (over s h tc nc) (none k td) rest = (spelled places HoldsTree _ _ _ _ _ _ _ _ tc td (lines-no badFollowOn 0 _), λ e z. unfinished places HoldsTree _ _ _ td z)
   calls X c d same agree (none h tc) (none k td) rest = (spelled places HoldsTree _ _ _ _ _ _ _ _ tc td (no-lines badFollowOn 0 _), λ e z. unfinished places HoldsTree _ _ _ tc e)
 
-  seasons : (cs ds : List (Call T)) (x y : Lent T) → AgreeLent places HoldsTree StandsIn o x y
-      → map (λ c. sectionScript (c .section)) cs ≡ map (λ d. sectionScript (d .section)) ds → Season places HoldsTree StandsIn x cs
-      → Season places HoldsTree StandsIn y ds → UnseenSeason places HoldsTree StandsIn o cs ds
+  histories : (cs ds : List (Call T)) (x y : Lent T) → AgreeLent places HoldsTree StandsIn o x y
+      → map (λ c. sectionScript (c .section)) cs ≡ map (λ d. sectionScript (d .section)) ds → CallHistory places HoldsTree StandsIn x cs
+      → CallHistory places HoldsTree StandsIn y ds → UnseenHistory places HoldsTree StandsIn o cs ds
   unfolding AgreeLent
-  seasons [] ds x y agree same p q = tt
-  seasons (c ∷ cs) [] x y agree same p q = tt
-  seasons (c ∷ cs) (d ∷ ds) x y agree same p q =
-      calls (UnseenSeason places HoldsTree StandsIn o cs ds) c d (cc)
+  histories [] ds x y agree same p q = tt
+  histories (c ∷ cs) [] x y agree same p q = tt
+  histories (c ∷ cs) (d ∷ ds) x y agree same p q =
+      calls (UnseenHistory places HoldsTree StandsIn o cs ds) c d (cc)
       (λ s t h k. agree s t (again x (c .given) s (p .0) h) (again y (d .given) t (q .0) k)) (p .1 .0) (q .1 .0)
-      (λ next. seasons cs ds (c .left) (d .left) next (cc) (p .1 .1) (q .1 .1))
+      (λ next. histories cs ds (c .left) (d .left) next (cc) (p .1 .1) (q .1 .1))
 
-  pub secret-seasons-of : SecretSeasons places HoldsTree StandsIn o
-  unfolding SecretSeasons
-  secret-seasons-of x y cs ds agree same p q = seasons cs ds x y agree same p q
+  pub secret-histories-of : SecretHistories places HoldsTree StandsIn o
+  unfolding SecretHistories
+  secret-histories-of x y cs ds agree same p q = histories cs ds x y agree same p q
 
-pub secret-seasons : (o : Level) → SecretSeasons placesIn Tree StandsIn o
-secret-seasons o = secret-seasons-of placesIn Tree StandsIn (λ w t u h k. stands-one (omega arith) h k) o
+pub secret-histories : (o : Level) → SecretHistories placesIn Tree StandsIn o
+secret-histories o = secret-histories-of placesIn Tree StandsIn (λ w t u h k. stands-one (omega arith) h k) o
