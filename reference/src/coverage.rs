@@ -6,10 +6,13 @@ use std::collections::BTreeMap;
 use std::fmt;
 
 use crate::ending::Ending;
+use crate::follow;
 use crate::generate::Case;
+use crate::history::{self, Event, Expected, Model};
 use crate::job::{self, command, kind, operator, Record, Target, MAX_BLOCKS, READS};
 use crate::mistake::Mistake;
 use crate::run::{self, Outcome, State};
+use crate::table::Fault;
 use crate::tree::Tree;
 use crate::{Level, HOUSE, PUBLIC};
 
@@ -71,10 +74,46 @@ impl Coverage {
 
     /// The names of [`wanted`] that never came up.
     pub fn missing(&self) -> Vec<String> {
-        wanted()
-            .into_iter()
-            .filter(|name| self.of(name) == 0)
-            .collect()
+        self.missing_of(wanted())
+    }
+
+    /// The names of [`wanted_of_histories`] that never came up.
+    pub fn missing_of_histories(&self) -> Vec<String> {
+        self.missing_of(wanted_of_histories())
+    }
+
+    fn missing_of(&self, wanted: Vec<String>) -> Vec<String> {
+        let never = |name: &String| self.of(name) == 0;
+        wanted.into_iter().filter(never).collect()
+    }
+
+    /// Lets `model` take in an event of a history, counts what it meets, and
+    /// hands back what must come.
+    pub fn add_event(&mut self, model: &mut Model, event: &Event) -> Expected {
+        self.count(event_name(event.kind));
+        if event.kind != history::kind::SCRIPT {
+            return model.expect(event);
+        }
+        let before = model.standing(event.lent());
+        let fault = follow::records(&event.body, Mistake::None).err();
+        let fault = fault.or(before.and_then(Result::err));
+        let full = model.held.table.len() == event.lent();
+        let mut steps = Steps::default();
+        let expected = model.observe(event, &mut |state, record| steps.add(state, record));
+        let Expected::Outcome(outcome) = &expected else {
+            return expected;
+        };
+        self.count(script_ending_name(outcome.ending));
+        match (outcome.ending, fault) {
+            (Ending::Standing, Some(fault)) => self.count(fault_name(fault)),
+            (Ending::Buffer, _) if full => self.count(String::from(MORE_PLACES)),
+            _ => {}
+        }
+        for (command, by_context) in (0..).zip(&steps.levels) {
+            let carried_out = by_context.iter().flatten().sum();
+            self.count_all(follow_on_name(command), carried_out);
+        }
+        expected
     }
 
     fn count(&mut self, name: String) {
@@ -269,14 +308,58 @@ fn block_name(command: Option<u8>) -> String {
     }
 }
 
+/// 10 of a follow-on script: 513 places.
+const MORE_PLACES: &str = "script turned away with 10 for 513 places";
+
+fn event_name(kind: u32) -> String {
+    match kind {
+        0..=3 => format!("event of kind {kind}"),
+        _ => String::from("event of no kind"),
+    }
+}
+
+fn script_ending_name(ending: Ending) -> String {
+    format!("script, ending {:02}", ending.number())
+}
+
+fn fault_name(fault: Fault) -> String {
+    format!("script turned away with 11 for {fault:?}")
+}
+
+fn follow_on_name(command: u8) -> String {
+    format!("command {command:02} carried out in a script")
+}
+
+/// Everything that histories must reach: every kind of event, every ending that
+/// a script can have, every reason for 11, and every command in a script.
+pub fn wanted_of_histories() -> Vec<String> {
+    let mut names: Vec<String> = (0..=4).map(event_name).collect();
+    // A script has no checks 1 to 6, and 26 is out of reach.
+    let can_end = |ending: &Ending| {
+        let number = ending.number();
+        number != 26 && !(1..=6).contains(&number)
+    };
+    names.extend(
+        Ending::ALL
+            .into_iter()
+            .filter(can_end)
+            .map(script_ending_name),
+    );
+    names.extend(Fault::ALL.map(fault_name));
+    names.extend((0..command::COUNT as u8).map(follow_on_name));
+    names.push(String::from(MORE_PLACES));
+    names
+}
+
 /// Everything that a generator must reach: all commands at all levels that they
-/// can leave, all operators with all kinds, all endings but 26, every stop at
+/// can leave, all operators with all kinds, all endings of a job but 26, every stop at
 /// every command that can give it, every reason for 7 and 8, long runs, sixteen
 /// open blocks, and nodes of all five combinations of levels.
 pub fn wanted() -> Vec<String> {
     let mut names = Vec::new();
     names.extend((0..command::COUNT as u8).map(command_name));
-    let reachable = |ending: &Ending| *ending != Ending::BelowExistence;
+    // No job is turned back with 11, and 26 is out of reach.
+    let reachable = |ending: &Ending| ![Ending::Standing, Ending::BelowExistence].contains(ending);
     names.extend(Ending::ALL.into_iter().filter(reachable).map(ending_name));
     names.extend(LONG_RUNS.map(length_name));
     let stops: [(Ending, &[u8]); 4] = [

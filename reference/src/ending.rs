@@ -1,6 +1,6 @@
 //! The ways a job can end, with the paper's numbers.
 
-/// Finished, a job turned back (1 to 10), or a run that stopped (21 to 26).
+/// Finished, a job or script turned back (1 to 11), or a run that stopped (21 to 26).
 #[derive(Clone, Copy, Debug, PartialEq, Eq, PartialOrd, Ord)]
 pub enum Ending {
     Finished = 0,
@@ -25,6 +25,9 @@ pub enum Ending {
     /// "table not of 1 to 512 places or below the node count, or variable
     /// buffer below the variable count"
     Buffer = 10,
+    /// "a bare section that is not whole records or has more than 1,024, or a
+    /// lent tree and variables that no accepted job could hold" (R-1)
+    Standing = 11,
     /// "a rule above"
     Rule = 21,
     /// "the node moved to or removed does not exist, or command 12 at the root"
@@ -40,7 +43,7 @@ pub enum Ending {
 }
 
 impl Ending {
-    pub const ALL: [Ending; 17] = [
+    pub const ALL: [Ending; 18] = [
         Ending::Finished,
         Ending::Size,
         Ending::Layout,
@@ -52,6 +55,7 @@ impl Ending {
         Ending::Block,
         Ending::Budget,
         Ending::Buffer,
+        Ending::Standing,
         Ending::Rule,
         Ending::Missing,
         Ending::TableFull,
@@ -65,8 +69,8 @@ impl Ending {
         self as u32
     }
 
-    /// Endings 1 to 10: no step was made and no lent buffer changed.
+    /// Endings 1 to 11: no step was made and no lent buffer changed.
     pub fn turned_back(self) -> bool {
-        (1..=10).contains(&self.number())
+        (1..=11).contains(&self.number())
     }
 }

@@ -167,9 +167,22 @@ pub fn decode_with(bytes: &[u8], mistake: Mistake) -> Result<Job, Refusal> {
     check_variables(&job)?;
     check_parents(&job)?;
     check_tree(&job, mistake)?;
-    check_fields(&job, mistake)?;
-    check_blocks(&job, mistake)?;
+    check_script(&job.script, job.variables.len(), mistake)?;
     Ok(job)
+}
+
+/// Checks 7 and 8 of a script over so many variables.
+pub fn check_script(script: &[Record], variables: usize, mistake: Mistake) -> Result<(), Refusal> {
+    check_fields(script, variables, mistake)?;
+    check_blocks(script, mistake)
+}
+
+/// The records of a script section, a part record at its end left out.
+pub fn records(section: &[u8]) -> Vec<Record> {
+    section
+        .chunks_exact(RECORD_BYTES)
+        .map(record_from)
+        .collect()
 }
 
 /// Checks 1 and 2, and the three sections with whatever they hold.
@@ -199,10 +212,7 @@ pub fn split(bytes: &[u8]) -> Result<Job, Refusal> {
             .chunks(NODE_BYTES)
             .map(node_from)
             .collect(),
-        script: bytes[script..trailer]
-            .chunks(RECORD_BYTES)
-            .map(record_from)
-            .collect(),
+        script: records(&bytes[script..trailer]),
     })
 }
 
@@ -285,9 +295,9 @@ fn left_sibling(nodes: &[Node], index: usize, mistake: Mistake) -> Option<usize>
 
 /// Check 7: "command above 16, or a field read is out of range (variable
 /// index, operator, kind, mark)".
-fn check_fields(job: &Job, mistake: Mistake) -> Result<(), Refusal> {
-    let in_range = |record: &Record| fields_in_range(record, job.variables.len(), mistake);
-    match job.script.iter().position(|record| !in_range(record)) {
+fn check_fields(script: &[Record], variables: usize, mistake: Mistake) -> Result<(), Refusal> {
+    let in_range = |record: &Record| fields_in_range(record, variables, mistake);
+    match script.iter().position(|record| !in_range(record)) {
         Some(index) => refuse(Ending::Field, index),
         None => Ok(()),
     }
@@ -332,8 +342,8 @@ pub struct Block {
 }
 
 /// Check 8.
-fn check_blocks(job: &Job, mistake: Mistake) -> Result<(), Refusal> {
-    match pair_blocks(&job.script, mistake) {
+fn check_blocks(script: &[Record], mistake: Mistake) -> Result<(), Refusal> {
+    match pair_blocks(script, mistake) {
         Ok(_) => Ok(()),
         Err(index) => refuse(Ending::Block, index),
     }
@@ -447,19 +457,26 @@ impl Job {
             bytes.extend(node.value.to_le_bytes());
         }
         let script = bytes.len();
-        for record in &self.script {
-            bytes.extend([record.command, record.target, record.operator]);
-            bytes.extend([record.left_kind, record.right_kind]);
-            bytes.extend(record.spare);
-            bytes.extend(record.left.to_le_bytes());
-            bytes.extend(record.right.to_le_bytes());
-        }
+        bytes.extend(section(&self.script));
         let trailer = bytes.len();
         for offset in [0, nodes, script, trailer] {
             bytes.extend((offset as u16).to_le_bytes());
         }
         bytes
     }
+}
+
+/// The bytes of a script section.
+pub fn section(script: &[Record]) -> Vec<u8> {
+    let mut bytes = Vec::new();
+    for record in script {
+        bytes.extend([record.command, record.target, record.operator]);
+        bytes.extend([record.left_kind, record.right_kind]);
+        bytes.extend(record.spare);
+        bytes.extend(record.left.to_le_bytes());
+        bytes.extend(record.right.to_le_bytes());
+    }
+    bytes
 }
 
 /// "Numbers are little-endian".

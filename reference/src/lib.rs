@@ -1,9 +1,11 @@
-//! A reference of the labelled-tree script monitor, written from the paper's
+//! A reference of the labelled-tree script monitor, written from the papers'
 //! text alone. It is plain rather than fast: a tree of owned nodes, a cursor
 //! that is a path, and one function for each rule.
 //!
 //! - [`job`]: the job's bytes and checks 1 to 8.
 //! - [`run`]: checks 9 and 10, the steps, the whole outcome.
+//! - [`follow`] and [`table`]: a script over a lent tree; [`history`]: the events
+//!   of the `history` program.
 //! - [`portal`]: the two programs around a run, as functions.
 //! - [`public`]: public parts, agreement, and what a leak is.
 //! - [`generate`]: cases and pairs of cases from a seed.
@@ -13,7 +15,9 @@
 
 pub mod coverage;
 pub mod ending;
+pub mod follow;
 pub mod generate;
+pub mod history;
 pub mod job;
 pub mod mistake;
 pub mod portal;
@@ -23,6 +27,7 @@ pub mod random;
 pub mod run;
 pub mod shrink;
 pub mod source;
+pub mod table;
 pub mod tree;
 
 /// "A level is 0 (public) or 1 (house)."

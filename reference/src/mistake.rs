@@ -46,13 +46,40 @@ pub enum Mistake {
     RightSideAlwaysChecked,
     /// A 17th nested block is accepted.
     SeventeenBlocksAccepted,
+    // Follow-on scripts.
+    /// A script starts where the last one left the cursor, with cursor level 0.
+    CursorStays,
+    /// A stop brings back what stood before the script.
+    StopTakenBack,
+    /// 9 is given before 11.
+    BudgetBeforeStanding,
+    /// 10 is given before 9.
+    PlacesBeforeBudget,
+    /// More than 512 places are 11 in place of 10.
+    PlacesAre11,
+    /// A part record at a section's end is left out.
+    PartRecordDropped,
+    /// A 65th variable is accepted.
+    LentVariablesUnchecked,
+    /// A root with a right sibling is accepted.
+    RootSiblingAccepted,
+    /// A node's parent is not looked at.
+    LentParentUnchecked,
+    /// A count of children is not looked at.
+    LentCountUnchecked,
+    /// The tree rules are not looked at.
+    LentRulesUnchecked,
+    /// A link that is no place is no link.
+    LinkOutsideIsNone,
+    /// A free place with a link that is no place is 11.
+    FreePlacesChecked,
 }
 
 /// The commands that have a rule.
 pub const RULED_COMMANDS: [u8; 12] = [1, 6, 7, 8, 9, 10, 11, 12, 13, 14, 15, 16];
 
 impl Mistake {
-    /// Every mistake, without `None` and `NoRule`.
+    /// Every mistake that a job shows, without `None` and `NoRule`.
     pub const ALL: [Mistake; 18] = [
         Mistake::MoveRaisesCursorLevel,
         Mistake::ChildrenLevelFromChildren,
@@ -72,6 +99,23 @@ impl Mistake {
         Mistake::LeftIsPreviousRecord,
         Mistake::RightSideAlwaysChecked,
         Mistake::SeventeenBlocksAccepted,
+    ];
+
+    /// The mistakes that only a follow-on script shows.
+    pub const FOLLOWING: [Mistake; 13] = [
+        Mistake::CursorStays,
+        Mistake::StopTakenBack,
+        Mistake::BudgetBeforeStanding,
+        Mistake::PlacesBeforeBudget,
+        Mistake::PlacesAre11,
+        Mistake::PartRecordDropped,
+        Mistake::LentVariablesUnchecked,
+        Mistake::RootSiblingAccepted,
+        Mistake::LentParentUnchecked,
+        Mistake::LentCountUnchecked,
+        Mistake::LentRulesUnchecked,
+        Mistake::LinkOutsideIsNone,
+        Mistake::FreePlacesChecked,
     ];
 
     /// The mistakes by which public lines come to depend on house parts of an

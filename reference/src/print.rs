@@ -34,6 +34,16 @@ pub fn case(case: &Case) -> String {
     )
 }
 
+/// The bytes of a job, or of a bare script section, where they have sections
+/// or records.
+pub fn section(is_job: bool, bytes: &[u8]) -> String {
+    match (is_job, job::split(bytes)) {
+        (true, Ok(parts)) => job(&parts),
+        (false, _) if bytes.len() % job::RECORD_BYTES == 0 => script(&job::records(bytes)),
+        _ => format!("{} bytes\n{}\n", bytes.len(), hexadecimal(bytes)),
+    }
+}
+
 pub fn pair(pair: &Pair) -> String {
     format!("left\n{}right\n{}", case(&pair.left), case(&pair.right))
 }

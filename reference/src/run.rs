@@ -54,6 +54,34 @@ pub struct Last {
     pub tree: Vec<Row>,
 }
 
+/// "a standing tree and variables over which script after script runs"
+#[derive(Clone, Debug, PartialEq, Eq)]
+pub struct Standing {
+    /// Level and value of each variable.
+    pub variables: Vec<(Level, i32)>,
+    pub tree: Tree,
+    /// Where the last script left the cursor: only a wrong monitor looks at it.
+    pub cursor: Path,
+}
+
+impl Standing {
+    /// What an accepted job brings.
+    pub fn of(job: &Job) -> Standing {
+        Standing {
+            variables: job.variables.iter().map(|v| (v.level, v.value)).collect(),
+            tree: Tree::from_records(&job.nodes),
+            cursor: Path::new(),
+        }
+    }
+
+    pub fn last(&self) -> Last {
+        Last {
+            variables: self.variables.clone(),
+            tree: self.tree.preorder(),
+        }
+    }
+}
+
 /// What stands between two steps.
 #[derive(Clone, Debug)]
 pub struct State {
@@ -85,22 +113,34 @@ pub fn outcome_with(bytes: &[u8], limits: &Limits, mistake: Mistake) -> Outcome 
 
 /// The same, with an observer of every step.
 pub fn observed(bytes: &[u8], limits: &Limits, mistake: Mistake, observer: Observer) -> Outcome {
-    match job::decode_with(bytes, mistake) {
-        Ok(job) => run_job(&job, limits, mistake, observer),
-        Err(refusal) => turned_back(refusal.ending, refusal.index),
-    }
+    start(bytes, limits, mistake, observer).0
 }
 
-/// The outcome of an accepted job: checks 9 and 10, then the run.
-pub fn run_job(job: &Job, limits: &Limits, mistake: Mistake, observer: Observer) -> Outcome {
-    match check_limits(job, limits) {
-        Some(ending) => turned_back(ending, 0),
-        None => Monitor::new(job, limits, mistake).run(observer),
-    }
+/// The same, with what stands then: "Its last variables and tree are those that
+/// stand when it has ended." Nothing for a job turned back.
+pub fn start(
+    bytes: &[u8],
+    limits: &Limits,
+    mistake: Mistake,
+    observer: Observer,
+) -> (Outcome, Option<Standing>) {
+    let refusal = match job::decode_with(bytes, mistake) {
+        Ok(job) => match check_limits(&job, limits) {
+            None => {
+                let standing = Standing::of(&job);
+                let monitor = Monitor::new(&job.script, &standing, limits, mistake);
+                let (outcome, after) = monitor.run_to_end(observer);
+                return (outcome, Some(after));
+            }
+            Some(ending) => turned_back(ending, 0),
+        },
+        Err(refusal) => turned_back(refusal.ending, refusal.index),
+    };
+    (refusal, None)
 }
 
 /// "steps and lines are 0 for 1 to 10"
-fn turned_back(ending: Ending, index: usize) -> Outcome {
+pub fn turned_back(ending: Ending, index: usize) -> Outcome {
     Outcome {
         ending,
         index,
@@ -141,10 +181,15 @@ pub struct Monitor<'a> {
 }
 
 impl<'a> Monitor<'a> {
-    /// The run of an accepted job, before its first step.
-    pub fn new(job: &'a Job, limits: &'a Limits, mistake: Mistake) -> Monitor<'a> {
-        let mut blocks = vec![None; job.script.len()];
-        for block in job::pair_blocks(&job.script, mistake).expect("the job is accepted") {
+    /// The run of a script that passed its checks, before its first step.
+    pub fn new(
+        script: &'a [Record],
+        standing: &Standing,
+        limits: &'a Limits,
+        mistake: Mistake,
+    ) -> Monitor<'a> {
+        let mut blocks = vec![None; script.len()];
+        for block in job::pair_blocks(script, mistake).expect("check 8 is passed") {
             blocks[block.opening] = Some(block);
             blocks[block.end] = Some(block);
             if let Some(otherwise) = block.otherwise {
@@ -152,8 +197,8 @@ impl<'a> Monitor<'a> {
             }
         }
         let state = State {
-            variables: job.variables.iter().map(|v| (v.level, v.value)).collect(),
-            tree: Tree::from_records(&job.nodes),
+            variables: standing.variables.clone(),
+            tree: standing.tree.clone(),
             // "The cursor starts at the root with cursor level 0."
             cursor: Path::new(),
             cursor_level: PUBLIC,
@@ -163,7 +208,7 @@ impl<'a> Monitor<'a> {
             lines: Vec::new(),
         };
         Monitor {
-            script: &job.script,
+            script,
             blocks,
             limits,
             mistake,
@@ -173,21 +218,21 @@ impl<'a> Monitor<'a> {
 
     /// "At the script's end the run has finished, even with the budget used
     /// up. Otherwise, if the steps equal the budget, stop 25."
-    pub fn run(mut self, observer: Observer) -> Outcome {
+    pub fn run(mut self, observer: Observer) -> (Ending, usize, State) {
         loop {
             let next = self.state.next;
             if next == self.script.len() {
-                return self.ended(Ending::Finished, 0);
+                return (Ending::Finished, 0, self.state);
             }
             if self.state.steps == self.limits.budget {
-                return self.ended(Ending::BudgetUsed, next);
+                return (Ending::BudgetUsed, next, self.state);
             }
             let record = self.script[next];
             if let Err(ending) = self.carry_out(&record) {
                 if self.mistake == Mistake::StopCountsStep {
                     self.state.steps += 1;
                 }
-                return self.ended(ending, next);
+                return (ending, next, self.state);
             }
             // "Each record carried out is one step".
             self.state.steps += 1;
@@ -195,17 +240,22 @@ impl<'a> Monitor<'a> {
         }
     }
 
-    fn ended(self, ending: Ending, index: usize) -> Outcome {
-        Outcome {
+    /// The outcome of the run, and what stands then.
+    pub fn run_to_end(self, observer: Observer) -> (Outcome, Standing) {
+        let (ending, index, state) = self.run(observer);
+        let after = Standing {
+            variables: state.variables,
+            tree: state.tree,
+            cursor: state.cursor,
+        };
+        let outcome = Outcome {
             ending,
             index,
-            steps: self.state.steps,
-            lines: self.state.lines,
-            last: Some(Last {
-                variables: self.state.variables,
-                tree: self.state.tree.preorder(),
-            }),
-        }
+            steps: state.steps,
+            lines: state.lines,
+            last: Some(after.last()),
+        };
+        (outcome, after)
     }
 
     /// One record. A stop leaves the state as it was.

@@ -2,6 +2,7 @@
 //! smaller one that still fails, until there is none.
 
 use crate::generate::{renumber, Case, Pair};
+use crate::history::{self, Event};
 use crate::job::{
     self, command, kind, operator, Block, Job, Node, Record, Target, Variable, READS,
 };
@@ -410,4 +411,91 @@ fn smaller_bytes(bytes: &[u8]) -> Vec<Vec<u8>> {
         smaller.push(zeroed);
     }
     smaller
+}
+
+/// Shrinks a history, for which `failing` holds: fewer events, fewer entries of
+/// a poke, smaller jobs and scripts.
+pub fn history(start: &[Event], failing: &dyn Fn(&[Event]) -> bool) -> Vec<Event> {
+    let mut best = start.to_vec();
+    loop {
+        let found = smaller_histories(&best).find(|events| failing(events));
+        match found {
+            Some(smaller) => best = smaller,
+            None => return best,
+        }
+    }
+}
+
+fn smaller_histories(events: &[Event]) -> Box<dyn Iterator<Item = Vec<Event>> + '_> {
+    let removed = (0..events.len()).rev().map(move |place| {
+        let mut fewer = events.to_vec();
+        fewer.remove(place);
+        fewer
+    });
+    let changed = (0..events.len()).flat_map(move |place| {
+        smaller_events(&events[place]).map(move |event| {
+            let mut changed = events.to_vec();
+            changed[place] = event;
+            changed
+        })
+    });
+    Box::new(removed.chain(changed))
+}
+
+fn smaller_events(event: &Event) -> Box<dyn Iterator<Item = Event> + '_> {
+    let with_body = move |body: Vec<u8>| Event {
+        body,
+        ..event.clone()
+    };
+    match event.kind {
+        history::kind::POKE => Box::new(without_parts(&event.body, 8).map(with_body)),
+        history::kind::SCRIPT => Box::new(
+            without_parts(&event.body, job::RECORD_BYTES)
+                .chain(simpler_sections(&event.body))
+                .map(with_body),
+        ),
+        history::kind::JOB => {
+            let case = Case {
+                bytes: event.body.clone(),
+                limits: event.limits(),
+            };
+            let bodies: Vec<Vec<u8>> = smaller_cases(&case)
+                .map(|smaller| smaller.bytes)
+                .filter(|bytes| *bytes != event.body)
+                .collect();
+            Box::new(bodies.into_iter().map(with_body))
+        }
+        _ => Box::new(std::iter::empty()),
+    }
+}
+
+/// The bytes without some of their parts of `size`: many at first, then one.
+fn without_parts(bytes: &[u8], size: usize) -> Box<dyn Iterator<Item = Vec<u8>> + '_> {
+    let parts = bytes.len().div_ceil(size);
+    let halves = std::iter::successors(Some(parts), |count| Some(count / 2));
+    let counts = halves.take_while(|&count| count > 0);
+    Box::new(counts.flat_map(move |count| {
+        (0..parts).step_by(count).map(move |first| {
+            let end = ((first + count) * size).min(bytes.len());
+            [&bytes[..first * size], &bytes[end..]].concat()
+        })
+    }))
+}
+
+fn simpler_sections(section: &[u8]) -> Box<dyn Iterator<Item = Vec<u8>> + '_> {
+    if section.len() % job::RECORD_BYTES != 0 {
+        return Box::new(std::iter::empty());
+    }
+    let script = job::records(section);
+    let places = 0..script.len();
+    Box::new(places.flat_map(move |place| {
+        let script = script.clone();
+        simpler_records(&script[place])
+            .into_iter()
+            .map(move |record| {
+                let mut simpler = script.clone();
+                simpler[place] = record;
+                job::section(&simpler)
+            })
+    }))
 }

@@ -86,6 +86,11 @@ impl Tree {
         }
     }
 
+    pub fn has_level_above_1(&self) -> bool {
+        let own = [self.existence, self.content, self.list];
+        own.iter().any(|&level| level > 1) || self.children.iter().any(Tree::has_level_above_1)
+    }
+
     /// "Every tree, at start and after each step: the root has existence 0",
     /// and the rules for all nodes below it.
     pub fn keeps_rules(&self) -> bool {

@@ -63,6 +63,23 @@ impl Arena {
         self.free = NONE;
     }
 
+    /// Makes the places below `places` that are not `live` the free ones, with
+    /// no place beyond them.
+    pub fn reclaim(&mut self, places: usize, live: &[bool; MAX_NODES]) {
+        let mut next = NONE;
+        for place in (0..places).rev().filter(|&place| !live[place]) {
+            self.nodes[place] = Node {
+                parent: NONE,
+                first: NONE,
+                right: next,
+                ..Node::default()
+            };
+            next = place as u16;
+        }
+        self.free = next;
+        self.used = places;
+    }
+
     /// The last child so far of a node that is loaded.
     #[inline(always)]
     pub fn last_child(&self, parent: u16) -> u16 {

@@ -170,7 +170,7 @@ struct Open {
 
 /// Checks 7 and 8. A 7 in any record comes before an 8 in any other, so the
 /// first 8 is kept until all fields have been read.
-fn check_script(buffers: &mut Buffers, section: &[u8]) -> Result<(), Answer> {
+pub fn check_script(buffers: &mut Buffers, section: &[u8]) -> Result<(), Answer> {
     let count = section.len() / 16;
     let variables = buffers.variable_count;
     let ops = &mut buffers.ops;

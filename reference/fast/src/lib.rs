@@ -4,11 +4,13 @@
 //! - [`check`]: checks 1 to 8; what an accepted job holds goes into [`Buffers`].
 //! - [`arena`]: the nodes; insertion and removal in constant time.
 //! - [`run`]: checks 9 and 10, and the steps.
+//! - [`follow`]: a script over a lent table of node records.
 //! - [`entry`]: the portal's call, also for C.
 
 pub mod arena;
 pub mod check;
 pub mod entry;
+pub mod follow;
 pub mod run;
 
 use arena::Arena;
@@ -33,6 +35,7 @@ pub mod ending {
     pub const BLOCK: u8 = 8;
     pub const BUDGET: u8 = 9;
     pub const BUFFER: u8 = 10;
+    pub const STANDING: u8 = 11;
     pub const RULE: u8 = 21;
     pub const MISSING: u8 = 22;
     pub const TABLE_FULL: u8 = 23;

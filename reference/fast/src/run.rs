@@ -92,7 +92,8 @@ fn new_node(mark: u8, value: i32, e: u8, c: u8) -> Node {
     }
 }
 
-fn steps(buffers: &mut Buffers, budget: u32, places: usize, area: &mut [u8]) -> Answer {
+/// The steps of a script that passed its checks, over what `buffers` hold.
+pub fn steps(buffers: &mut Buffers, budget: u32, places: usize, area: &mut [u8]) -> Answer {
     let Buffers {
         variables,
         arena,

@@ -75,13 +75,15 @@ impl Arguments {
 
 /// The mistake of this name, as it is written in the reference.
 pub fn mistake_named(name: &str) -> Mistake {
-    match all_mistakes().find(|mistake| format!("{mistake:?}") == name) {
+    let all = all_mistakes().chain(Mistake::FOLLOWING);
+    let mut named = all.chain([Mistake::None]);
+    match named.find(|mistake| format!("{mistake:?}") == name) {
         Some(mistake) => mistake,
         None => fail(&format!("no mistake {name}")),
     }
 }
 
-/// Every planted mistake.
+/// Every planted mistake that a job shows.
 pub fn all_mistakes() -> impl Iterator<Item = Mistake> {
     let rules = RULED_COMMANDS.map(Mistake::NoRule);
     Mistake::ALL.into_iter().chain(rules)

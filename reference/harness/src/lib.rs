@@ -5,11 +5,13 @@
 //! - [`portal`]: the portal that is tried: linked, fast, or the reference.
 //! - [`programs`]: what `board` and `inspect` must print.
 //! - [`differential`]: whole outcomes against the reference.
+//! - [`histories`]: scripts over a standing tree, through `history`.
 //! - [`leaks`]: pairs of jobs that agree on their public parts.
 //! - [`quick`]: outcomes of the fast version.
 //! - [`workloads`], [`bench`], [`clock`] and [`instructions`]: the jobs that are
 //!   measured, and how; [`lua`]: the same work in Lua.
 //! - [`memory`]: that of a process that runs for long.
+//! - [`input`]: what the stand-ins read.
 //! - [`arguments`] and [`progress`]: the command lines and the progress lines.
 
 pub mod arguments;
@@ -17,6 +19,8 @@ pub mod bench;
 pub mod clock;
 pub mod differential;
 pub mod frame;
+pub mod histories;
+pub mod input;
 pub mod instructions;
 pub mod leaks;
 pub mod lua;

@@ -2,11 +2,13 @@
 
 use std::cell::RefCell;
 
-use fast::{Buffers, Limits};
+use fast::follow::{Lent, Record};
+use fast::{Answer, Buffers, Limits};
 use reference::ending::Ending;
 use reference::generate::Case;
-use reference::run::{Last, Outcome};
+use reference::run::{self, Last, Outcome};
 use reference::tree::Row;
+use reference::Level;
 
 thread_local! {
     static BUFFERS: RefCell<Box<Buffers>> = RefCell::new(Buffers::new());
@@ -17,13 +19,55 @@ pub fn outcome(case: &Case) -> Outcome {
 }
 
 fn outcome_in(buffers: &mut Buffers, case: &Case) -> Outcome {
-    let limits = Limits {
-        budget: case.limits.budget,
-        places: case.limits.places,
-        variables: case.limits.variables,
+    job(buffers, &case.bytes, &case.limits).0
+}
+
+/// The outcome of a job, and its last variables where it was run.
+pub fn job(
+    buffers: &mut Buffers,
+    bytes: &[u8],
+    limits: &run::Limits,
+) -> (Outcome, Option<Vec<(Level, i32)>>) {
+    let mut area = vec![0; 4 * limits.lines];
+    let answer = fast::run::run(
+        buffers,
+        bytes,
+        Limits {
+            budget: limits.budget,
+            places: limits.places,
+            variables: limits.variables,
+        },
+        &mut area,
+    );
+    let outcome = whole(answer, &area, buffers);
+    let variables = outcome.last.as_ref().map(|last| last.variables.clone());
+    (outcome, variables)
+}
+
+/// The outcome of a follow-on script over lent records and variables.
+pub fn script(
+    buffers: &mut Buffers,
+    section: &[u8],
+    limits: &run::Limits,
+    table: &mut [Record],
+    variables: &mut [(Level, i32)],
+) -> Outcome {
+    let mut area = vec![0; 4 * limits.lines];
+    let (mut levels, mut values): (Vec<Level>, Vec<i32>) = variables.iter().copied().unzip();
+    let lent = Lent {
+        table,
+        levels: &mut levels,
+        values: &mut values,
     };
-    let mut area = vec![0; 4 * case.limits.lines];
-    let answer = fast::run::run(buffers, &case.bytes, limits, &mut area);
+    let answer = fast::follow::follow(buffers, section, limits.budget, lent, &mut area);
+    for (variable, pair) in variables.iter_mut().zip(levels.into_iter().zip(values)) {
+        *variable = pair;
+    }
+    whole(answer, &area, buffers)
+}
+
+/// An answer with its lines and the last state.
+fn whole(answer: Answer, area: &[u8], buffers: &Buffers) -> Outcome {
     let is_ending = |ending: &Ending| ending.number() == u32::from(answer.ending);
     let ending = Ending::ALL.into_iter().find(is_ending).expect("an ending");
     let lines = area.chunks_exact(4).take(answer.lines as usize);

@@ -1,11 +1,13 @@
-//! Cases and pairs of cases from a seed. The same seed gives the same case.
+//! Cases, pairs of cases and histories from a seed. The same seed gives the same.
 
 mod damage;
+mod history;
 mod nodes;
 mod pairs;
 mod script;
 
 pub use damage::damaged;
+pub use history::history;
 pub use nodes::renumber;
 use nodes::Growth;
 pub use pairs::{pair, Pair};
@@ -14,7 +16,7 @@ use crate::ending::Ending;
 use crate::job::{Job, Record, Variable, MAX_VARIABLES};
 use crate::mistake::{Mistake, RULED_COMMANDS};
 use crate::random::Random;
-use crate::run::{self, Limits, MAX_BUDGET, MAX_PLACES};
+use crate::run::{Limits, Monitor, Standing, MAX_BUDGET, MAX_PLACES};
 use crate::{Level, HOUSE, PUBLIC};
 
 /// The bytes of a job, with a budget and the sizes of the buffers.
@@ -52,8 +54,9 @@ fn valid_job(random: &mut Random) -> (Job, Limits) {
     };
     let levels = levels(&job.variables);
     let mistake = likely_mistake(random);
+    let standing = Standing::of(&job);
     let goes_on = &mut |script: &[Record]| {
-        let ending = trial_ending(&job, script, mistake);
+        let ending = trial_ending(&standing, script, mistake);
         ending != Ending::Rule && ending != Ending::Missing
     };
     let script = match random.below(30) {
@@ -69,15 +72,13 @@ fn valid_job(random: &mut Random) -> (Job, Limits) {
     (job, limits)
 }
 
-/// How `script` ends on the job's variables and tree within a few steps, by a
+/// How `script` ends over what stands within a few steps, by a
 /// monitor with `mistake`. Scripts that grow by this trial run long, and go on
 /// where a wrong monitor would go on.
-fn trial_ending(job: &Job, script: &[Record], mistake: Mistake) -> Ending {
-    let job = Job {
-        script: script.to_vec(),
-        ..job.clone()
-    };
-    run::run_job(&job, &Limits::ample(400), mistake, &mut |_, _| {}).ending
+fn trial_ending(standing: &Standing, script: &[Record], mistake: Mistake) -> Ending {
+    let limits = Limits::ample(400);
+    let monitor = Monitor::new(script, standing, &limits, mistake);
+    monitor.run(&mut |_, _| {}).0
 }
 
 /// None, or one by which more scripts finish.
@@ -106,6 +107,10 @@ fn variables(random: &mut Random) -> Vec<Variable> {
 
 fn levels(variables: &[Variable]) -> Vec<Level> {
     variables.iter().map(|variable| variable.level).collect()
+}
+
+fn levels_of(variables: &[(Level, i32)]) -> Vec<Level> {
+    variables.iter().map(|variable| variable.0).collect()
 }
 
 /// Limits that are accepted for `job`, some of them tight.

@@ -8,7 +8,7 @@ use crate::job::{self, Job, Node, Record, Variable};
 use crate::mistake::Mistake;
 use crate::public::{self, Leak};
 use crate::random::Random;
-use crate::run::{self, Limits};
+use crate::run::{self, Limits, Standing};
 use crate::{HOUSE, PUBLIC};
 
 #[derive(Clone, Debug, PartialEq, Eq)]
@@ -96,10 +96,11 @@ fn without_script(random: &mut Random, growth: Growth) -> Job {
 fn common_script(random: &mut Random, left: &Job, right: &Job) -> Vec<Record> {
     let levels = levels(&left.variables);
     let mistake = likely_mistake(random);
+    let sides = [Standing::of(left), Standing::of(right)];
     let both_finish = |script: &[Record], mistake: Mistake| {
-        [left, right]
+        sides
             .iter()
-            .all(|job| trial_ending(job, script, mistake) == Ending::Finished)
+            .all(|side| trial_ending(side, script, mistake) == Ending::Finished)
     };
     match random.below(16) {
         0 => return script::any(random, &levels, &mut |_| true),

@@ -4,7 +4,7 @@ use super::*;
 use reference::job::{Variable, NO_PARENT};
 use reference::mistake::Mistake;
 use reference::portal::{board, portal};
-use reference::run::Monitor;
+use reference::run::{Monitor, Standing};
 
 fn bytes_of(hexadecimal: &str) -> Vec<u8> {
     let digits: Vec<char> = hexadecimal.chars().filter(|c| !c.is_whitespace()).collect();
@@ -454,9 +454,10 @@ fn ending_26_context_below_the_node() {
                 places,
                 ..Limits::ample(10)
             };
-            let mut monitor = Monitor::new(&job, &limits, Mistake::None);
+            let standing = Standing::of(&job);
+            let mut monitor = Monitor::new(&job.script, &standing, &limits, Mistake::None);
             monitor.state.cursor = vec![0];
-            let outcome = monitor.run(&mut |_, _| {});
+            let (outcome, _) = monitor.run_to_end(&mut |_, _| {});
             assert_eq!(answer(&outcome), (26, 0, 0, vec![]));
         }
     }

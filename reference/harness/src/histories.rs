@@ -1,0 +1,385 @@
+//! Histories through the `history` program, compared with the reference.
+
+use std::fmt::Write;
+
+use fast::follow::Record;
+use fast::Buffers;
+use reference::coverage::Coverage;
+use reference::follow;
+use reference::history::{self, kind, store, Entry, Event, Expected, Held, Model, RECORDS};
+use reference::mistake::Mistake;
+use reference::run::{self, Outcome, Standing};
+use reference::table::Lent;
+use reference::Level;
+
+use crate::differential::Unlike;
+use crate::frame;
+use crate::quick;
+
+/// What is printed for the event of a number.
+pub fn heading(event: &Event, number: usize) -> String {
+    let name = match event.kind {
+        kind::JOB => "job",
+        kind::SCRIPT => "script",
+        kind::POKE => "poke",
+        kind::DUMP => "table",
+        _ => "unknown",
+    };
+    format!("{name} {number}\n")
+}
+
+/// "`record P FIRST RIGHT PARENT CHILDREN VALUE EXISTENCE CONTENT LIST`"
+fn record_text(place: usize, record: &Lent) -> String {
+    let Lent {
+        first,
+        right,
+        parent,
+        children,
+        value,
+        existence,
+        content,
+        list,
+    } = record;
+    format!(
+        "record {place} {first} {right} {parent} {children} {value} {existence} {content} {list}\n"
+    )
+}
+
+fn variables_text(variables: &[(Level, i32)]) -> String {
+    let text = |(level, value): &(Level, i32)| format!("variable {level} {value}\n");
+    variables.iter().map(text).collect()
+}
+
+fn table_text(records: &[Lent], variables: &[(Level, i32)]) -> String {
+    let mut text = String::new();
+    for (place, record) in records.iter().enumerate() {
+        text += &record_text(place, record);
+    }
+    text + &variables_text(variables)
+}
+
+/// The records and the rest of a dump's text.
+fn parse_table(text: &str) -> Option<(Vec<Lent>, String)> {
+    let mut records = Vec::new();
+    let mut rest = String::new();
+    for line in text.lines() {
+        let Some(numbers) = line.strip_prefix("record ") else {
+            writeln!(rest, "{line}").unwrap();
+            continue;
+        };
+        let numbers: Vec<i64> = numbers
+            .split(' ')
+            .map(|word| word.parse().ok())
+            .collect::<Option<_>>()?;
+        let [place, first, right, parent, children, value, existence, content, list] = numbers[..]
+        else {
+            return None;
+        };
+        if !rest.is_empty() || place != records.len() as i64 {
+            return None;
+        }
+        let word = |number: i64| u32::try_from(number).ok();
+        let byte = |number: i64| u8::try_from(number).ok();
+        records.push(Lent {
+            first: word(first)?,
+            right: word(right)?,
+            parent: word(parent)?,
+            children: word(children)?,
+            value: i32::try_from(value).ok()?,
+            existence: byte(existence)?,
+            content: byte(content)?,
+            list: byte(list)?,
+        });
+    }
+    Some((records, rest))
+}
+
+/// The parts of an output, one for each event.
+pub fn split(text: &str) -> Vec<String> {
+    const HEADS: [&str; 6] = [
+        "job ",
+        "script ",
+        "poke ",
+        "table ",
+        "unknown ",
+        "truncated",
+    ];
+    let mut parts: Vec<String> = Vec::new();
+    for line in text.split_inclusive('\n') {
+        if HEADS.iter().any(|head| line.starts_with(head)) || parts.is_empty() {
+            parts.push(String::new());
+        }
+        parts.last_mut().expect("not empty").push_str(line);
+    }
+    parts
+}
+
+/// What is wrong with an output.
+#[derive(Clone, Debug, PartialEq, Eq)]
+pub enum Wrong {
+    /// At the event of this number.
+    Unlike(usize, Unlike),
+    /// The history pokes at places that only the program knows: a fault of the
+    /// generator.
+    Open(usize),
+}
+
+/// Holds what was printed for a history to the reference, and counts what it
+/// reaches.
+pub fn check(
+    events: &[Event],
+    printed: &str,
+    mistake: Mistake,
+    coverage: &mut Coverage,
+) -> Result<(), Wrong> {
+    let parts = split(printed);
+    let mut model = Model::new(mistake);
+    for (number, event) in events.iter().enumerate() {
+        let got = parts.get(number).cloned().unwrap_or_default();
+        let head = heading(event, number);
+        let expected = match coverage.add_event(&mut model, event) {
+            Expected::Outcome(outcome) => head + &frame::text(&outcome),
+            Expected::Poked | Expected::Unknown => head,
+            Expected::Table {
+                records: Some(records),
+                variables,
+            } => head + &table_text(&records, &variables),
+            Expected::Table {
+                records: None,
+                variables,
+            } => learn(&mut model, head, &variables, &got),
+            Expected::Open => return Err(Wrong::Open(number)),
+        };
+        if got != expected {
+            return Err(Wrong::Unlike(number, Unlike { expected, got }));
+        }
+    }
+    match parts.get(events.len()) {
+        None => Ok(()),
+        Some(more) => Err(Wrong::Unlike(
+            events.len(),
+            Unlike {
+                expected: String::new(),
+                got: more.clone(),
+            },
+        )),
+    }
+}
+
+/// The text of a dump that shows for the first time where nodes stand: what was
+/// printed, if it may be so; else what is wrong with it.
+fn learn(model: &mut Model, head: String, variables: &[(Level, i32)], got: &str) -> String {
+    let rest = variables_text(variables);
+    let shown = got.strip_prefix(&head).and_then(parse_table);
+    match shown {
+        Some((records, printed)) if printed == rest => match model.learn(&records) {
+            Ok(()) => got.into(),
+            Err(wrong) => format!("{head}({wrong})\n"),
+        },
+        _ => format!("{head}({RECORDS} records that hold the tree)\n{rest}"),
+    }
+}
+
+/// What plays a history in place of the program.
+#[derive(Clone, Copy, Debug, PartialEq, Eq)]
+pub enum Player {
+    Fast,
+    /// The reference, as it is or with a planted mistake.
+    Reference(Mistake),
+}
+
+/// A program that plays events one after the other.
+pub struct Standin {
+    player: Player,
+    held: Held,
+    /// What the last run left, for a mistake that looks at it.
+    last: Option<Standing>,
+    buffers: Box<Buffers>,
+    number: usize,
+}
+
+impl Standin {
+    pub fn new(player: Player) -> Standin {
+        Standin {
+            player,
+            held: Held::new(),
+            last: None,
+            buffers: Buffers::new(),
+            number: 0,
+        }
+    }
+
+    /// What the program prints for an event.
+    pub fn play(&mut self, event: &Event) -> String {
+        let head = heading(event, self.number);
+        self.number += 1;
+        let outcome = match (event.kind, self.player) {
+            (kind::POKE, _) => {
+                for entry in Entry::all(&event.body) {
+                    self.held.poke(&entry);
+                    self.last = None;
+                }
+                return head;
+            }
+            (kind::DUMP, _) => {
+                let records = &self.held.table[..event.lent()];
+                return head + &table_text(records, self.held.variables());
+            }
+            (kind::JOB, Player::Fast) => self.fast_job(event),
+            (kind::SCRIPT, Player::Fast) => self.fast_script(event),
+            (kind::JOB, Player::Reference(mistake)) => {
+                let (outcome, after) =
+                    run::start(&event.body, &event.limits(), mistake, &mut |_, _| {});
+                self.keep(event, after);
+                outcome
+            }
+            (kind::SCRIPT, Player::Reference(mistake)) => self.reference_script(event, mistake),
+            _ => return head,
+        };
+        head + &frame::text(&outcome)
+    }
+
+    /// Stores what stands now: its nodes from the last place lent on, but for
+    /// the root, so that other places than a job's come up.
+    fn keep(&mut self, event: &Event, after: Option<Standing>) {
+        let Some(standing) = after else {
+            return;
+        };
+        self.held.set_variables(&standing.variables);
+        let mut places = vec![0];
+        places.extend((1..event.lent()).rev().take(standing.tree.count() - 1));
+        store(&standing.tree, &places, &mut self.held.table);
+        self.last = Some(standing);
+    }
+
+    fn reference_script(&mut self, event: &Event, mistake: Mistake) -> Outcome {
+        let table = &self.held.table[..event.lent()];
+        let mut standing = follow::standing(table, self.held.variables(), mistake);
+        if let (Ok(standing), Some(last)) = (&mut standing, &self.last) {
+            standing.cursor = last.cursor.clone();
+        }
+        let (outcome, after) = follow::follow(
+            &standing,
+            &event.body,
+            &event.limits(),
+            mistake,
+            &mut |_, _| {},
+        );
+        self.keep(event, after);
+        outcome
+    }
+
+    fn fast_job(&mut self, event: &Event) -> Outcome {
+        let (outcome, standing) = quick::job(&mut self.buffers, &event.body, &event.limits());
+        if let Some(variables) = standing {
+            self.held.set_variables(&variables);
+            let mut table = records(&self.held.table[..event.lent()]);
+            fast::follow::store_job(&self.buffers, &mut table);
+            self.put(&table);
+        }
+        outcome
+    }
+
+    fn fast_script(&mut self, event: &Event) -> Outcome {
+        let mut table = records(&self.held.table[..event.lent()]);
+        let mut variables = self.held.variables().to_vec();
+        let outcome = quick::script(
+            &mut self.buffers,
+            &event.body,
+            &event.limits(),
+            &mut table,
+            &mut variables,
+        );
+        self.held.set_variables(&variables);
+        self.put(&table);
+        outcome
+    }
+
+    fn put(&mut self, table: &[Record]) {
+        for (lent, record) in self.held.table.iter_mut().zip(table) {
+            *lent = Lent {
+                first: record.first,
+                right: record.right,
+                parent: record.parent,
+                children: record.children,
+                value: record.value as i32,
+                existence: record.existence as u8,
+                content: record.content as u8,
+                list: record.list as u8,
+            };
+        }
+    }
+}
+
+/// Lent records in the fast version's form.
+pub fn records(table: &[Lent]) -> Vec<Record> {
+    let record = |lent: &Lent| Record {
+        first: lent.first,
+        right: lent.right,
+        parent: lent.parent,
+        existence: u32::from(lent.existence),
+        value: lent.value as u32,
+        children: lent.children,
+        content: u32::from(lent.content),
+        list: u32::from(lent.list),
+    };
+    table.iter().map(record).collect()
+}
+
+/// What a player prints for a whole history.
+pub fn played(player: Player, events: &[Event]) -> String {
+    let mut standin = Standin::new(player);
+    events.iter().map(|event| standin.play(event)).collect()
+}
+
+/// A history in a form to read.
+pub fn show(events: &[Event]) -> String {
+    let mut text = String::new();
+    for (number, event) in events.iter().enumerate() {
+        let Event {
+            budget,
+            places,
+            lines,
+            body,
+            ..
+        } = event;
+        let head = heading(event, number);
+        write!(text, "{}", head.trim_end()).unwrap();
+        match event.kind {
+            kind::JOB | kind::SCRIPT => {
+                writeln!(text, ", budget {budget}, places {places}, lines {lines}").unwrap();
+                text += &reference::print::section(event.kind == kind::JOB, body);
+            }
+            kind::POKE => {
+                writeln!(text).unwrap();
+                for Entry { what, index, value } in Entry::all(body) {
+                    let name = FIELDS.get(usize::from(what)).unwrap_or(&"nothing");
+                    writeln!(text, "  {name} {index} := {}", value as i32).unwrap();
+                }
+            }
+            kind::DUMP => writeln!(text, ", places {places}").unwrap(),
+            other => writeln!(text, ", kind {other}, {} bytes", body.len()).unwrap(),
+        }
+    }
+    text
+}
+
+/// The fields that a poke sets.
+const FIELDS: [&str; 11] = [
+    "first of",
+    "right of",
+    "parent of",
+    "children of",
+    "value of",
+    "existence of",
+    "content of",
+    "list of",
+    "level of variable",
+    "value of variable",
+    "variables lent",
+];
+
+/// The bytes of a history.
+pub fn stream(events: &[Event]) -> Vec<u8> {
+    history::stream(events)
+}

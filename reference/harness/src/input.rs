@@ -1,0 +1,28 @@
+//! Framed input, for the stand-ins.
+
+use std::io::{self, ErrorKind, Read};
+
+/// Reads a header: nothing at the input's end, false where it is cut.
+pub fn started(input: &mut impl Read, header: &mut [u8]) -> io::Result<Option<bool>> {
+    if input.read(&mut header[..1])? == 0 {
+        return Ok(None);
+    }
+    fill(input, &mut header[1..]).map(Some)
+}
+
+/// False where the input ends before `bytes` is full.
+pub fn fill(input: &mut impl Read, bytes: &mut [u8]) -> io::Result<bool> {
+    match input.read_exact(bytes) {
+        Ok(()) => Ok(true),
+        Err(error) if error.kind() == ErrorKind::UnexpectedEof => Ok(false),
+        Err(error) => Err(error),
+    }
+}
+
+pub fn word(header: &[u8], at: usize) -> u32 {
+    u32::from_le_bytes(header[at..at + 4].try_into().expect("four bytes"))
+}
+
+pub fn half(header: &[u8], at: usize) -> u16 {
+    u16::from_le_bytes(header[at..at + 2].try_into().expect("two bytes"))
+}
