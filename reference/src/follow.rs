@@ -50,10 +50,7 @@ pub fn follow(
 ) -> (Outcome, Option<Standing>) {
     match check(standing, section, limits, mistake) {
         Ok((standing, script)) => {
-            let mut monitor = Monitor::new(&script, standing, limits, mistake);
-            if mistake == Mistake::CursorStays {
-                monitor.state.cursor = standing.cursor.clone();
-            }
+            let monitor = Monitor::new(&script, standing, limits, mistake);
             let (outcome, after) = monitor.run_to_end(observer);
             let stopped = outcome.ending != Ending::Finished;
             if stopped && mistake == Mistake::StopTakenBack {

@@ -118,6 +118,9 @@ impl Mistake {
         Mistake::FreePlacesChecked,
     ];
 
+    /// The mistakes that leak from one script of a history to the next.
+    pub const LEAKING_ON: [Mistake; 1] = [Mistake::CursorStays];
+
     /// The mistakes by which public lines come to depend on house parts of an
     /// accepted job.
     pub const LEAKING: [Mistake; 6] = [

@@ -118,3 +118,19 @@ pub fn leak(left: &Outcome, right: &Outcome) -> Option<Leak> {
     let alike = left.lines == right.lines && last_parts(left) == last_parts(right);
     (!alike).then_some(Leak::LastState)
 }
+
+/// The leak between two histories of the same scripts, and the script that
+/// gives it: they are compared "up to and including the first script that stops
+/// or is turned away in either".
+pub fn history_leak(left: &[Outcome], right: &[Outcome]) -> Option<(usize, Leak)> {
+    for (number, (left, right)) in left.iter().zip(right).enumerate() {
+        if let Some(leak) = leak(left, right) {
+            return Some((number, leak));
+        }
+        let finished = |outcome: &Outcome| outcome.ending == Ending::Finished;
+        if !finished(left) || !finished(right) {
+            return None;
+        }
+    }
+    None
+}

@@ -200,7 +200,10 @@ impl<'a> Monitor<'a> {
             variables: standing.variables.clone(),
             tree: standing.tree.clone(),
             // "The cursor starts at the root with cursor level 0."
-            cursor: Path::new(),
+            cursor: match mistake {
+                Mistake::CursorStays => standing.cursor.clone(),
+                _ => Path::new(),
+            },
             cursor_level: PUBLIC,
             guards: Vec::new(),
             next: 0,

@@ -1,7 +1,7 @@
 //! The smallest failing case, or pair, for a predicate: takes the first
 //! smaller one that still fails, until there is none.
 
-use crate::generate::{renumber, Case, Pair};
+use crate::generate::{renumber, Case, Pair, Season};
 use crate::history::{self, Event};
 use crate::job::{
     self, command, kind, operator, Block, Job, Node, Record, Target, Variable, READS,
@@ -498,4 +498,58 @@ fn simpler_sections(section: &[u8]) -> Box<dyn Iterator<Item = Vec<u8>> + '_> {
                 job::section(&simpler)
             })
     }))
+}
+
+/// Shrinks a season, for which `failing` holds; what comes out is one still.
+pub fn season(start: &Season, failing: &dyn Fn(&Season) -> bool) -> Season {
+    let mut best = start.clone();
+    loop {
+        let found = smaller_seasons(&best).find(|season| season.well_formed() && failing(season));
+        match found {
+            Some(smaller) => best = smaller,
+            None => return best,
+        }
+    }
+}
+
+/// Fewer scripts; scripts with fewer or simpler records on both sides, which
+/// have the same ones where nothing stands in bytes that nobody reads; and
+/// smaller pairs of jobs.
+fn smaller_seasons(season: &Season) -> Box<dyn Iterator<Item = Season> + '_> {
+    let count = season.left.len();
+    let with = move |change: &dyn Fn(&mut Vec<Event>)| {
+        let mut changed = season.clone();
+        change(&mut changed.left);
+        change(&mut changed.right);
+        changed
+    };
+    let fewer = (1..count)
+        .rev()
+        .map(move |place| with(&|events| drop(events.remove(place))));
+    let plain = (1..count).map(move |place| {
+        let records = job::records(&season.left[place].body);
+        let plain: Vec<Record> = records.iter().map(Record::plain).collect();
+        with(&|events| events[place].body = job::section(&plain))
+    });
+    let simpler = (1..count).flat_map(move |place| {
+        smaller_events(&season.left[place])
+            .map(move |event| with(&|events| events[place].body = event.body.clone()))
+    });
+    let job = |events: &[Event]| Case {
+        bytes: events[0].body.clone(),
+        limits: events[0].limits(),
+    };
+    let pair = Pair {
+        left: job(&season.left),
+        right: job(&season.right),
+    };
+    let jobs: Vec<Pair> = smaller_pairs(&pair).collect();
+    let jobs = jobs.into_iter().map(move |pair| {
+        let mut changed = season.clone();
+        changed.left[0].body = pair.left.bytes;
+        changed.right[0].body = pair.right.bytes;
+        changed
+    });
+    let all = fewer.chain(plain).chain(simpler).chain(jobs);
+    Box::new(all.filter(move |changed| changed != season))
 }

@@ -7,6 +7,7 @@
 //! - [`differential`]: whole outcomes against the reference.
 //! - [`histories`]: scripts over a standing tree, through `history`.
 //! - [`leaks`]: pairs of jobs that agree on their public parts.
+//! - [`seasons`]: pairs of histories.
 //! - [`quick`]: outcomes of the fast version.
 //! - [`workloads`], [`bench`], [`clock`] and [`instructions`]: the jobs that are
 //!   measured, and how; [`lua`]: the same work in Lua.
@@ -30,4 +31,5 @@ pub mod programs;
 pub mod progress;
 pub mod quick;
 pub mod replay;
+pub mod seasons;
 pub mod workloads;

@@ -5,12 +5,14 @@ mod history;
 mod nodes;
 mod pairs;
 mod script;
+mod seasons;
 
 pub use damage::damaged;
 pub use history::history;
 pub use nodes::renumber;
 use nodes::Growth;
 pub use pairs::{pair, Pair};
+pub use seasons::{season, Season};
 
 use crate::ending::Ending;
 use crate::job::{Job, Record, Variable, MAX_VARIABLES};

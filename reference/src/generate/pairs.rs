@@ -2,7 +2,7 @@
 //! parts and differ in house values and house nodes.
 
 use super::nodes::Growth;
-use super::{add_noise, levels, likely_mistake, limits, nodes, script, trial_ending, Case};
+use super::{add_noise, levels_of, likely_mistake, limits, nodes, script, trial_ending, Case};
 use crate::ending::Ending;
 use crate::job::{self, Job, Node, Record, Variable};
 use crate::mistake::Mistake;
@@ -42,16 +42,10 @@ impl Pair {
 /// The pair of a seed. Budgets and buffers of the two sides may differ.
 pub fn pair(seed: u64) -> Pair {
     let mut random = Random::new(seed ^ 0x7061_6972);
-    let growth = Growth::some(&mut random, Random::value);
-    let mut left = without_script(&mut random, growth);
-    let mut right = left.clone();
-    redraw_house_values(&mut random, &mut right);
-    let most = random.between(0, 5);
-    for job in [&mut left, &mut right] {
-        nodes::add_house(&mut random, &mut job.nodes, most, growth);
-        job.nodes = nodes::reorder(&mut random, &job.nodes);
-    }
-    left.script = common_script(&mut random, &left, &right);
+    let (mut left, mut right) = agreeing(&mut random);
+    let mistake = likely_mistake(&mut random);
+    let sides = [Standing::of(&left), Standing::of(&right)];
+    left.script = common_script(&mut random, &sides, mistake);
     right.script = left.script.clone();
     let (left_limits, right_limits) = pair_limits(&mut random, &left, &right);
     if random.chance(1, 2) {
@@ -68,6 +62,20 @@ pub fn pair(seed: u64) -> Pair {
             limits: right_limits,
         },
     }
+}
+
+/// Two jobs without scripts that agree on their public parts.
+pub fn agreeing(random: &mut Random) -> (Job, Job) {
+    let growth = Growth::some(random, Random::value);
+    let mut left = without_script(random, growth);
+    let mut right = left.clone();
+    redraw_house_values(random, &mut right);
+    let most = random.between(0, 5);
+    for job in [&mut left, &mut right] {
+        nodes::add_house(random, &mut job.nodes, most, growth);
+        job.nodes = nodes::reorder(random, &job.nodes);
+    }
+    (left, right)
 }
 
 /// A job without nodes of existence 1. House values are small, so that guards
@@ -93,15 +101,9 @@ fn without_script(random: &mut Random, growth: Growth) -> Job {
 }
 
 /// A script that a monitor, mostly a wrong one, finishes on both sides; or any.
-fn common_script(random: &mut Random, left: &Job, right: &Job) -> Vec<Record> {
-    let levels = levels(&left.variables);
-    let mistake = likely_mistake(random);
-    let sides = [Standing::of(left), Standing::of(right)];
-    let both_finish = |script: &[Record], mistake: Mistake| {
-        sides
-            .iter()
-            .all(|side| trial_ending(side, script, mistake) == Ending::Finished)
-    };
+fn common_script(random: &mut Random, sides: &[Standing; 2], mistake: Mistake) -> Vec<Record> {
+    let levels = levels_of(&sides[0].variables);
+    let both_finish = |script: &[Record], mistake: Mistake| both_finish(sides, script, mistake);
     match random.below(16) {
         0 => return script::any(random, &levels, &mut |_| true),
         1 => return script::probing(random, &levels, &mut |_| true),
@@ -117,6 +119,12 @@ fn common_script(random: &mut Random, left: &Job, right: &Job) -> Vec<Record> {
         }
     }
     script
+}
+
+/// Whether a monitor with `mistake` finishes the script over both.
+pub fn both_finish(sides: &[Standing; 2], script: &[Record], mistake: Mistake) -> bool {
+    let ends = |side: &Standing| trial_ending(side, script, mistake);
+    sides.iter().all(|side| ends(side) == Ending::Finished)
 }
 
 fn variable(random: &mut Random, level: u8) -> Variable {

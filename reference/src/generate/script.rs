@@ -82,6 +82,27 @@ pub fn probing(random: &mut Random, levels: &[Level], accept: Accept) -> Vec<Rec
     writer.script
 }
 
+/// A script that goes away and stays there.
+pub fn leaving(random: &mut Random, levels: &[Level], accept: Accept) -> Vec<Record> {
+    let mut writer = Writer::new(random, levels, accept);
+    for _ in 0..writer.random.below(3) {
+        writer.statement(1, PUBLIC);
+    }
+    writer.away(PUBLIC);
+    writer.script
+}
+
+/// A script that shows what it can see from where it starts.
+pub fn looking(random: &mut Random, levels: &[Level], accept: Accept) -> Vec<Record> {
+    let mut writer = Writer::new(random, levels, accept);
+    writer.look();
+    for _ in 0..writer.random.below(3) {
+        writer.statement(1, PUBLIC);
+        writer.look();
+    }
+    writer.script
+}
+
 /// How often a script makes each choice. Scripts that favour one choice reach
 /// more than scripts that all favour the same.
 struct Taste {
@@ -260,9 +281,15 @@ impl<'a> Writer<'a> {
         (!free.is_empty()).then(|| self.random.pick(&free))
     }
 
-    /// The shape of trial 6: a branch that moves or changes the tree, work where
-    /// the cursor is then, and the root again; half of the time under cover.
+    /// The shape of trial 6: away, and the root again.
     fn excursion(&mut self, context: Level) {
+        self.away(context);
+        self.put(&[root()]);
+    }
+
+    /// A branch that moves or changes the tree, and work where the cursor is
+    /// then; half of the time under cover.
+    fn away(&mut self, context: Level) {
         for _ in 0..self.random.below(3) {
             self.put_some(&mut Self::some_move);
         }
@@ -288,12 +315,16 @@ impl<'a> Writer<'a> {
                 false => self.put_some(&mut Self::some_move),
             }
         }
-        self.put(&[root()]);
     }
 
     /// Prints what is public at the root and on a way down from it.
     fn show(&mut self) {
         self.put(&[root()]);
+        self.look();
+    }
+
+    /// Prints what is public here and on a way from here.
+    fn look(&mut self) {
         for _ in 0..self.random.between(1, 3) {
             self.put(&[print(value())]);
             self.put(&[print(children())]);

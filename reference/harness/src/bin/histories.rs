@@ -199,7 +199,8 @@ fn each_mistake(sides: &[Side], arguments: &Arguments) -> bool {
         let printed: Vec<String> = histories.iter().map(|h| side.printed(h)).collect();
         for mistake in Mistake::FOLLOWING {
             let found = histories.iter().zip(&printed).position(|(history, text)| {
-                check(history, text, mistake, &mut Coverage::new()).is_err()
+                let wrong = check(history, text, mistake, &mut Coverage::new());
+                matches!(wrong, Err(Wrong::Unlike(..)))
             });
             match found {
                 Some(place) => println!("{mistake:?}: {} found by history {place}", side.name()),
