@@ -18,6 +18,9 @@ const DIFFERENTIAL: &str = env!("CARGO_BIN_EXE_differential");
 const LEAK: &str = env!("CARGO_BIN_EXE_leak");
 const SOAK: &str = env!("CARGO_BIN_EXE_soak");
 const PROGRAMS: &str = env!("CARGO_BIN_EXE_programs");
+const HISTORIES: &str = env!("CARGO_BIN_EXE_histories");
+const HISTORY_STANDIN: &str = env!("CARGO_BIN_EXE_history_standin");
+const SEASONS: &str = env!("CARGO_BIN_EXE_seasons");
 const STANDIN: &str = env!("CARGO_BIN_EXE_replay_standin");
 
 fn started(program: &str, words: &[&str]) -> Output {
@@ -148,7 +151,7 @@ fn outcomes_can_be_read_back() {
         assert_eq!(frame::parse(&frame::text(&outcome)), Some(outcome));
     }
     assert_eq!(frame::parse("ending 0 index 0 steps 0 lines 1\n"), None);
-    assert_eq!(frame::parse("ending 11 index 0 steps 0 lines 0\n"), None);
+    assert_eq!(frame::parse("ending 13 index 0 steps 0 lines 0\n"), None);
     assert_eq!(frame::parse("index 0 ending 0 steps 0 lines 0\n"), None);
     assert_eq!(frame::parse(""), None);
 }
@@ -348,4 +351,50 @@ fn a_case_by_itself() {
     for side in [Side::Replay, Side::Portal, Side::Fast] {
         assert!(sides.unlike(side, &case, 0).is_some(), "{side:?}");
     }
+}
+
+/// Histories: the stand-in over the fast version, and over the reference, which
+/// puts its nodes elsewhere.
+#[test]
+fn histories_through_a_stand_in() {
+    let words = ["--history", HISTORY_STANDIN, "--histories", "1000"];
+    let text = ended(HISTORIES, &words, 0);
+    assert!(text.contains("1000 histories"), "{text}");
+    let other = Command::new(HISTORIES)
+        .args(words)
+        .env("STANDIN_MISTAKE", "None")
+        .output()
+        .expect("the program starts");
+    assert_eq!(other.status.code(), Some(0));
+}
+
+/// A history that shows a mistake becomes small; a table that breaks what was
+/// promised of it is found.
+#[test]
+fn a_mistake_in_a_history_is_found() {
+    let words = ["--history", HISTORY_STANDIN, "--no-fast", "--mistake"];
+    let text = ended(HISTORIES, &[&words[..], &["StopTakenBack"]].concat(), 1);
+    let small = text.split("the smallest history that shows it").nth(1);
+    let events = small.and_then(|small| small.split("\nevent ").next());
+    let events = events.expect("a smallest history");
+    assert!(events.lines().count() < 20, "{events}");
+    for program in ["cat", "true"] {
+        let text = ended(HISTORIES, &["--history", program, "--no-fast"], 1);
+        assert!(text.contains("differs from the reference"), "{text}");
+    }
+}
+
+#[test]
+fn no_leak_in_histories() {
+    let words = ["--history", HISTORY_STANDIN, "--pairs", "500"];
+    let text = ended(SEASONS, &words, 0);
+    assert!(
+        text.contains("500 pairs") && text.contains("no leak"),
+        "{text}"
+    );
+    let words = ["--player", "reference", "--mistake", "CursorStays"];
+    let text = ended(SEASONS, &words, 1);
+    assert!(text.contains("the smallest pair"), "{text}");
+    let text = ended(SEASONS, &["--history", "cat", "--pairs", "10"], 1);
+    assert!(text.contains("no outcome"), "{text}");
 }

@@ -1,6 +1,7 @@
 //! What the generated cases and pairs reach and find.
 
 mod coverage;
+mod histories;
 mod mistakes;
 mod pairs;
 mod shrinking;

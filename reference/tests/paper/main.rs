@@ -3,6 +3,7 @@
 
 mod edges;
 mod endings;
+mod follow;
 mod readings;
 mod trials;
 
