@@ -28,21 +28,40 @@ pub fn heading(event: &Event, number: usize) -> String {
     format!("{name} {number}\n")
 }
 
-/// "`record P FIRST RIGHT PARENT CHILDREN VALUE EXISTENCE CONTENT LIST`"
-fn record_text(place: usize, record: &Lent) -> String {
-    let Lent {
-        first,
-        right,
-        parent,
-        children,
-        value,
-        existence,
-        content,
-        list,
-    } = record;
-    format!(
-        "record {place} {first} {right} {parent} {children} {value} {existence} {content} {list}\n"
-    )
+/// "`record P FIRST RIGHT PARENT CHILDREN VALUE EXISTENCE CONTENT LIST`". A
+/// table has many of them, so the digits are made by hand.
+fn push_record(text: &mut String, place: usize, record: &Lent) {
+    text.push_str("record");
+    for number in [
+        place as i64,
+        i64::from(record.first),
+        i64::from(record.right),
+        i64::from(record.parent),
+        i64::from(record.children),
+        i64::from(record.value),
+        i64::from(record.existence),
+        i64::from(record.content),
+        i64::from(record.list),
+    ] {
+        text.push(' ');
+        push_number(text, number);
+    }
+    text.push('\n');
+}
+
+fn push_number(text: &mut String, number: i64) {
+    if number < 0 {
+        text.push('-');
+    }
+    let start = text.len();
+    let mut left = number.unsigned_abs();
+    loop {
+        text.insert(start, char::from(b'0' + (left % 10) as u8));
+        left /= 10;
+        if left == 0 {
+            return;
+        }
+    }
 }
 
 fn variables_text(variables: &[(Level, i32)]) -> String {
@@ -53,7 +72,7 @@ fn variables_text(variables: &[(Level, i32)]) -> String {
 fn table_text(records: &[Lent], variables: &[(Level, i32)]) -> String {
     let mut text = String::new();
     for (place, record) in records.iter().enumerate() {
-        text += &record_text(place, record);
+        push_record(&mut text, place, record);
     }
     text + &variables_text(variables)
 }

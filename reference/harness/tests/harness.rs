@@ -357,7 +357,14 @@ fn a_case_by_itself() {
 /// puts its nodes elsewhere.
 #[test]
 fn histories_through_a_stand_in() {
-    let words = ["--history", HISTORY_STANDIN, "--histories", "1000"];
+    let words = [
+        "--history",
+        HISTORY_STANDIN,
+        "--histories",
+        "1000",
+        "--seconds",
+        "600",
+    ];
     let text = ended(HISTORIES, &words, 0);
     assert!(text.contains("1000 histories"), "{text}");
     let other = Command::new(HISTORIES)
@@ -386,7 +393,14 @@ fn a_mistake_in_a_history_is_found() {
 
 #[test]
 fn no_leak_in_histories() {
-    let words = ["--history", HISTORY_STANDIN, "--pairs", "500"];
+    let words = [
+        "--history",
+        HISTORY_STANDIN,
+        "--pairs",
+        "500",
+        "--seconds",
+        "600",
+    ];
     let text = ended(SEASONS, &words, 0);
     assert!(
         text.contains("500 pairs") && text.contains("no leak"),
