@@ -2,9 +2,10 @@
 
 use std::hint::black_box;
 
-use fast::{Buffers, Limits};
+use fast::follow::{self, Lent, Record};
+use fast::{Answer, Buffers, Limits};
 
-use crate::portal::Portal;
+use crate::portal::{Lending, Portal};
 use crate::workloads::{Unit, Workload};
 
 #[derive(Clone, Copy, Debug, PartialEq, Eq)]
@@ -16,6 +17,9 @@ pub enum Side {
 pub struct Bench {
     pub portal: Portal,
     buffers: Box<Buffers>,
+    /// What is lent to a follow-on script, and the workload that lends it.
+    table: Vec<Record>,
+    lent: String,
 }
 
 impl Bench {
@@ -23,13 +27,58 @@ impl Bench {
         Bench {
             portal,
             buffers: Buffers::new(),
+            table: Vec::new(),
+            lent: String::new(),
         }
     }
 
-    pub fn call(&mut self, side: Side, job: &[u8], budget: u64, area: &mut [u8]) -> u64 {
+    /// Whether both sides can do it.
+    pub fn can(&self, workload: &Workload) -> bool {
+        workload.table.is_empty() || self.portal.follows()
+    }
+
+    /// The answer for a call of a workload, with a budget, over an area.
+    pub fn call(&mut self, side: Side, workload: &Workload, budget: u64, area: &mut [u8]) -> u64 {
+        let job = black_box(&workload.job[..]);
+        match (side, workload.table.is_empty()) {
+            (Side::Ours, true) => self.portal.call(job, budget, area),
+            (Side::Fast, true) => fast::entry::portal_in(&mut self.buffers, job, budget, area),
+            (_, false) => self.follow(side, job, workload, budget, area),
+        }
+    }
+
+    /// The lent table stays from call to call: a script of no records leaves it.
+    fn follow(
+        &mut self,
+        side: Side,
+        section: &[u8],
+        workload: &Workload,
+        budget: u64,
+        area: &mut [u8],
+    ) -> u64 {
+        if self.table.len() != workload.table.len() || self.lent != workload.name {
+            self.table = workload.table.clone();
+            self.lent = workload.name.clone();
+        }
+        let table = &mut self.table[..];
         match side {
-            Side::Ours => self.portal.call(black_box(job), budget, area),
-            Side::Fast => fast::entry::portal_in(&mut self.buffers, black_box(job), budget, area),
+            Side::Ours => {
+                let lent = Lending {
+                    words: words(table),
+                    levels: &[],
+                    values: &mut [],
+                };
+                self.portal.follow(section, budget, lent, area)
+            }
+            Side::Fast => {
+                let lent = Lent {
+                    table,
+                    levels: &mut [],
+                    values: &mut [],
+                };
+                let answer = follow::follow(&mut self.buffers, section, budget, lent, area);
+                number(&answer)
+            }
         }
     }
 
@@ -38,7 +87,7 @@ impl Bench {
         let area = vec![0xa5; workload.area];
         let [ours, fast] = [Side::Ours, Side::Fast].map(|side| {
             let mut area = area.clone();
-            let answer = self.call(side, &workload.job, workload.budget, &mut area);
+            let answer = self.call(side, workload, workload.budget, &mut area);
             (answer, area)
         });
         assert_eq!(ours, fast, "{}", workload.name);
@@ -46,6 +95,9 @@ impl Bench {
 
     /// The steps of a call.
     pub fn steps(&mut self, workload: &Workload) -> u32 {
+        if !workload.table.is_empty() {
+            return 0;
+        }
         let limits = Limits {
             budget: workload.budget,
             places: fast::MAX_NODES,
@@ -64,4 +116,15 @@ impl Bench {
         );
         answer.steps
     }
+}
+
+/// Lent records as plain words.
+fn words(table: &mut [Record]) -> &mut [u32] {
+    let length = 8 * table.len();
+    // SAFETY: a record is eight words, with nothing between them.
+    unsafe { std::slice::from_raw_parts_mut(table.as_mut_ptr().cast(), length) }
+}
+
+fn number(answer: &Answer) -> u64 {
+    crate::portal::answer(u32::from(answer.ending), answer.lines as usize)
 }

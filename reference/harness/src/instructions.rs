@@ -61,16 +61,16 @@ pub fn run_counted(bench: &mut Bench, workloads: &[Workload]) {
         bench.compare(workload);
         for sample in samples(workload) {
             let mut area = vec![0xa5; workload.area];
-            counted_sample(bench, &workload.job, &sample, &mut area);
+            counted_sample(bench, workload, &sample, &mut area);
             sample_end();
         }
     }
 }
 
 #[inline(never)]
-fn counted_sample(bench: &mut Bench, job: &[u8], sample: &Sample, area: &mut [u8]) {
+fn counted_sample(bench: &mut Bench, workload: &Workload, sample: &Sample, area: &mut [u8]) {
     for _ in 0..sample.calls {
-        std::hint::black_box(bench.call(sample.side, job, sample.budget, area));
+        std::hint::black_box(bench.call(sample.side, workload, sample.budget, area));
     }
 }
 

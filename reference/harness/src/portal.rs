@@ -14,6 +14,23 @@ extern "C" {
     ) -> u64;
 }
 
+#[cfg(portal_follows)]
+extern "C" {
+    fn portal_follow(
+        section: *const u8,
+        section_len: usize,
+        budget: u64,
+        words: *mut u32,
+        words_len: usize,
+        levels: *const u8,
+        levels_len: usize,
+        values: *mut i32,
+        values_len: usize,
+        lines: *mut u8,
+        lines_len: usize,
+    ) -> u64;
+}
+
 /// Where this is in the environment, a program is as one that was built without
 /// a portal.
 pub const UNLINKED: &str = "PORTAL_UNLINKED";
@@ -72,6 +89,60 @@ fn call_linked(job: &[u8], budget: u64, area: &mut [u8]) -> u64 {
 #[cfg(not(portal_linked))]
 fn call_linked(_: &[u8], _: u64, _: &mut [u8]) -> u64 {
     unreachable!("no portal is linked")
+}
+
+/// What a follow-on script is lent besides its lines: eight words for each
+/// place, in the order of the fast version's records.
+pub struct Lending<'a> {
+    pub words: &'a mut [u32],
+    pub levels: &'a [u8],
+    pub values: &'a mut [i32],
+}
+
+impl Portal {
+    /// Whether [`Portal::follow`] can be called.
+    pub fn follows(self) -> bool {
+        cfg!(portal_follows) && self == Portal::Linked
+    }
+
+    /// A follow-on script; the answer is as that of a job.
+    pub fn follow(self, section: &[u8], budget: u64, lent: Lending, area: &mut [u8]) -> u64 {
+        match self {
+            Portal::Linked => follow_linked(section, budget, lent, area),
+            _ => unreachable!("only the linked portal is measured"),
+        }
+    }
+}
+
+#[cfg(portal_follows)]
+fn follow_linked(section: &[u8], budget: u64, lent: Lending, area: &mut [u8]) -> u64 {
+    let Lending {
+        words,
+        levels,
+        values,
+    } = lent;
+    // SAFETY: all slices are valid for their lengths and do not overlap; the
+    // portal keeps none.
+    unsafe {
+        portal_follow(
+            section.as_ptr(),
+            section.len(),
+            budget,
+            words.as_mut_ptr(),
+            words.len(),
+            levels.as_ptr(),
+            levels.len(),
+            values.as_mut_ptr(),
+            values.len(),
+            area.as_mut_ptr(),
+            area.len(),
+        )
+    }
+}
+
+#[cfg(not(portal_follows))]
+fn follow_linked(_: &[u8], _: u64, _: Lending, _: &mut [u8]) -> u64 {
+    unreachable!("the linked portal has no portal_follow")
 }
 
 fn call_reference(job: &[u8], budget: u64, area: &mut [u8], mistake: Mistake) -> u64 {

@@ -1,8 +1,14 @@
 //! The jobs that are measured. Each is bytes and a budget; both sides get the
 //! same.
 
+use fast::follow::Record as LentRecord;
+use reference::history::store;
 use reference::job::{Job, Node, Record, Variable, MAX_NODES, MAX_RECORDS, MAX_VARIABLES};
 use reference::source::*;
+use reference::table::Lent;
+use reference::tree::Tree;
+
+use crate::histories::records;
 
 /// What a row's time is divided by.
 #[derive(Clone, Copy, Debug, PartialEq, Eq)]
@@ -15,7 +21,10 @@ pub enum Unit {
 
 pub struct Workload {
     pub name: String,
+    /// A job; over a table, a bare script section.
     pub job: Vec<u8>,
+    /// The lent records of a follow-on script; none for a job.
+    pub table: Vec<LentRecord>,
     pub budget: u64,
     /// Bytes lent for lines.
     pub area: usize,
@@ -32,6 +41,7 @@ fn long(name: &str, variables: &[Variable], nodes: &[Node], script: &[Record]) -
     Workload {
         name: String::from(name),
         job: job(variables, nodes, script).encode(),
+        table: Vec::new(),
         budget: STEPS,
         area: 0,
         unit: Unit::Step,
@@ -79,6 +89,14 @@ pub fn table() -> Vec<Workload> {
             &full(last_first),
         ),
         small_job(),
+        standing(
+            "a script of no records over 512 nodes, all below the root",
+            |_| 0,
+        ),
+        standing(
+            "a script of no records over 512 nodes, each below the last",
+            |index| index - 1,
+        ),
     ]
 }
 
@@ -263,6 +281,7 @@ fn checking(name: &str, parts: &Job) -> Workload {
     Workload {
         name: String::from(name),
         job: parts.encode(),
+        table: Vec::new(),
         budget: 0,
         area: 0,
         unit: Unit::Call,
@@ -357,8 +376,25 @@ pub fn small_job() -> Workload {
     Workload {
         name: String::from("whole small job (20 nodes, 50 steps)"),
         job: small_parts().encode(),
+        table: Vec::new(),
         budget: 100,
         area: 64,
+        unit: Unit::Call,
+    }
+}
+
+/// A follow-on script of no records: the checks of the lent table alone.
+fn standing(name: &str, parent: fn(u16) -> u16) -> Workload {
+    let tree = Tree::from_records(&full(parent).nodes);
+    let mut table = vec![Lent::default(); MAX_NODES];
+    let places: Vec<usize> = (0..MAX_NODES).collect();
+    store(&tree, &places, &mut table);
+    Workload {
+        name: String::from(name),
+        job: Vec::new(),
+        table: records(&table),
+        budget: 1,
+        area: 0,
         unit: Unit::Call,
     }
 }

@@ -50,7 +50,7 @@ fn main() {
     let repetitions = arguments.number("--repetitions", 41) as usize;
     let rows = arguments.text("--rows").unwrap_or("");
     let mut table = workloads::table();
-    table.retain(|workload| workload.name.contains(rows));
+    table.retain(|workload| workload.name.contains(rows) && bench.can(workload));
     if arguments.has(instructions::MODE) {
         return instructions::run_counted(&mut bench, &table);
     }
@@ -277,7 +277,7 @@ fn sample(bench: &mut Bench, workload: &Workload, calls: usize, side: Side) -> f
     };
     let start = clock::nanoseconds();
     for area in &mut parts {
-        black_box(bench.call(side, &workload.job, workload.budget, area));
+        black_box(bench.call(side, workload, workload.budget, area));
     }
     (clock::nanoseconds() - start) as f64 / calls as f64
 }
