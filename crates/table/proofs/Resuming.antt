@@ -22,6 +22,14 @@ stands-one {m} {n} le h h′ =
     ∙ ap erase (same m n n gone gone (h .placed) (h′ .placed) le le (h .stored) (h′ .stored) (h .is-root ∙ sym (h′ .is-root)))
     ∙ h′ .is-tree
 
+-- the tree that a run left is the one that stands
+pub held-one : {m : Table} {n k used free at : ℕ} {t t′ : Forest} {p : Place} → n ≤ gone → Holds m k used free at t p → Stands m n t′ → t ≡ t′
+held-one {m} {n} {used = used} le h h′ =
+    sym (h .is-tree)
+    ∙ ap erase
+    (same m used n gone gone (h .placed) (h′ .placed) (omega (arith, h .room, h .few)) le (h .stored) (h′ .stored) (h .is-root ∙ sym (h′ .is-root)))
+    ∙ h′ .is-tree
+
 -- a tree stands in every table with the same first n cells
 pub stands-same : {m m′ : Table} {n : ℕ} {t : Forest} → ((x : ℕ) → x < n → m′ x ≡ m x) → Stands m n t → Stands m′ n t
 stands-same {m} {m′} {n} e h =
