@@ -13,7 +13,7 @@ use Rattle.rules.specs.Run.{State, finished}
 use Rattle.rules.specs.Outcome as Rules
 use Rattle.rules.specs.Outcome.{answer, boardLines}
 use Rattle.rules.specs.Public.{Finishes, Same, Comparable, Indistinguishable}
-use Rattle.rules.specs.History.{Store, FollowOn, sectionScript, follow, leaves, after, history, SameScripts, AgreeStores, HistorySecrecy}
+use Rattle.rules.specs.History.{Store, FollowOn, sectionScript, follow, leaves, after, history, SameScripts as SameFollowOns, AgreeStores, HistorySecrecy}
 use Rattle.rules.proofs.History.{history-secrecy}
 use Rattle.rules.proofs.Stores.{follow-finishes}
 use Rattle.table.proofs.Resuming.{stands-one}
@@ -23,7 +23,7 @@ use Rattle.monitor.specs.declared.entry.Outcome.{Outcome}
 use Rattle.monitor.specs.Promises.{answerOf, Lent, placesIn, Tree, Leaves}
 use Rattle.monitor.specs.Secrecy.{boardOf}
 use Rattle.monitor.specs.Follow.{HoldsStore, followOn, Tells, Follows, over, none, StandsIn}
-use Rattle.monitor.specs.Histories.{Call, Stays, CallHistory, AgreeLent, SameAfter, UnseenHistory, SecretHistories}
+use Rattle.monitor.specs.Histories.{Call, SameScripts, Stays, CallHistory, AgreeLent, SameAfter, UnseenHistory, SecretHistories}
 
 module _ {T : Type 0} (places : T → ℕ) (HoldsTree : T → ℕ → Forest → Place → Type 0) where
   -- the lines of a call
@@ -58,12 +58,12 @@ unfolding boardLines
 lines-no k i v = inr (boardLines v, refl)
 
 -- what is lent anew holds what was held
-again : {T : Type 0} {StandsIn : T → Forest → Type 0} (x y : Lent T) (s : Store) → Stays x y → HoldsStore StandsIn y s → HoldsStore StandsIn x s
+again : {T : Type 0} {StandsIn : T → Forest → Type 0} (x y : Lent T) (s : Store) → Stays StandsIn x y → HoldsStore StandsIn y s → HoldsStore StandsIn x s
 again x y s st h =
     record {
       even = ap length (sym (st .levels)) ∙ h .even ∙ ap length (st .values);
       variables = h .variables ∙ rw (st .levels, st .values);
-      tree = rw (st .table) at (h .tree);
+      tree = st .tree (s .tree) (h .tree);
     }
 
 module _ {T : Type 0} (places : T → ℕ) (HoldsTree : T → ℕ → Forest → Place → Type 0) (StandsIn : T → Forest → Type 0)
@@ -84,7 +84,7 @@ module _ {T : Type 0} (places : T → ℕ) (HoldsTree : T → ℕ → Forest →
     g = followOn places (d .section) (d .budget) (d .given)
 
     untold : Indistinguishable o (follow s f) (follow t g)
-    unfolding HistorySecrecy SameScripts history
+    unfolding HistorySecrecy SameFollowOns history
     untold = (history-secrecy o s t (f ∷ []) (g ∷ []) agree (ap (λ z. z ∷ []) same)) .0
 
     module _ (tc : Tells places HoldsTree (c .given) (c .left) (follow s f) (c .outcome))
@@ -144,8 +144,7 @@ module _ {T : Type 0} (places : T → ℕ) (HoldsTree : T → ℕ → Forest →
   calls X c d same agree (none h tc) (none k td) rest = (spelled places HoldsTree _ _ _ _ _ _ _ _ tc td (no-lines badFollowOn 0 _), λ e z. unfinished places HoldsTree _ _ _ tc e)
 
   histories : (cs ds : List (Call T)) (x y : Lent T) → AgreeLent places HoldsTree StandsIn o x y
-      → map (λ c. sectionScript (c .section)) cs ≡ map (λ d. sectionScript (d .section)) ds → CallHistory places HoldsTree StandsIn x cs
-      → CallHistory places HoldsTree StandsIn y ds → UnseenHistory places HoldsTree StandsIn o cs ds
+      → SameScripts cs ds → CallHistory places HoldsTree StandsIn x cs → CallHistory places HoldsTree StandsIn y ds → UnseenHistory places HoldsTree StandsIn o cs ds
   unfolding AgreeLent
   histories [] ds x y agree same p q = tt
   histories (c ∷ cs) [] x y agree same p q = tt

@@ -9,4 +9,5 @@ pub mod Rooted
 pub mod Followed
 pub mod Taken
 pub mod Histories
+pub mod JobHistories
 pub mod Admitted

@@ -39,11 +39,11 @@ module _ {T : Type 0} {places : T → ℕ} {HoldsTree : T → ℕ → Forest →
   board : boardOf r x′ ≡ spell (boardLines outcome)
   board = board-of outcome (p .answered) (p .leaves)
 
-  finish : answerOf r .ending ≡ 0 → (s : State) × Finishes outcome s
+  pub finish : answerOf r .ending ≡ 0 → (s : State) × Finishes outcome s
   finish h = finishes b n (lentBy places x) (sym (ap (λ a. a .ending) (p .answered)) ∙ h)
 
   module _ (s : State) (f : Finishes outcome s) where
-    left : Ran HoldsTree (variableCount b) (places (x .table)) x x′ (record { ending = finished; last = s })
+    pub left : Ran HoldsTree (variableCount b) (places (x .table)) x x′ (record { ending = finished; last = s })
     left = subst (Leaves places HoldsTree (variableCount b) x x′) f (p .leaves)
 
     last-lines : boardLines outcome ≡ s .memory .lines
@@ -61,7 +61,7 @@ at-place o vs ws i e =
     ∙ List·getD-map (seenVariable o) ws i noVariable
 
 -- jobs that are alike have as many variables
-same-count : (o : Level) (a b : List ℕ) → Alike o a b → variableCount a ≡ variableCount b
+pub same-count : (o : Level) (a b : List ℕ) → Alike o a b → variableCount a ≡ variableCount b
 unfolding AgreeVariables variables
 same-count o a b h =
     sym (listed-length _ (variableCount a) 0) ∙ sym (length-map (variables a) (seenVariable o)) ∙ ap length (h .parts .variables)
