@@ -28,12 +28,16 @@ module _ (b : List ℕ) (budget places vs : ℕ) (p p′ : List ℕ) where
   no-plan : (k i : ℕ) → Faulty k i ≡ Sound → Whole (code b 0) (sectionCount b) p p′
   no-plan k i e = let z : _≡_ {A = ℕ} 0 1 = cc in absurd (omega arith)
 
+  no-few : (k i : ℕ) → Faulty k i ≡ Sound → places ≤ maxNodes
+  no-few k i e = let z : _≡_ {A = ℕ} 0 1 = cc in absurd (omega arith)
+
   pub by-section : (k i : ℕ) → checkSection b vs ≡ refused k i → Admits b budget places vs p p′ (Faulty k i)
   unfolding Answer.told
   by-section k i c =
       record {
         answered = λ s lent h e q. sym (ap Answer.told (follow-refused s (given-by lent) h k i (subst (λ n. checkSection b n ≡ refused k i) (sym e) c)));
         whole = no-plan k i;
+        few = no-few k i;
       }
 
   module _ (c : checkSection b vs ≡ accepted) where
@@ -51,6 +55,7 @@ module _ (b : List ℕ) (budget places vs : ℕ) (p p′ : List ℕ) where
         record {
           answered = λ s lent h e q. sym (ap Answer.told (rest false (leb places maxNodes) x refl s lent h e q));
           whole = no-plan badBudget 0;
+          few = no-few badBudget 0;
         }
 
     pub by-places : budgetRule budget ≡ true → maxNodes < places → Admits b budget places vs p p′ (Faulty badBuffers 0)
@@ -59,6 +64,7 @@ module _ (b : List ℕ) (budget places vs : ℕ) (p p′ : List ℕ) where
         record {
           answered = λ s lent h e q. sym (ap Answer.told (rest true false x (lt-leb places maxNodes y) s lent h e q));
           whole = no-plan badBuffers 0;
+          few = no-few badBuffers 0;
         }
 
     pub all-passed : budgetRule budget ≡ true → places ≤ maxNodes → Whole (code b 0) (sectionCount b) p p′ → Admits b budget places vs p p′ Sound
@@ -67,4 +73,5 @@ module _ (b : List ℕ) (budget places vs : ℕ) (p p′ : List ℕ) where
         record {
           answered = λ s lent h e q. sym (ap Answer.told (rest true true x (le-leb places maxNodes y) s lent h e q));
           whole = λ z. w;
+          few = λ z. y;
         }

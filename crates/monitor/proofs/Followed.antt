@@ -29,7 +29,7 @@ use Rattle.monitor.specs.declared.entry.Outcome.{Outcome}
 use Rattle.monitor.specs.declared.entry.Outcome.the-variants.{Refused}
 use Rattle.monitor.specs.Promises.{answerOf, told, Lent, lentBy, Ran, Leaves}
 use Rattle.monitor.specs.Secrecy.{variableIn}
-use Rattle.monitor.specs.Follow.{HoldsStore, followOn, Tells, Follows, over, none, Storable, treeless, uneven, many, unlevelled, storable, Admits}
+use Rattle.monitor.specs.Follow.{HoldsStore, followOn, Tells, Follows, over, none, Storable, treeless, uneven, many, unlevelled, storable, Admits, Declined, by-store, by-script}
 
 -- a list with the elements of a function
 listed-is : (f : ℕ → Variable) (vs : List Variable) (n i : ℕ) → length vs ≡ n → ((k : ℕ) → k < n → getD vs k noVariable ≡ f (i + k)) → vs ≡ listed f n i
@@ -147,7 +147,7 @@ module _ {T : Type 0} (places : T → ℕ) (HoldsTree : T → ℕ → Forest →
         let t = d .sound a in
         (record { variables = lentVariables x; tree = t .0 }, record { even = e; variables = refl; tree = t .1 })
 
-    pub not-storable : Storable stands (x .levels) (length (x .values)) false → Follows places HoldsTree StandsIn b budget x x (Refused badFollowOn 0)
+    not-storable : Storable stands (x .levels) (length (x .values)) false → Follows places HoldsTree StandsIn b budget x x (Refused badFollowOn 0)
     not-storable (treeless e) = none (λ s h. clash (d .exact (s .tree) (h .tree)) e) (tells-rejected _ badFollowOn 0 refl)
     not-storable (uneven e) = none (λ s h. e (h .even)) (tells-rejected _ badFollowOn 0 refl)
     not-storable (many a e lt) = let s = stored a e in away (s .0) (s .1) badFollowOn 0 (not-few x (s .0) (s .1) lt f)
@@ -168,13 +168,18 @@ module _ {T : Type 0} (places : T → ℕ) (HoldsTree : T → ℕ → Forest →
       unfolding lentBy
       checked a = a .answered (held-store .0) (lentBy places x) kept-rule (many-held x (held-store .0) (held-store .1)) refl
 
-      pub faulty : {p p′ : List ℕ} (k i : ℕ) → Admits b budget (places (x .table)) (length (x .levels)) p p′ (Faulty k i)
+      faulty : {p p′ : List ℕ} (k i : ℕ) → Admits b budget (places (x .table)) (length (x .levels)) p p′ (Faulty k i)
           → Follows places HoldsTree StandsIn b budget x x (Refused k i)
       faulty k i a = away (held-store .0) (held-store .1) k i (is-faulty k i _ (sym (checked a)))
 
       pub sound : {p p′ : List ℕ} → Admits b budget (places (x .table)) (length (x .levels)) p p′ Sound
           → (s : Store) × (HoldsStore StandsIn x s × (checkFollowOn s f ≡ accepted))
       sound a = (held-store .0, (held-store .1, is-sound _ (sym (checked a))))
+
+    pub declined : ((t : Forest) → StandsIn (x .table) t → Fair t) → (r : Outcome)
+        → Declined b budget (places (x .table)) stands (x .levels) (length (x .values)) r → Follows places HoldsTree StandsIn b budget x x r
+    declined fair r (by-store h e) = subst (Follows places HoldsTree StandsIn b budget x x) (sym e) (not-storable h)
+    declined fair r (by-script k i good a e) = subst (Follows places HoldsTree StandsIn b budget x x) (sym e) (faulty fair good k i a)
 
 -- the promise rests on how many places the table lent has and on which tree stands in it, and on nothing else of how both are told
 module _ {T : Type 0} (HoldsTree : T → ℕ → Forest → Place → Type 0) (places counted : T → ℕ) (StandsIn Standing : T → Forest → Type 0) (b : List ℕ) (budget : ℕ)

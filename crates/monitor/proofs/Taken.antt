@@ -7,7 +7,7 @@ use native.Mathlib.Omega.{arith}
 use lib.Dec.{leb}
 use lib.IntN.{ℤ}
 use lib.ListN.{length}
-use borrow.Author.Tests.{leb-true}
+use borrow.Author.Tests.{leb-true, leb-false}
 use Rattle.rules.specs.Limits.{maxNodes, maxBudget, recordSize, badFollowOn, badRecord, badBlock, badBudget}
 use Rattle.rules.specs.Bytes.{recordPlace}
 use Rattle.rules.specs.Blocks.{blockRule}
@@ -17,7 +17,7 @@ use Rattle.rules.specs.Run.{Ended, start, run}
 use Rattle.rules.specs.Outcome as Rules
 use Rattle.rules.specs.Outcome.{answer, budgetRule}
 use Rattle.rules.specs.History.{Store, FollowOn, sectionCount, sectionScript, sectionRule, storeRule, checkFollowOn, follow, leaves, after, afterAll}
-use Rattle.rules.proofs.Tests.{both}
+use Rattle.rules.proofs.Tests.{Test, holds, fails, test, both}
 use Rattle.rules.proofs.Checks.{passed-one, passed-each}
 use Rattle.rules.proofs.Accepted.{section-blocks, section-jumps}
 use Rattle.rules.proofs.Control.{Valid}
@@ -34,12 +34,13 @@ use Rattle.actions.specs.Shows.{Slices, slices, Variables}
 use Rattle.monitor.specs.declared.step.Frame.{Frame}
 use Rattle.monitor.specs.declared.entry.Outcome.{Outcome}
 use Rattle.monitor.specs.Steps.{held, Script, Lent}
-use Rattle.monitor.specs.Promises.{answerOf, told, lentBy, placesIn, Tree, Ran, Leaves}
+use Rattle.monitor.specs.Promises as Promises
+use Rattle.monitor.specs.Promises.{answerOf, told, lent, lentBy, placesIn, Tree, Ran, Leaves}
 use Rattle.monitor.specs.Starting.{asLent}
 use Rattle.monitor.specs.FromRoot.{Rooted, FromRoot}
-use Rattle.monitor.specs.Follow.{HoldsStore, followOn, Tells, Follows, over, Storable, storable, Admits, StandsAmong, StandsIn}
+use Rattle.monitor.specs.Follow.{HoldsStore, followOn, Follows, over, Storable, storable, Admits, Surveyed, Declined, FollowsOver, StandsAmong, StandsIn}
 use Rattle.monitor.proofs.Answered.{answers}
-use Rattle.monitor.proofs.Followed.{many-held, shown, no-others, Fair, Decides, sound}
+use Rattle.monitor.proofs.Followed.{many-held, shown, no-others, Fair, Decides, sound, declined, recount}
 
 -- the frame of a bare section
 abbrev pub frame : List ℕ → ℕ → ℕ → Frame
@@ -148,7 +149,7 @@ module _ (b : List ℕ) (budget places : ℕ) (x : Slices) (s : Store) (h : Hold
             tree = holds-stands (ran .tree .holds) (rules .rules);
           }
 
-      taken-over : Follows (λ _. places) Tree (StandsAmong places) b budget (asLent x) (asLent (slices w′ (x .levels) v′ b′)) r
+      pub taken-over : Follows (λ _. places) Tree (StandsAmong places) b budget (asLent x) (asLent (slices w′ (x .levels) v′ b′)) r
       unfolding after
       taken-over =
           over s h
@@ -159,54 +160,82 @@ module _ (b : List ℕ) (budget places : ℕ) (x : Slices) (s : Store) (h : Hold
           })
           (subst (λ (o : Rules.Outcome). HoldsStore (StandsAmong places) (asLent (slices w′ (x .levels) v′ b′)) (leaves s o)) (sym is-ran) next)
 
-      -- the same for a number of places that is theirs
-      pub taken-among : (k : ℕ) → places ≡ k → Follows (λ _. places) Tree (StandsAmong k) b budget (asLent x) (asLent (slices w′ (x .levels) v′ b′)) r
-      taken-among k q = subst (λ m. Follows (λ _. places) Tree (StandsAmong m) b budget (asLent x) (asLent (slices w′ (x .levels) v′ b′)) r) q taken-over
-
 -- the decision over words, for the promise
-pub decides : (words : List ℕ) (n k : ℕ) (stands : Bool) → n ≡ k → Decided (cells words) n stands → Decides (StandsAmong k) words stands
-decides words n k stands e d =
-    subst (λ m. Decides (StandsAmong m) words stands) e (record { sound = d .sound; exact = d .exact })
+decides : {words : List ℕ} {n : ℕ} {stands : Bool} → Decided (cells words) n stands → Decides (StandsAmong n) words stands
+decides d = record { sound = d .sound; exact = d .exact }
 
 -- a tree that stands in words is one that a job could hold
 pub fair : {m : Table} {n : ℕ} {t : Forest} → Stands m n t → Fair t
 fair h = record { alone = h .alone; small = h .few; rules = h .rules }
 
--- what is known of a script that is taken, over a table of some places of which n were asked for a tree
-pub record Reached (b : List ℕ) (budget places n : ℕ) (x : Slices) : Type 0 where
-  pub few : places ≤ maxNodes
-  pub all : n ≡ places
+-- a script that is turned away
+pub turned-from : {b : List ℕ} {budget places : ℕ} {stands : Bool} {marks : List ℕ} {r : Outcome} (x : Promises.Lent (List ℕ))
+    → (places ≤ maxNodes → Surveyed (x .table) places stands marks) → Declined b budget places stands (x .levels) (length (x .values)) r
+    → FollowsOver b budget places stands x x r
+turned-from {b} {budget} {places} {stands} {marks} {r} x known d =
+    record {
+      few = λ le. declined (λ _. places) Tree (StandsAmong places) b budget x (decides (known le .decided)) (λ t h. fair h) r d;
+      many = λ _. (d, refl);
+      behind = record { same = λ y h. refl };
+    }
+
+-- what is known of a script that is taken
+pub record Reached (b : List ℕ) (budget places : ℕ) (x : Slices) : Type 0 where
   pub s : Store
   pub held : HoldsStore (StandsAmong places) (asLent x) s
   pub ok : checkFollowOn s (followOn (λ _. places) b budget (asLent x)) ≡ accepted
 
-pub reached : {p p′ : List ℕ} (b : List ℕ) (budget places n : ℕ) (x : Slices) (stands : Bool) → n ≡ min places gone → Decided (cells (x .words)) n stands
-    → Storable stands (x .levels) (length (x .values)) true → Admits b budget places (length (x .levels)) p p′ Sound → Reached b budget places n x
-unfolding lentBy
-reached b budget places n x stands e d good ad =
-    let k = sound (λ _. places) Tree (StandsAmong n) b budget (asLent x) (decides (x .words) n n stands refl d)
-    (λ t h. fair h) good ad in
-    let few = taken (k .0) (followOn (λ _. places) b budget (asLent x)) (k .1 .1) .places in
-    let all : n ≡ places = omega (arith, e, few) in
-    record {
-      few = few;
-      all = all;
-      s = k .0;
-      held = subst (λ m. HoldsStore (StandsAmong m) (asLent x) (k .0)) all (k .1 .0);
-      ok = k .1 .1;
-    }
+pub reached : {p p′ marks : List ℕ} (b : List ℕ) (budget places : ℕ) (x : Slices) (stands : Bool) → Surveyed (x .words) places stands marks
+    → Storable stands (x .levels) (length (x .values)) true → Admits b budget places (length (x .levels)) p p′ Sound → Reached b budget places x
+reached b budget places x stands known good ad =
+    let k = sound (λ _. places) Tree (StandsAmong places) b budget (asLent x) (decides (known .decided)) (λ t h. fair h) good ad in
+    record { s = k .0; held = k .1 .0; ok = k .1 .1 }
 
 -- a tree stands where variables and table are such as a job could hold
 stood : {stands : Bool} {levels : List ℕ} {values : ℕ} → Storable stands levels values true → stands ≡ true
 stood (storable a e few each) = a
 
 -- the words whose free places were made ready
-pub ready : {m m′ : Table} {places n free : ℕ} {t : Forest} {stands : Bool} {levels : List ℕ} {values : ℕ} (marks : List ℕ) → n ≡ places
-    → (stands ≡ true → Marked m n marks) → Storable stands levels values true → Reclaimed m m′ places marks free → Stands m places t
+pub ready : {w : List ℕ} {m′ : Table} {places free : ℕ} {t : Forest} {stands : Bool} {levels : List ℕ} {values : ℕ} (marks : List ℕ)
+    → Surveyed w places stands marks → Storable stands levels values true → Reclaimed (cells w) m′ places marks free → Stands (cells w) places t
     → Holds m′ places places free 0 t root
 unfolding Reclaimed
-ready {m} {m′} {places} {n} {free} {t} marks e marked good r h = r (subst (λ k. Marked m k marks) e (marked (stood good))) t h
+ready {t = t} marks known good r h = r (known .marked (stood good)) t h
 
--- words of one length have the same places
-pub same-places : (w w′ : List ℕ) → length w′ ≡ length w → (t : Forest) → StandsAmong (min (placesIn w) gone) w′ t → StandsIn w′ t
-same-places w w′ e t h = subst (λ (l : ℕ). Stands (cells w′) (min (l / cellSize) gone) t) (sym e) h
+-- a table of words alone, of whose places n were asked for a tree
+module _ (w w′ : List ℕ) (n : ℕ) (asked : n ≡ min (placesIn w) gone) (stands : Bool) (d : Decided (cells w) n stands) where
+  pub surveyed : {marks : List ℕ} → (stands ≡ true → Marked (cells w) n marks) → placesIn w ≤ maxNodes → Surveyed w (placesIn w) stands marks
+  surveyed {marks} marked few =
+      let e : n ≡ placesIn w = omega (arith, asked, few) in
+      record {
+        long = omega arith;
+        decided = subst (λ k. Decided (cells w) k stands) e d;
+        marked = λ a. subst (λ k. Marked (cells w) k marks) e (marked a);
+      }
+
+  -- words of one length have the same places
+  same-places : length w′ ≡ length w → (t : Forest) → StandsAmong (min (placesIn w) gone) w′ t → StandsIn w′ t
+  same-places e t h = subst (λ (l : ℕ). Stands (cells w′) (min (l / cellSize) gone) t) (sym e) h
+
+  module _ (b : List ℕ) (budget : ℕ) (levels : List ℕ) (values values′ : List ℤ) (board board′ : List ℕ) (r : Outcome) where
+    abbrev x : Promises.Lent (List ℕ)
+    x = lent w levels values board
+
+    abbrev x′ : Promises.Lent (List ℕ)
+    x′ = lent w′ levels values′ board′
+
+    pub over-words : length w′ ≡ length w → FollowsOver b budget (placesIn w) stands x x′ r → Follows placesIn Tree StandsIn b budget x x′ r
+    over-words same h = go (test (leb (placesIn w) maxNodes))
+      where
+        go : Test (leb (placesIn w) maxNodes) → Follows placesIn Tree StandsIn b budget x x′ r
+        go (holds e) =
+            let few = leb-true (placesIn w) maxNodes e in
+            let q : min (placesIn w) gone ≡ placesIn w = omega (arith, few) in
+            recount Tree (λ _. placesIn w) placesIn (StandsAmong (placesIn w)) StandsIn b budget x x′ r refl
+            (λ t k. subst (λ m. Stands (cells w) m t) (sym q) k) (λ t k. subst (λ m. Stands (cells w) m t) q k)
+            (λ t k. same-places same t (subst (λ m. Stands (cells w′) m t) (sym q) k)) (h .few few)
+        go (fails e) =
+            let k = h .many (leb-false (placesIn w) maxNodes e) in
+            let all = subst (λ m. Decided (cells w) m stands) asked d in
+            subst (λ (y : Promises.Lent (List ℕ)). Follows placesIn Tree StandsIn b budget x y r) (sym (k .1))
+            (declined placesIn Tree StandsIn b budget x (record { sound = all .sound; exact = all .exact }) (λ t g. fair g) r (k .0))

@@ -2,9 +2,9 @@
 use mathlib.Core.Path.{_≡_}
 use mathlib.Core.Bool.{Bool, true, false}
 use mathlib.Core.List.{List}
-use Prim.Native.Nat.{ℕ, _<_, _≤_, min}
+use Prim.Native.Nat.{ℕ, _*_, _<_, _≤_, min}
 use lib.ListN.{length, getD}
-use Rattle.rules.specs.Limits.{maxVariables, badFollowOn}
+use Rattle.rules.specs.Limits.{maxVariables, maxNodes, badFollowOn}
 use Rattle.rules.specs.Level.{isLevel}
 use Rattle.rules.specs.Tree.{Forest, Place}
 use Rattle.rules.specs.Check.{code}
@@ -14,13 +14,15 @@ use Rattle.rules.specs.Outcome as Rules
 use Rattle.rules.specs.Outcome.{answer}
 use Rattle.rules.specs.History.{Store, FollowOn, sectionCount, storeRule, checkFollowOn, follow, after}
 use Rattle.job.specs.declared.checks.Script.{Script}
-use Rattle.job.specs.declared.checks.Script.the-variants.{Sound}
+use Rattle.job.specs.declared.checks.Script.the-variants.{Sound, Faulty}
 use Rattle.job.specs.Answer as Answer
 use Rattle.job.specs.Plan.{Whole}
-use Rattle.table.specs.Cells.{cells, gone}
-use Rattle.table.specs.Stands.{Stands}
+use Rattle.table.specs.Cells.{cellSize, cells, gone}
+use Rattle.table.specs.Promises.{Behind}
+use Rattle.table.specs.Stands.{Stands, Decided, Marked}
 use Rattle.monitor.specs.declared.entry.Outcome.{Outcome}
-use Rattle.monitor.specs.Promises.{answerOf, told, Lent, lentBy, Leaves, placesIn}
+use Rattle.monitor.specs.declared.entry.Outcome.the-variants.{Refused}
+use Rattle.monitor.specs.Promises.{answerOf, told, Lent, lentBy, Leaves, placesIn, Tree}
 use Rattle.monitor.specs.Secrecy.{variableIn}
 
 -- "a standing tree and variables", as lent: the variables are all that is lent, with a level and a value each; StandsIn says which tree stands in a table
@@ -72,3 +74,22 @@ pub record Admits (b : List ℕ) (budget places vs : ℕ) (p p′ : List ℕ) (r
   pub answered : (s : Store) (given : Buffers) → storeRule s ≡ true → length (s .variables) ≡ vs → given .places ≡ places
       → r ≡ Answer.told (checkFollowOn s (record { section = b; budget = budget; lent = given }))
   pub whole : r ≡ Sound → Whole (code b 0) (sectionCount b) p p′
+  pub few : r ≡ Sound → places ≤ maxNodes
+
+-- a table of places with words for them: whether a tree stands in it, and if so, at the places with a mark
+pub record Surveyed (words : List ℕ) (places : ℕ) (stands : Bool) (marks : List ℕ) : Type 0 where
+  pub long : cellSize * places ≤ length words
+  pub decided : Decided (cells words) places stands
+  pub marked : stands ≡ true → Marked (cells words) places marks
+
+-- a script that is turned away with a number and an index, whatever the table, of so many places, in which a tree stands or not
+pub data Declined (b : List ℕ) (budget places : ℕ) (stands : Bool) (levels : List ℕ) (values : ℕ) (r : Outcome) : Type 0 where
+  by-store : Storable stands levels values false → r ≡ Refused badFollowOn 0 → Declined b budget places stands levels values r
+  by-script : {p p′ : List ℕ} (k i : ℕ) → Storable stands levels values true → Admits b budget places (length levels) p p′ (Faulty k i) → r ≡ Refused k i
+      → Declined b budget places stands levels values r
+
+-- a script over a table of at most 512 places; one over more is turned away, and nothing has changed
+pub record FollowsOver (b : List ℕ) (budget places : ℕ) (stands : Bool) (x x′ : Lent (List ℕ)) (r : Outcome) : Type 0 where
+  pub few : places ≤ maxNodes → Follows (λ _. places) Tree (StandsAmong places) b budget x x′ r
+  pub many : maxNodes < places → Declined b budget places stands (x .levels) (length (x .values)) r × (x′ ≡ x)
+  pub behind : Behind places (cells (x .table)) (cells (x′ .table))

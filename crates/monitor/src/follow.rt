@@ -15,12 +15,13 @@ use rules::limits::MAX_NODES;
 use rules::limits::MAX_VARIABLES;
 use rules::limits::RECORD_SIZE;
 use table::standing;
-ghost use Prim.Native.Nat.{_*_, _≤_, min};
+ghost use Prim.Native.Nat.{_≤_};
 ghost use lib.ListN.{length};
-ghost use Rattle.table.specs.Cells.{cellSize, cells, gone};
+ghost use Rattle.rules.specs.Limits.{maxNodes};
+ghost use Rattle.table.specs.Cells.{cells};
 ghost use Rattle.table.specs.Promises.{Behind};
 ghost use Rattle.monitor.specs.Promises.{lent, placesIn, Tree};
-ghost use Rattle.monitor.specs.Follow.{Storable, Admits, Follows, StandsAmong, StandsIn};
+ghost use Rattle.monitor.specs.Follow.{Storable, Admits, Surveyed, Follows, FollowsOver, StandsIn};
 
 // Whether variables and a table, in which a tree stands or not, are such as an accepted job could hold.
 fn storable(stands: bool, levels: &[u8], values: usize) -> bool
@@ -77,27 +78,24 @@ fn admit(
 }
 
 // The run over a bare section, with a budget and what the caller lends, which a tree and variables stand in: a node table of some places, eight words
-// to each, the variables' levels and values, and an area for board lines of four bytes each. No words are needed for places that no link can lead to.
-fn follow_places(
+// to each, the variables' levels and values, and an area for board lines of four bytes each. `stands` says whether a tree stands in the table, the marks
+// at which places. No words are needed for more than 512 places: no script is run over them.
+pub fn follow_places(
     section: &[u8],
     budget: u64,
     places: usize,
+    stands: bool,
+    marks: &[u8],
     words: &mut [u32],
     levels: &[u8],
     values: &mut [i32],
     lines: &mut [u8],
 ) -> Outcome
-    requires { ⌜ cellSize * min places gone ≤ length (now words) ⌝ }
-    ensures { λ r. ⌜ Follows (λ _. places) Tree (StandsAmong (min places gone)) (now (section .entry)) budget
+    requires { ⌜ (places ≤ maxNodes → Surveyed (now words) places stands (now marks)) × (maxNodes ≤ length (now marks)) ⌝ }
+    ensures { λ r. ⌜ FollowsOver (now (section .entry)) budget places stands
         (lent (now (words .entry)) (now (levels .entry)) (now (values .entry)) (now (lines .entry)))
-        (lent (now (words .exit)) (now (levels .entry)) (now (values .exit)) (now (lines .exit))) r
-        × Behind (min places gone) (cells (now (words .entry))) (cells (now (words .exit))) ⌝ }
+        (lent (now (words .exit)) (now (levels .entry)) (now (values .exit)) (now (lines .exit))) r ⌝ }
 {
-    let n = smaller(places, table::NIL);
-    let mut dues = [0u32; MAX_NODES];
-    let mut bounds = [0u8; MAX_NODES];
-    let mut marks = [0u8; MAX_NODES];
-    let stands = standing::held(words, n, &mut dues, &mut bounds, &mut marks);
     if !storable(stands, levels, values.len()) {
         return Outcome::Refused {
             number: BAD_FOLLOW_ON,
@@ -109,7 +107,7 @@ fn follow_places(
     match script {
         Script::Faulty { number, index } => Outcome::Refused { number, index },
         Script::Sound => {
-            let free = standing::reclaim(words, places, &marks);
+            let free = standing::reclaim(words, places, marks);
             let f = Frame {
                 script: 0,
                 records: section.len() / RECORD_SIZE,
@@ -132,7 +130,7 @@ fn follow_places(
     }
 }
 
-// The same with a table of words alone: it has as many places as there are eights of words.
+// The same with a table of words alone: it has as many places as there are eights of words, of which links lead to no more than 65,535.
 pub fn follow_words(
     section: &[u8],
     budget: u64,
@@ -147,5 +145,20 @@ pub fn follow_words(
         × Behind (placesIn (now (words .entry))) (cells (now (words .entry))) (cells (now (words .exit))) ⌝ }
 {
     let places = words.len() / table::CELL;
-    follow_places(section, budget, places, words, levels, values, lines)
+    let n = smaller(places, table::NIL);
+    let mut dues = [0u32; MAX_NODES];
+    let mut bounds = [0u8; MAX_NODES];
+    let mut marks = [0u8; MAX_NODES];
+    let stands = standing::held(words, n, &mut dues, &mut bounds, &mut marks);
+    follow_places(
+        section,
+        budget,
+        places,
+        stands,
+        &marks,
+        words,
+        levels,
+        values,
+        lines,
+    )
 }

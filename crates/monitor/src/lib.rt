@@ -8,4 +8,5 @@ mod step;
 pub use entry::Outcome;
 pub use entry::run_places;
 pub use entry::run_words;
+pub use follow::follow_places;
 pub use follow::follow_words;

@@ -1,25 +1,21 @@
--- The words have as many places as they make. Assumes nothing.
-use mathlib.Core.Path.{refl}
-use Prim.Native.Nat.{min}
-use native.Mathlib.Omega.{arith}
-use Rattle.table.specs.Cells.{gone}
-use Rattle.monitor.specs.Promises.{lent, placesIn, Tree}
-use Rattle.monitor.specs.Follow.{StandsAmong, StandsIn}
-use Rattle.monitor.proofs.Followed.{recount}
-use Rattle.monitor.proofs.Taken.{same-places}
+-- The words have as many places as they make, and are asked for a tree. Assumes nothing.
+use mathlib.Core.List.{[]}
+use Rattle.monitor.proofs.Taken.{surveyed, over-words}
 use borrow.Author.Needs.{needs}
 use Rattle.monitor.proofs.follow.follow_words.Statement.{statement}
 use Rattle.monitor.proofs.follow.follow_words.Tie as tie
 
+follow-places-requires : tie.Need-follow-places-requires
+follow-places-requires c κs = (surveyed _ [] _ (c .before .before .before .before .before .before .before .before .before .before .before .before .smaller .ensures) _ (c .before .before .before .before .before .before .before .held .ensures .0) (c .before .before .before .before .before .before .before .held .ensures .1), search needs)
+
 returns : tie.Need-returns
-returns c =
-    let w = c .before .before .before .before .before .before .before .before .before .before .before .before .before .args .words .now in (
-      recount Tree (λ _. placesIn w) placesIn (StandsAmong (min (placesIn w) gone)) StandsIn _ _ (lent _ _ _ _) (lent _ _ _ _) _ refl (λ t h. h) (λ t h. h)
-          (same-places w _ (c .before .before .before .before .words .given)) (c .before .before .before .before .before .follow-places .ensures .0),
-      record { same = λ y q. c .before .before .before .before .before .follow-places .ensures .1 .same y (omega (arith, q)) },
-    )
+returns c = (
+  over-words _ _ _ (c .before .before .before .before .before .before .before .before .before .before .before .before .before .before .before .before .before .before .smaller .ensures) _ (c .before .before .before .before .before .before .before .before .before .before .before .before .before .held .ensures .0) _ _ _ _ _ _ _ _ (c .before .before .before .before .words .given) (c .before .before .before .before .before .follow-places .ensures),
+  c .before .before .before .before .before .follow-places .ensures .behind,
+)
 
 pub follow-words-spec : {M : Type 1} → statement M
 follow-words-spec =
     tie.close
-    (tie.spec (λ c κs. search needs) (λ c. search needs) (λ c. search needs) (λ c. search needs) returns)
+    (tie.spec (λ c κs. search needs) (λ c. search needs) (λ c. search needs) (λ c. search needs) (λ c κs. search needs) (λ c. search needs) follow-places-requires
+    (λ c. search needs) (λ c. search needs) (λ c. search needs) returns)
