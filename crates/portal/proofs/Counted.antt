@@ -1,6 +1,6 @@
 -- A run has no more lines than steps, so no more than its budget: a step adds one at most. By induction on the budget. Assumes nothing.
 use mathlib.Core.Path.{_≡_, refl}
-use mathlib.Core.Bool.{Bool, true, false}
+use mathlib.Core.Bool.{true}
 use mathlib.Core.Option.{Option, none, some}
 use mathlib.Core.List.{List, [], _∷_}
 use Prim.Native.Nat.{ℕ, zero, suc, _+_, _≤_}
@@ -8,19 +8,21 @@ use native.Mathlib.Omega.{arith}
 use lib.ListN.{length, length-append}
 use lib.Dec.{leb}
 use borrow.Author.Tests.{leb-true}
-use Rattle.rules.specs.Limits.{maxBudget, badBudget}
+use Rattle.rules.specs.Limits.{maxBudget, badRecord, badBlock, badBudget, badFollowOn}
 use Rattle.rules.specs.Level.{Level}
-use Rattle.rules.specs.Tree.{Place}
+use Rattle.rules.specs.Tree.{Forest, Place}
 use Rattle.rules.specs.Script.{Expression, Action, Command, act, fetch}
-use Rattle.rules.specs.Check as Check
-use Rattle.rules.specs.Check.{Checked, checkBytes, require}
-use Rattle.rules.specs.Job.{script}
+use Rattle.rules.specs.Check.{Checked, accepted, refused}
+use Rattle.rules.specs.Job.{Variable, script}
 use Rattle.rules.specs.Run.{Memory, State, Buffers, value, withVariables, withTree, withCursor, withLine, assign, output, moveTo, goTo, insertAt, removeAt, write, effect, stepped, enterIf, enterWhile, carried, step, start, run}
-use Rattle.rules.specs.Outcome.{rejected, answer, andThen, checkJob, budgetRule, begin, runJob}
+use Rattle.rules.specs.Outcome.{Outcome, rejected, ran, answer, checkJob, budgetRule, begin, runJob}
+use Rattle.rules.specs.History.{Store, FollowOn, checkFollowOn, follow}
 use Rattle.rules.proofs.Tests.{Test, holds, fails, test, both}
+use Rattle.rules.proofs.Checks.{passed-one, passed-each}
 use Rattle.rules.proofs.Results.{Good, good-need, good-onward, good-next}
 use Rattle.rules.proofs.Runs.{more, run-spent, run-over, Turn, stops, goes, turn}
-use Rattle.rules.proofs.Noninterference.{runs}
+use Rattle.rules.proofs.Noninterference.{accepted-rest, turned-back, runs}
+use Rattle.rules.proofs.Stores.{followed, turned-away}
 
 -- a memory with one line more at most
 OneMore : Memory → Memory → Type 0
@@ -95,24 +97,48 @@ module _ (lent : Buffers) (cs : List Command) where
   unfolding Within
   run-few n s = within n s
 
--- an accepted job's budget is at most the largest
-budget-passed : (c : Checked) (t : Bool) (d : Checked) → andThen c (require badBudget t d) ≡ Check.accepted → t ≡ true
-unfolding andThen require
-budget-passed (Check.refused k i) t d e = let z : _≡_ {A = ℕ} 0 1 = cc in absurd (omega arith)
-budget-passed Check.accepted true d e = refl
-budget-passed Check.accepted false d e = let z : _≡_ {A = ℕ} 0 1 = cc in absurd (omega arith)
+-- 9 lets no larger budget pass
+passes : (n : ℕ) → budgetRule n ≡ true → n ≤ maxBudget
+unfolding budgetRule
+passes n e = leb-true _ _ (both (leb 1 n) (leb n maxBudget) e .1)
 
-spends : (b : List ℕ) (budget : ℕ) (lent : Buffers) → checkJob b budget lent ≡ Check.accepted → budget ≤ maxBudget
-unfolding checkJob budgetRule
-spends b budget lent e = leb-true _ _ (both (leb 1 budget) (leb budget maxBudget) (budget-passed (checkBytes b) (budgetRule budget) _ e) .1)
+job-spends : (b : List ℕ) (n : ℕ) (lent : Buffers) → checkJob b n lent ≡ accepted → n ≤ maxBudget
+unfolding checkJob
+job-spends b n lent e = passes n (passed-one badBudget _ _ (accepted-rest _ _ e) .0)
 
--- whatever becomes of a job, its lines are few
-pub few-lines : (b : List ℕ) (budget : ℕ) (lent : Buffers) → answer (runJob b budget lent) .lines ≤ maxBudget
-unfolding runJob answer begin start
-few-lines b budget lent = by (checkJob b budget lent) refl
+script-spends : (s : Store) (f : FollowOn) → checkFollowOn s f ≡ accepted → f .budget ≤ maxBudget
+unfolding checkFollowOn
+script-spends s f e =
+    let x1 = passed-one badFollowOn _ _ e in
+    let x2 = passed-each badRecord _ _ _ (x1 .1) in
+    let x3 = passed-each badBlock _ _ _ (x2 .1) in
+    passes (f .budget) (passed-one badBudget _ _ (x3 .1) .0)
+
+-- no outcome has more lines than a number's lower half holds: one that was turned back has none
+abbrev pub Few : Outcome → Type 0
+Few o = answer o .lines ≤ maxBudget
+
+pub few-back : (k i : ℕ) → Few (rejected k i)
+unfolding answer
+few-back k i = omega arith
+
+few-ran : (lent : Buffers) (cs : List Command) (n : ℕ) (vs : List Variable) (t : Forest) → n ≤ maxBudget → Few (ran (run lent cs n (start vs t)))
+unfolding answer start
+few-ran lent cs n vs t h = omega (arith, run-few lent cs n (start vs t))
+
+-- whatever becomes of a job
+pub few-lines : (b : List ℕ) (n : ℕ) (lent : Buffers) → Few (runJob b n lent)
+unfolding begin
+few-lines b n lent = pick (checkJob b n lent) refl
   where
-    by : (c : Checked) → checkJob b budget lent ≡ c → answer (runJob b budget lent) .lines ≤ maxBudget
-    by Check.accepted e = rw (runs b budget lent e) (omega (arith, run-few lent (script b) budget (begin b), spends b budget lent e))
-    by (Check.refused k i) e =
-        let o : runJob b budget lent ≡ rejected k i = rw (e, runJob) in
-        rw o (omega arith)
+    pick : (c : Checked) → checkJob b n lent ≡ c → Few (runJob b n lent)
+    pick accepted e = rw (runs b n lent e) (few-ran lent (script b) n _ _ (job-spends b n lent e))
+    pick (refused k i) e = rw (turned-back b n lent e) (few-back k i)
+
+-- and of a follow-on script
+pub few-follow : (s : Store) (f : FollowOn) → Few (follow s f)
+few-follow s f = pick (checkFollowOn s f) refl
+  where
+    pick : (c : Checked) → checkFollowOn s f ≡ c → Few (follow s f)
+    pick accepted e = rw (followed s f e) (few-ran (f .lent) _ (f .budget) _ _ (script-spends s f e))
+    pick (refused k i) e = rw (turned-away s f e) (few-back k i)

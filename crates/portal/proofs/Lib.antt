@@ -3,3 +3,4 @@ pub mod Counted
 pub mod Handed
 pub mod Secret
 pub mod Bounds
+pub mod Standing

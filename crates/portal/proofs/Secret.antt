@@ -22,10 +22,10 @@ use Rattle.portal.specs.Secrecy.{endingIn, countIn, linesIn, Unseen, Sec
 use Rattle.portal.proofs.Counted.{few-lines}
 
 -- the halves of a number whose lower one is small
-upper : (e l : ℕ) → l ≤ maxBudget → (e * range + l) / range ≡ e
+pub upper : (e l : ℕ) → l ≤ maxBudget → (e * range + l) / range ≡ e
 upper e l h = omega arith
 
-lower : (e l : ℕ) → l ≤ maxBudget → (e * range + l) % range ≡ l
+pub lower : (e l : ℕ) → l ≤ maxBudget → (e * range + l) % range ≡ l
 lower e l h = omega arith
 
 -- the line count is that of the lines

@@ -1,4 +1,5 @@
--- What a portal's call hands back, and what calls keep from a reader.
+-- What a portal's calls hand back, and what they keep from a reader.
 pub mod Portal
 pub mod Secrecy
 pub mod Bound
+pub mod Standing

@@ -1,12 +1,14 @@
-// The call that a portal in C makes: job bytes, a budget and a byte area for lines, and one number back.
+// The calls that a portal in C makes: bytes, a budget and plain slices of numbers, and one number back.
 use monitor::Outcome;
+use monitor::follow_words;
 use monitor::run_words;
 use rules::limits::MAX_VARIABLES;
 ghost use mathlib.Core.Path.{_≡_};
 ghost use Prim.Native.Nat.{_+_, _*_, _≤_};
 ghost use Rattle.rules.specs.Limits.{maxBudget};
-ghost use Rattle.monitor.specs.Promises.{answerOf};
+ghost use Rattle.monitor.specs.Promises.{answerOf, lent};
 ghost use Rattle.portal.specs.Portal.{numberOf, handed, portal};
+ghost use Rattle.portal.specs.Standing.{Started, Followed};
 
 // Eight words for each of the 512 places.
 const WORDS: usize = 4096;
@@ -45,4 +47,38 @@ pub extern "C" fn portal_run(job: &[u8], budget: u64, lines: &mut [u8]) -> u64
     let mut levels = [0u8; MAX_VARIABLES];
     let mut values = [0i32; MAX_VARIABLES];
     number(run_words(job, budget, &mut words, &mut levels, &mut values, lines))
+}
+
+// The job is run over what the portal keeps: a node table of eight words to a place, the variables' levels and values. Its tree and variables stay there.
+#[no_mangle]
+pub extern "C" fn portal_start(
+    job: &[u8],
+    budget: u64,
+    table: &mut [u32],
+    levels: &mut [u8],
+    values: &mut [i32],
+    lines: &mut [u8],
+) -> u64
+    ensures { λ r. ⌜ Started (now (job .entry)) budget
+        (lent (now (table .entry)) (now (levels .entry)) (now (values .entry)) (now (lines .entry)))
+        (lent (now (table .exit)) (now (levels .exit)) (now (values .exit)) (now (lines .exit))) r ⌝ }
+{
+    number(run_words(job, budget, table, levels, values, lines))
+}
+
+// A bare script section is run over what stands there. The table and the variables may hold anything: 11 turns away what no accepted job could hold.
+#[no_mangle]
+pub extern "C" fn portal_follow(
+    script: &[u8],
+    budget: u64,
+    table: &mut [u32],
+    levels: &[u8],
+    values: &mut [i32],
+    lines: &mut [u8],
+) -> u64
+    ensures { λ r. ⌜ Followed (now (script .entry)) budget
+        (lent (now (table .entry)) (now (levels .entry)) (now (values .entry)) (now (lines .entry)))
+        (lent (now (table .exit)) (now (levels .entry)) (now (values .exit)) (now (lines .exit))) r ⌝ }
+{
+    number(follow_words(script, budget, table, levels, values, lines))
 }
