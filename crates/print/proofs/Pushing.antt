@@ -5,11 +5,12 @@ use mathlib.Core.Path.{_≡_, refl, sym, _∙_, ap, subst}
 use native.Mathlib.Numerals.{add-one}
 use native.Mathlib.Omega.{arith}
 use Prim.Native.Nat.{ℕ, suc, _+_, _*_, _≤_, _<_}
+use lib.Dec.{eqb}
 use lib.ListN.{length, take, getD, set}
 use lib.Seq.{length-take-le, take-suc, take-suc-set}
 use borrow.Author.Tests.{lt-ltb, le-ltb}
 use Rattle.rules.specs.Bytes.{full}
-use Rattle.print.specs.Waiting.{size, push, pushes, Signed, Listed, more}
+use Rattle.print.specs.Waiting.{size, push, pushes, Signed, Shown, Listed, more, Numbers}
 
 push-room : (w : List ℕ) (b : ℕ) → length w < size → push w b ≡ w ++ (b ∷ [])
 unfolding push
@@ -48,3 +49,11 @@ pub lined :
 lined name area w u p v x n bits h named read s ended =
     subst (λ (k : ℕ). Listed name area w k x) (sym (add-one n)) (subst (λ (l : List ℕ). Listed name area w (suc n) l) (sym ended) (more h
     (subst (λ (l : List ℕ). Signed (full area (4 * n)) l v) named (subst (λ (k : ℕ). Signed k p v) read s))))
+
+-- a number of a row more, behind its space
+pub numbered :
+    (numbers w u p v : List ℕ) (k below : ℕ) → Numbers numbers below w k u → p ≡ push u 32 → Shown (eqb k below) (getD numbers k 0) p v
+    → Numbers numbers below w (k + 1) v
+numbered numbers w u p v k below h spaced s =
+    subst (λ (j : ℕ). Numbers numbers below w j v) (sym (add-one k))
+    (Numbers.more h (subst (λ (l : List ℕ). Shown (eqb k below) (getD numbers k 0) l v) spaced s))

@@ -1,10 +1,10 @@
 -- What waits in the buffer to be written out, and what each call adds to it. Assumes nothing.
-use mathlib.Core.Bool.{cond}
+use mathlib.Core.Bool.{Bool, true, false, cond}
 use mathlib.Core.List.{List, [], _∷_, _++_}
 use mathlib.Core.Path.{_≡_}
 use Prim.Native.Nat.{ℕ, zero, suc, _*_, _-_, _≤_, _<_}
-use lib.Dec.{ltb}
-use lib.ListN.{length}
+use lib.Dec.{ltb, eqb}
+use lib.ListN.{length, getD}
 use Rattle.io.specs.Digits.{digits, Fewest}
 use Rattle.rules.specs.Bytes.{full}
 
@@ -36,3 +36,19 @@ pub record Signed (bits : ℕ) (w v : List ℕ) : Type 0 where
 pub data Listed (name area : List ℕ) (w : List ℕ) : ℕ → List ℕ → Type 0 where
   none : Listed name area w zero w
   more : {n : ℕ} {u v : List ℕ} → Listed name area w n u → Signed (full area (4 * n)) (pushes u name) v → Listed name area w (suc n) (push v 10)
+
+-- a number of 32 bits more, as a signed one or not
+abbrev pub Shown : Bool → ℕ → List ℕ → List ℕ → Type 0
+Shown true n w v = Signed n w v
+Shown false n w v = Number n w v
+
+-- the first k of some numbers more, each behind a space (32), the one at a place signed
+pub data Numbers (numbers : List ℕ) (below : ℕ) (w : List ℕ) : ℕ → List ℕ → Type 0 where
+  none : Numbers numbers below w zero w
+  more : {k : ℕ} {u v : List ℕ} → Numbers numbers below w k u → Shown (eqb k below) (getD numbers k 0) (push u 32) v → Numbers numbers below w (suc k) v
+
+-- a name and all of some numbers more, and a line's end (10)
+pub record Row (name numbers : List ℕ) (below : ℕ) (w v : List ℕ) : Type 0 where
+  pub all : List ℕ
+  pub listed : Numbers numbers below (pushes w name) (length numbers) all
+  pub waits : v ≡ push all 10

@@ -6,7 +6,7 @@ pub mod runner;
 ghost use mathlib.Core.Path.{_≡_};
 ghost use Prim.Native.Nat.{_/_, _<_, _≤_, min};
 ghost use lib.ListN.{length, set, take};
-ghost use Rattle.print.specs.Waiting.{push, pushes, Number, Signed, Listed};
+ghost use Rattle.print.specs.Waiting.{push, pushes, Number, Signed, Shown, Listed, Row};
 use job::reads::full_at;
 
 // How many bytes the buffer has: as many as io::large_buffer gives.
@@ -122,6 +122,34 @@ pub fn item(buf: &mut [u8; SIZE], out: Out, name: &[u8], n: u64) -> Out
 {
     let r = text(buf, out, name);
     number(buf, r, n)
+}
+
+// Puts a number of 32 bits, as a signed one or not.
+fn shown(buf: &mut [u8; SIZE], out: Out, n: u32, below: bool) -> Out
+    requires { ⌜ out .used ≤ 65536 ⌝ }
+    ensures { λ r. ⌜ (r .used ≤ 65536) × (r .fd ≡ out .fd) ⌝ }
+    ensures { λ r. ⌜ Shown below n (take (out .used) (now (buf .entry))) (take (r .used) (now (buf .exit))) ⌝ }
+{
+    if below {
+        return signed(buf, out, n);
+    }
+    number(buf, out, n as u64)
+}
+
+// Puts a name and numbers of 32 bits on a line of their own, each number behind a space. The one at `below` is signed.
+pub fn row(buf: &mut [u8; SIZE], out: Out, name: &[u8], numbers: &[u32], below: usize) -> Out
+    requires { ⌜ out .used ≤ 65536 ⌝ }
+    ensures { λ r. ⌜ (r .used ≤ 65536) × (r .fd ≡ out .fd) ⌝ }
+    ensures { λ r. ⌜ Row (now (name .entry)) (now (numbers .entry)) below (take (out .used) (now (buf .entry))) (take (r .used) (now (buf .exit))) ⌝ }
+{
+    let mut r = text(buf, out, name);
+    let mut i = 0;
+    while i < numbers.len() {
+        r = byte(buf, r, b' ');
+        r = shown(buf, r, numbers[i], i == below);
+        i += 1;
+    }
+    byte(buf, r, b'\n')
 }
 
 // The first number, or the second where that is less.
