@@ -1,14 +1,12 @@
 // Runs many jobs, for tests and bulk work. Standard input is a sequence of frames: the job's length and the budget in 4 bytes each, the places and the
 // line capacity in 2 bytes each, little-endian, then the job. For each, in order, what became of it goes to standard output; jobs are counted from 0.
 mod frame;
-mod input;
-mod show;
 
 use print::SIZE;
 
 // A proved loop has to end, and nothing says that the input does: so this one ends too where the jobs can be counted no further.
 fn replay(block: &mut [u8; SIZE], job: &mut [u8], buf: &mut [u8; SIZE]) {
-    let mut s = frame::start();
+    let mut s = frames::start();
     let mut k: u64 = 0;
     while k < u64::MAX {
         s = frame::next(block, job, buf, s, k);

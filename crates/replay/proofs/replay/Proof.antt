@@ -1,13 +1,14 @@
 -- `replay` meets its contract: each turn counts one job more. Assumes nothing.
 use mathlib.Core.Path.{_≡_}
-use Prim.Native.Nat.{_≤_, _-_}
+use Prim.Native.Nat.{_-_}
 use lib.ListN.{length}
+use Rattle.frames.specs.Bounds.{Fits}
 use borrow.Author.Needs.{needs}
 use Rattle.replay.proofs.replay.Statement.{statement}
 use Rattle.replay.proofs.replay.Tie as tie
 
 abbrev Inv-loop : tie.InvT-loop
-Inv-loop block₀ job₀ buf₀ s₀ k₀ block job buf s k = (s .span .from ≤ s .span .end) × (s .span .end ≤ 65536) × (s .out .used ≤ 65536) × (length job ≡ length job₀)
+Inv-loop block₀ job₀ buf₀ s₀ k₀ block job buf s k = Fits s × (length job ≡ length job₀)
 
 abbrev μ-loop : tie.MeasureT-loop
 μ-loop block₀ job₀ buf₀ s₀ k₀ block job buf s k = 18446744073709551615 - k

@@ -1,12 +1,14 @@
--- `run` meets its contract: no more bytes are taken than there are. Assumes nothing.
+-- `run` meets its contract: the area is within the array. Assumes nothing.
 use mathlib.Core.Path.{sym}
 use lib.Seq.{length-take-le}
 use borrow.Author.Needs.{needs}
 use Rattle.replay.proofs.frame.run.Statement.{statement}
 use Rattle.replay.proofs.frame.run.Tie as tie
 
-slice-aggregate-run : tie.Need-slice-aggregate-run
-slice-aggregate-run c = sym (length-take-le _ _ (c .before .before .pre .0))
+slice-aggregate-run-lent : tie.Need-slice-aggregate-run-lent
+slice-aggregate-run-lent c = sym (length-take-le _ _ (search needs))
 
 pub run-spec : {M : Type 1} → statement M
-run-spec = tie.close (tie.spec slice-aggregate-run (λ c κs. search needs) (λ c. search needs))
+run-spec =
+    tie.close (tie.spec
+    (λ c. search needs) (λ c. search needs) (λ c. search needs) slice-aggregate-run-lent (λ c κs. search needs) (λ c. search needs))

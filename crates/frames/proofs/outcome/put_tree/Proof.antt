@@ -1,8 +1,8 @@
 -- `put_tree` meets its contract: the k-th node stands at most k steps below the root. Assumes nothing.
 use Prim.Native.Nat.{_≤_, _<_, _-_}
 use borrow.Author.Needs.{needs}
-use Rattle.replay.proofs.show.put_tree.Statement.{statement}
-use Rattle.replay.proofs.show.put_tree.Tie as tie
+use Rattle.frames.proofs.outcome.put_tree.Statement.{statement}
+use Rattle.frames.proofs.outcome.put_tree.Tie as tie
 
 abbrev Inv-loop : tie.InvT-loop
 Inv-loop buf₀ words places r₀ v₀ k₀ buf r v k = (r .used ≤ 65536) × (k ≤ places) × (v .place < places) × (v .depth ≤ k)

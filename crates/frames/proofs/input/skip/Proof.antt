@@ -1,11 +1,12 @@
 -- `skip` meets its contract: the span stays within the block. Each turn drops what is left of it. Assumes nothing.
 use Prim.Native.Nat.{_≤_, _-_}
+use Rattle.frames.specs.Bounds.{Inside}
 use borrow.Author.Needs.{needs}
-use Rattle.replay.proofs.input.skip.Statement.{statement}
-use Rattle.replay.proofs.input.skip.Tie as tie
+use Rattle.frames.proofs.input.skip.Statement.{statement}
+use Rattle.frames.proofs.input.skip.Tie as tie
 
 abbrev Inv-loop : tie.InvT-loop
-Inv-loop block₀ n s₀ count₀ block s count = (s .from ≤ s .end) × (s .end ≤ 65536) × (count ≤ n)
+Inv-loop block₀ n s₀ count₀ block s count = Inside s × (count ≤ n)
 
 abbrev μ-loop : tie.MeasureT-loop
 μ-loop block₀ n s₀ count₀ block s count = n - count

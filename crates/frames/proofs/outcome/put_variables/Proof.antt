@@ -1,8 +1,8 @@
 -- `put_variables` meets its contract: each turn goes on to the next variable. Assumes nothing.
 use Prim.Native.Nat.{_≤_, _-_}
 use borrow.Author.Needs.{needs}
-use Rattle.replay.proofs.show.put_variables.Statement.{statement}
-use Rattle.replay.proofs.show.put_variables.Tie as tie
+use Rattle.frames.proofs.outcome.put_variables.Statement.{statement}
+use Rattle.frames.proofs.outcome.put_variables.Tie as tie
 
 abbrev Inv-loop : tie.InvT-loop
 Inv-loop buf₀ n levels values r₀ i₀ buf r i = (r .used ≤ 65536) × (i ≤ n)

@@ -1,13 +1,14 @@
 -- `take` meets its contract: the span stays within the block. Each turn takes a byte. Assumes nothing.
 use mathlib.Core.Path.{_≡_}
-use Prim.Native.Nat.{_≤_, _-_}
+use Prim.Native.Nat.{_-_}
 use lib.ListN.{length}
+use Rattle.frames.specs.Bounds.{Inside}
 use borrow.Author.Needs.{needs}
-use Rattle.replay.proofs.input.take.Statement.{statement}
-use Rattle.replay.proofs.input.take.Tie as tie
+use Rattle.frames.proofs.input.take.Statement.{statement}
+use Rattle.frames.proofs.input.take.Tie as tie
 
 abbrev Inv-loop : tie.InvT-loop
-Inv-loop block₀ to₀ s₀ count₀ block to s count = (s .from ≤ s .end) × (s .end ≤ 65536) × (length to ≡ length to₀)
+Inv-loop block₀ to₀ s₀ count₀ block to s count = Inside s × (length to ≡ length to₀)
 
 abbrev μ-loop : tie.MeasureT-loop
 μ-loop block₀ to₀ s₀ count₀ block to s count = length to₀ - count

@@ -3,6 +3,7 @@ use libc::STDIN_FILENO;
 use print::SIZE;
 ghost use Prim.Native.Nat.{_≤_};
 ghost use lib.ListN.{length};
+ghost use Rattle.frames.specs.Bounds.{Inside};
 
 // The bytes of the block that are read and not yet handed out.
 pub struct Span {
@@ -25,9 +26,9 @@ fn refill(block: &mut [u8]) -> usize
 }
 
 // The span, or where it is empty that of the next block, which is empty where the input has ended.
-fn ready(block: &mut [u8; SIZE], span: Span) -> Span
-    requires { ⌜ (span .from ≤ span .end) × (span .end ≤ 65536) ⌝ }
-    ensures { λ r. ⌜ (r .from ≤ r .end) × (r .end ≤ 65536) ⌝ }
+pub fn ready(block: &mut [u8; SIZE], span: Span) -> Span
+    requires { ⌜ Inside span ⌝ }
+    ensures { λ r. ⌜ Inside r ⌝ }
 {
     if span.from < span.end {
         return span;
@@ -38,8 +39,8 @@ fn ready(block: &mut [u8; SIZE], span: Span) -> Span
 
 // Puts the next bytes of the input into `to`, as far as it has so many.
 pub fn take(block: &mut [u8; SIZE], span: Span, to: &mut [u8]) -> Taken
-    requires { ⌜ (span .from ≤ span .end) × (span .end ≤ 65536) ⌝ }
-    ensures { λ r. ⌜ (r .span .from ≤ r .span .end) × (r .span .end ≤ 65536) ⌝ }
+    requires { ⌜ Inside span ⌝ }
+    ensures { λ r. ⌜ Inside (r .span) ⌝ }
 {
     let mut s = span;
     let mut count = 0;
@@ -62,8 +63,8 @@ pub fn take(block: &mut [u8; SIZE], span: Span, to: &mut [u8]) -> Taken
 
 // Drops the next n bytes of the input, as far as it has so many.
 pub fn skip(block: &mut [u8; SIZE], span: Span, n: usize) -> Taken
-    requires { ⌜ (span .from ≤ span .end) × (span .end ≤ 65536) ⌝ }
-    ensures { λ r. ⌜ (r .span .from ≤ r .span .end) × (r .span .end ≤ 65536) ⌝ }
+    requires { ⌜ Inside span ⌝ }
+    ensures { λ r. ⌜ Inside (r .span) ⌝ }
 {
     let mut s = span;
     let mut count = 0;

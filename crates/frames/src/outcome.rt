@@ -1,0 +1,131 @@
+// What became of a job or a script: its answer, and where it was run its lines, variables and tree.
+use monitor::Outcome;
+use print::Out;
+use print::SIZE;
+use print::answer;
+use print::answer::Answer;
+use print::preorder;
+use print::preorder::Visit;
+use rules::numbers::bits;
+use table::node;
+ghost use Prim.Native.Nat.{_≤_};
+ghost use lib.ListN.{length};
+ghost use Rattle.table.specs.Cells.{Within};
+
+// One more than a table may have, so that check 10 can be seen to fail.
+pub const PLACES: usize = 513;
+
+pub const WORDS: usize = table::CELL * PLACES;
+
+fn wide(x: u8) -> u32 {
+    x as u32
+}
+
+fn put_answer(buf: &mut [u8; SIZE], out: Out, head: &[u8], k: u64, a: Answer) -> Out
+    requires { ⌜ out .used ≤ 65536 ⌝ }
+    ensures { λ r. ⌜ r .used ≤ 65536 ⌝ }
+{
+    let mut r = print::item(buf, out, head, k);
+    r = print::item(buf, r, b"\nending ", a.ending as u64);
+    r = print::item(buf, r, b" index ", a.index as u64);
+    r = print::item(buf, r, b" steps ", a.steps as u64);
+    r = print::item(buf, r, b" lines ", a.lines as u64);
+    print::byte(buf, r, b'\n')
+}
+
+fn put_variable(buf: &mut [u8; SIZE], out: Out, level: u8, value: i32) -> Out
+    requires { ⌜ out .used ≤ 65536 ⌝ }
+    ensures { λ r. ⌜ r .used ≤ 65536 ⌝ }
+{
+    let numbers = [wide(level), bits(value)];
+    print::row(buf, out, b"variable", &numbers, 1)
+}
+
+// The first n variables, a line for each.
+pub fn put_variables(buf: &mut [u8; SIZE], out: Out, n: usize, levels: &[u8], values: &[i32]) -> Out
+    requires { ⌜ (out .used ≤ 65536) × (n ≤ length (now levels)) × (n ≤ length (now values)) ⌝ }
+    ensures { λ r. ⌜ r .used ≤ 65536 ⌝ }
+{
+    let mut r = out;
+    let mut i = 0;
+    while i < n {
+        r = put_variable(buf, r, levels[i], values[i]);
+        i += 1;
+    }
+    r
+}
+
+fn put_node(buf: &mut [u8; SIZE], out: Out, words: &[u32], places: usize, v: Visit) -> Out
+    requires { ⌜ (out .used ≤ 65536) × Within (now words) places (v .place) × (v .depth ≤ 512) ⌝ }
+    ensures { λ r. ⌜ r .used ≤ 65536 ⌝ }
+{
+    let at = v.place;
+    let numbers = [
+        v.depth as u32,
+        wide(node::existence(words, places, at)),
+        wide(node::content(words, places, at)),
+        wide(node::structure(words, places, at)),
+        node::value(words, places, at),
+    ];
+    print::row(buf, out, b"node", &numbers, 4)
+}
+
+// The tree in a table of places, a line for each node in preorder.
+fn put_tree(buf: &mut [u8; SIZE], out: Out, words: &[u32], places: usize) -> Out
+    requires { ⌜ (out .used ≤ 65536) × Within (now words) places 0 ⌝ }
+    ensures { λ r. ⌜ r .used ≤ 65536 ⌝ }
+{
+    let mut r = out;
+    let mut v = preorder::first();
+    let mut k = 0;
+    while k < places {
+        r = put_node(buf, r, words, places, v);
+        v = preorder::next(words, places, v);
+        if !v.found {
+            return r;
+        }
+        k += 1;
+    }
+    r
+}
+
+// The tree of a run that was lent so many places.
+fn put_lent_tree(buf: &mut [u8; SIZE], out: Out, words: &[u32; WORDS], places: usize) -> Out
+    requires { ⌜ out .used ≤ 65536 ⌝ }
+    ensures { λ r. ⌜ r .used ≤ 65536 ⌝ }
+{
+    if places < 1 {
+        return out;
+    }
+    if places > 512 {
+        return out;
+    }
+    put_tree(buf, out, words, places)
+}
+
+// What became of the run number k, behind a word: n variables, places of a table and an area for lines were lent to it.
+pub fn put(
+    buf: &mut [u8; SIZE],
+    out: Out,
+    head: &[u8],
+    k: u64,
+    o: Outcome,
+    n: usize,
+    places: usize,
+    words: &[u32; WORDS],
+    levels: &[u8],
+    values: &[i32],
+    lines: &[u8],
+) -> Out
+    requires { ⌜ (out .used ≤ 65536) × (n ≤ length (now levels)) × (n ≤ length (now values)) ⌝ }
+    ensures { λ r. ⌜ r .used ≤ 65536 ⌝ }
+{
+    let a = answer::of(o);
+    let mut r = put_answer(buf, out, head, k, a);
+    if !answer::was_run(o) {
+        return r;
+    }
+    r = print::lines(buf, r, b"line ", lines, a.lines);
+    r = put_variables(buf, r, n, levels, values);
+    put_lent_tree(buf, r, words, places)
+}
