@@ -7,12 +7,11 @@ import unittest
 
 from support import HOME, assembled, job, program
 
-# "Ways a job can end" of paper 01.
-NUMBERS = [*range(1, 11), *range(21, 27)]
+# "Ways a job can end" of paper 01, and 11 of paper 02, which no job ends with: it is for follow-on scripts alone.
+NUMBERS = [*range(1, 12), *range(21, 27)]
 BY_REPLAY = (9, 10)
+BY_HISTORY = 11
 NEVER = 26
-# 11 is for follow-on scripts, which no program takes yet: its page comes with them.
-FOLLOW_ON = ("BAD_FOLLOW_ON", 11)
 
 
 def read(path):
@@ -32,15 +31,28 @@ class Page:
         assert len(found) <= 1, f"page {self.number} has {len(found)} blocks {kind}"
         return found[0] if found else None
 
+    def bytes(self):
+        """What stands there in hexadecimal, or None."""
+        digits = self.block("hex")
+        return None if digits is None else bytes.fromhex("".join(digits.split()))
+
     def job(self):
-        source, digits = self.block("yoke"), self.block("hex")
-        assert (source is None) != (digits is None), f"page {self.number} needs one job, as yoke or hex"
-        return assembled(source) if source else bytes.fromhex("".join(digits.split()))
+        source, data = self.block("yoke"), self.bytes()
+        assert (source is None) != (data is None), f"page {self.number} needs one job, as yoke or hex"
+        return assembled(source) if source else data
+
+    def limits(self):
+        """The budget, places and lines that the page names."""
+        return [int(n) for n in re.search(r"budget (\d+), places (\d+), lines (\d+)", self.text).groups()]
 
     def frame(self):
-        """The job as a frame of replay, with the limits that the page names."""
-        budget, places, lines = (int(n) for n in re.search(r"budget (\d+), places (\d+), lines (\d+)", self.text).groups())
-        return struct.pack("<IIHH", len(self.job()), budget, places, lines) + self.job()
+        """The job as a frame of replay."""
+        return struct.pack("<IIHH", len(self.job()), *self.limits()) + self.job()
+
+    def events(self):
+        """The job and the script behind it as events of history."""
+        parts = enumerate((assembled(self.block("yoke")), self.bytes()))
+        return b"".join(struct.pack("<IIIHH", kind, len(data), *self.limits()) + data for kind, data in parts)
 
 
 PAGES = {path.name: Page(path) for path in sorted((HOME / "docs" / "endings").glob("*.md")) if path.name != "README.md"}
@@ -68,7 +80,7 @@ class Lists(unittest.TestCase):
                          {("PORTAL_FINISHED", 0), *((page.c_name, page.number) for page in PAGES.values())})
 
     def test_names_of_the_programs(self):
-        names = {0: "finished", **{page.number: page.name for page in PAGES.values()}}
+        names = {0: "finished", **{page.number: page.name for page in PAGES.values() if page.number != BY_HISTORY}}
         found = re.findall(r'^\s*(\d+) => .*b"([^"]+)"', read("crates/inspect/src/names.rt"), re.M)
         self.assertEqual({int(number): name for number, name in found}, names)
         c_names = {"PORTAL_FINISHED": "finished", **{page.c_name: page.name for page in PAGES.values()}}
@@ -78,18 +90,18 @@ class Lists(unittest.TestCase):
     def test_code(self):
         found = re.findall(r"^pub const (\w+): u8 = (\d+);$", read("crates/rules/src/limits.rt"), re.M)
         self.assertEqual({(name, int(number)) for name, number in found},
-                         {(page.rules_name, page.number) for page in PAGES.values()} | {FOLLOW_ON})
+                         {(page.rules_name, page.number) for page in PAGES.values()})
 
     def test_definitions(self):
         refusals = re.findall(r"^bad\w+ = (\d+)$", read("crates/rules/specs/Limits.antt"), re.M)
         stops = re.findall(r"^stopNumber \w+ = (\d+)$", read("crates/rules/specs/Run.antt"), re.M)
-        self.assertEqual([int(number) for number in refusals + stops], sorted(NUMBERS + [FOLLOW_ON[1]]))
+        self.assertEqual([int(number) for number in refusals + stops], NUMBERS)
 
 
 class Jobs(unittest.TestCase):
     def test_inspect(self):
         for page in PAGES.values():
-            if page.number == NEVER or page.number in BY_REPLAY:
+            if page.number in (NEVER, BY_HISTORY, *BY_REPLAY):
                 continue
             with self.subTest(page.number):
                 said = page.block("text")
@@ -107,6 +119,11 @@ class Jobs(unittest.TestCase):
                 with self.subTest(page.number):
                     self.assertEqual(answer("replay", page.frame()), page.block("text"))
                     self.assertIn(f"ending {page.number} ", page.block("text"))
+
+    def test_history(self):
+        page = PAGES[f"{BY_HISTORY}.md"]
+        self.assertEqual(answer("history", page.events()), page.block("text"))
+        self.assertIn(f"script 1\nending {page.number} ", page.block("text"))
 
     def test_the_ending_that_no_run_gives(self):
         page = PAGES[f"{NEVER}.md"]

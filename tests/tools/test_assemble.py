@@ -150,5 +150,76 @@ class Program(unittest.TestCase):
                 self.assertIn(f"warning: the monitor refuses this job with {number} (", done.error)
 
 
+class Bare(unittest.TestCase):
+    """Follow-on scripts, as bare sections."""
+
+    SCRIPT = "script\n  first child\n  h := value + a\n"
+    SECTION = record(9) + record(1, 1, 1, (2, 0), (1, 0))
+
+    def bare(self, *words, data=SCRIPT):
+        return tool("assemble", "--bare", "-", "-o", "-", *words, data=data)
+
+    def over(self, data):
+        """The script with the variables of a source or a job in a file."""
+        with scratch() as folder:
+            path = Path(folder, "base")
+            path.write_bytes(data)
+            return self.bare("--tree", str(path))
+
+    def test_the_variables_are_those_of_a_source_or_a_job(self):
+        whole = VARIABLES + TREE + "script\n  up\n"
+        for text in (whole, VARIABLES + TREE, "variables\n  a = 0\n  h house = 1\n"):
+            done = self.over(text.encode())
+            self.assertEqual((done.status, done.error, done.bytes.hex()), (0, "", self.SECTION.hex()))
+        with scratch() as folder:
+            path = Path(folder, "base.job")
+            path.write_bytes(assembled(whole))
+            done = self.bare("--tree", str(path), data="script\n  first child\n  v1 := value + v0\n")
+        self.assertEqual((done.status, done.error, done.bytes), (0, "", self.SECTION))
+
+    def test_without_names(self):
+        done = self.bare(data="script\n  v63 := v0\n")
+        self.assertEqual((done.status, done.error, done.bytes), (0, "", record(1, 63, left=(1, 0))))
+
+    def test_it_is_the_script_section_of_a_job(self):
+        done = self.over((VARIABLES + TREE).encode())
+        self.assertIn(done.bytes, assembled(VARIABLES + TREE + self.SCRIPT))
+
+    def test_an_empty_script(self):
+        self.assertEqual((self.bare(data="script\n").status, self.bare(data="script\n").bytes), (0, b""))
+
+    def test_to_a_file_beside_the_source(self):
+        with scratch() as folder:
+            path = Path(folder, "x.yoke")
+            path.write_text("script\n  first child\n")
+            self.assertEqual(tool("assemble", "--bare", str(path)).status, 0)
+            self.assertEqual(Path(folder, "x.section").read_bytes(), record(9))
+            path = path.rename(Path(folder, "x.section"))
+            done = tool("assemble", "--bare", str(path))
+            self.assertEqual(done.status, 2)
+            self.assertIn("the section would be written over its source", done.error)
+
+    def test_mistakes(self):
+        for text, message in (
+                ("script\n  print a\n", ":2:9: error: there is no variable 'a'; the variables are those of a job that is not named: v0 to v63"),
+                ("variables\n  a = 1\nscript\n  up\n", ":1:1: error: a follow-on script has no variables of its own"),
+                ("tree\n  a = 1\nscript\n  up\n", ":1:1: error: a follow-on script has no tree of its own"),
+                ("# nothing\n", ": a follow-on script has the section script"),
+                (assembled(TREE), ": this is a job; a follow-on script is a script section alone"),
+                (record(9), ": this is no source; `tools/job list --bare` shows a bare section")):
+            done = self.bare(data=text)
+            self.assertEqual((done.status, done.bytes), (2, b""))
+            self.assertTrue(done.error.startswith("<standard input>" + message), done.error)
+        self.assertIn("there is no variable 'h'; the variables are those of ", self.over(b"variables\n  a = 0\n").error)
+
+    def test_a_script_that_the_monitor_refuses_is_written_with_a_warning(self):
+        deep = "script\n" + "".join(" " * (n + 2) + "if 1\n" for n in range(17)) + " " * 19 + "up\n"
+        for text, place, number, records in ((deep, ":18:19:", 8, 35), ("script\n" + "  up\n" * 1025, ":", 11, 1025)):
+            done = self.bare(data=text)
+            self.assertEqual((done.status, len(done.bytes)), (0, 16 * records))
+            self.assertTrue(done.error.startswith(f"<standard input>{place} warning: the monitor refuses this script with {number} ("), done.error)
+            self.assertNotIn("--tree", done.error)
+
+
 if __name__ == "__main__":
     unittest.main()

@@ -2,8 +2,9 @@
 
 import struct
 import unittest
+from pathlib import Path
 
-from support import HOME, assembled, generated, job, replayed, tool
+from support import HOME, assembled, generated, job, replayed, scratch, tool
 
 ROOT = "ffff 000000 000000 0a000000"
 
@@ -133,6 +134,67 @@ class Lists(unittest.TestCase):
         answers = replayed([data for data, _, _, _ in DAMAGED], 100)
         for (data, number, index, message), answer in zip(DAMAGED, answers):
             self.assertEqual(answer, [f"ending {number} index {index} steps 0 lines 0"], message)
+
+
+class Bare(unittest.TestCase):
+    """Bare sections of follow-on scripts."""
+
+    SCRIPT = "script\n  v1 := mean(value, v0)\n  if v0 < 3\n    new first child list house: children\n  else\n    empty\n"
+
+    def section(self, text):
+        done = tool("assemble", "--bare", "-", "-o", "-", data=text)
+        self.assertEqual((done.status, done.error), (0, ""))
+        return done.bytes
+
+    def listed(self, data, *words):
+        return tool("list", "--bare", "-", *words, data=data)
+
+    def test_a_section(self):
+        done = self.listed(self.section(self.SCRIPT))
+        self.assertEqual((done.status, done.error, done.output), (0, "", self.SCRIPT))
+        self.assertEqual(self.listed(b"").output, "script\n")
+
+    def test_names_of_a_source(self):
+        with scratch() as folder:
+            path = Path(folder, "base")
+            path.write_text("variables\n  depth = 0\n  beds house = 1\ntree\n  resort = 1\nscript\n  up\n")
+            done = self.listed(self.section(self.SCRIPT), "--tree", str(path))
+            self.assertEqual((done.status, done.output), (0, self.SCRIPT.replace("v0", "depth").replace("v1", "beds")))
+            done = self.listed(self.section("script\n  print v2\n"), "--tree", str(path))
+            self.assertEqual((done.status, done.output), (1, ""))
+            self.assertIn("its left side is variable 2, and there are 2 variables", done.error)
+
+    def test_spare_bytes_are_noted(self):
+        done = self.listed(b"\x08\0\0\0\0\1" + bytes(9) + b"\2")
+        self.assertEqual((done.status, done.output), (0, "script\n  up\n"))
+        self.assertIn("2 bytes that nobody reads are not zero", done.error)
+
+    def test_sections_that_are_refused(self):
+        for data, number, message in (
+                (bytes(15), 11, "the section has 15 bytes, which is no multiple of 16"),
+                (bytes(16 * 1025), 11, "the section has 1,025 records; it must have 0 to 1,024"),
+                (b"\x11" + bytes(15), 7, "record 0, bytes 0 to 15: its command is 17"),
+                (b"\x01\x40" + bytes(14), 7, "record 0, bytes 0 to 15: its target is variable 64, and there are 64 variables"),
+                (b"\x04" + bytes(15), 8, "the script's end: the script ends with 1 block still open")):
+            done = self.listed(data)
+            self.assertEqual((done.status, done.output), (1, ""))
+            self.assertIn(f"<standard input>: refused with {number} ({job.ENDINGS[number]}): {message}", done.error)
+
+    def test_what_is_no_section(self):
+        for data, message in ((assembled(CLEAN), "this is a job; a follow-on script is"),
+                              (self.SCRIPT.encode(), "this is a source and no bare section; `tools/job assemble --bare`"),
+                              (self.SCRIPT.encode("utf-16"), "this is UTF-16")):
+            done = self.listed(data)
+            self.assertEqual((done.status, done.output), (2, ""))
+            self.assertIn(message, done.error)
+        done = tool("list", "-", "--tree", "x", data=assembled(CLEAN))
+        self.assertEqual((done.status, done.output), (2, ""))
+        self.assertIn("with --bare", done.error)
+
+    def test_list_and_assemble_undo_each_other(self):
+        for data in generated("clean", 30_000, 100):
+            section = job.encode_script(job.decode(data).records)
+            self.assertEqual(self.section(self.listed(section).output).hex(), section.hex())
 
 
 class RoundTrips(unittest.TestCase):

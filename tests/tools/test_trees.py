@@ -89,7 +89,7 @@ class Trees(unittest.TestCase):
             self.assertEqual(run("--tree", "-", path("script"), data=HOUSE).status, 0)
             done = run("--tree", "-", "-", data=HOUSE)
             self.assertEqual(done.status, 2)
-            self.assertIn("not both", done.error)
+            self.assertIn("one of the files, not two", done.error)
 
     def test_a_stop_is_shown_in_the_script(self):
         with Files(house=HOUSE, script=SCRIPT + "  print beds\n") as path:

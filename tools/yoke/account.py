@@ -142,10 +142,17 @@ class Account:
     def raise_part(self, node, part):
         """How to make a part of a node house: where the tree has it, or where the script makes it."""
         if node.made is not None:
-            return f"Write `{part} house` where line {self.line_of(node.made)} makes the node."
+            here = self.source.names.record_places[self.run.at].text
+            where = f"line {node.made.line}" + ("" if node.made.text is here else f" of {node.made.text.path}")
+            return f"Write `{part} house` where {where} makes the node."
         content = HOUSE if part == "content" else node.content
         below = HOUSE if part == "list" else node.list
-        return f"Give {node.name} the level `{part} house`: `{node.name}{levels_text(node.existence, content, below)} = ...`."
+        return (f"Give {node.name} the level `{part} house`{self.declared()}: "
+                f"`{node.name}{levels_text(node.existence, content, below)} = ...`.")
+
+    def declared(self):
+        """Where a follow-on script's variables and tree are written."""
+        return f" in {self.source.over}" if self.source.over else ""
 
     # One method for each number.
 
@@ -168,8 +175,8 @@ class Account:
             name = self.source.names.variables[self.record.target]
             operands = [Reason(name, PUBLIC, "the variable that should take the number")] + [
                 reason for reason in operands if reason.what != name]
-            self.advice.append(f"Declare a house variable and use it in place of `{name}`. What depends on house numbers "
-                               "can then be worked on, but not printed.")
+            self.advice.append(f"Declare a house variable{self.declared()} and use it in place of `{name}`. What depends on house "
+                               "numbers can then be worked on, but not printed.")
         elif command == SET:
             node = self.run.cursor
             operands.insert(0, Reason(f"content of {node.name}", PUBLIC, "the node that should take the value"))
@@ -289,20 +296,32 @@ def agrees(run, outcome):
 
 def report(run, outcome, whole=False):
     """The outcome of a job that was run and followed, in lines; of the tree, all or what is left of long runs."""
-    source, same = run.source, agrees(run, outcome)
+    return ended_lines(run, outcome) + left_lines(run.source.names.variables, outcome.variables, left_tree(run, outcome), whole)
+
+
+def ended_lines(run, outcome):
+    """How it ended, and the board."""
     if outcome.ending == FINISHED:
-        lines = [f"{source.path}: finished after {plural(outcome.steps, 'step')}"]
+        lines = [f"{run.source.path}: finished after {plural(outcome.steps, 'step')}"]
     else:
-        lines = stop_lines(source, outcome, run if same else None)
+        lines = stop_lines(run.source, outcome, run if agrees(run, outcome) else None)
     lines += ["", f"board, {plural(len(outcome.lines), 'line')}"]
-    lines += [f"  {line}" for line in outcome.lines]
-    if outcome.variables:
-        lines += ["", "variables at the end"]
-    for name, (level, value) in zip(source.names.variables, outcome.variables):
+    return lines + [f"  {line}" for line in outcome.lines]
+
+
+def left_tree(run, outcome):
+    """The last tree as pictures, with names where following the rules gave the same."""
+    if agrees(run, outcome):
+        return drawn_tree(run.root)
+    return [row._replace(name=f"node {index}") for index, row in enumerate(outcome.tree)]
+
+
+def left_lines(names, variables, tree, whole):
+    """The last variables and the last tree."""
+    lines = ["", "variables at the end"] if variables else []
+    for name, (level, value) in zip(names, variables):
         lines.append(f"  {name}{levels_text(level, level, level)} = {value}")
-    nodes = drawn_tree(run.root) if same else [row._replace(name=f"node {index}") for index, row in enumerate(outcome.tree)]
-    lines += ["", "tree at the end"] + ["  " + row for row in text_picture(nodes, whole)]
-    return lines
+    return lines + ["", "tree at the end"] + ["  " + row for row in text_picture(tree, whole)]
 
 
 def stop_lines(source, outcome, run):

@@ -1,14 +1,15 @@
-"""The checks 1 to 10."""
+"""The checks 1 to 11."""
 
 from typing import NamedTuple
 
 from .commands import CHILDREN, COMMANDS, ELSE, END, MEAN, NAMED
-from .encoding import NODE, RECORD, TRAILER, VARIABLE, decode
+from .encoding import NODE, RECORD, TRAILER, VARIABLE, decode, decode_script
 from .endings import ending_text
 from .limits import MAX_BUDGET, MAX_BYTES, MAX_DEPTH, MAX_NODES, MAX_RECORDS, MAX_VARIABLES, NO_PARENT
 
+
 class Fault(NamedTuple):
-    """Why the monitor turns a job back: its number, its index, and for people the section, the bytes and a sentence."""
+    """Why the monitor turns a job or a follow-on script back: its number, its index, and for people the section, the bytes and a sentence."""
 
     number: int
     index: int
@@ -32,17 +33,34 @@ def check(data):
         return fault
     _, nodes, script, _ = TRAILER.unpack(data[-8:])
     job = decode(data)
-    searches = (
+    return first_fault((
         (4, "variable", 0, VARIABLE.size, variable_faults(job)),
         (5, "node", nodes, NODE.size, parent_faults(job)),
         (6, "node", nodes, NODE.size, tree_faults(job)),
-        (7, "record", script, RECORD.size, field_faults(job)),
-        (8, "record", script, RECORD.size, block_faults(job)),
-    )
+        (7, "record", script, RECORD.size, field_faults(job.records, len(job.variables))),
+        (8, "record", script, RECORD.size, block_faults(job.records)),
+    ), len(data))
+
+
+def check_section(data, variables):
+    """The first of the checks 11, 7 and 8 that a bare section fails, over a tree and so many variables that stand, or None."""
+    if len(data) % RECORD.size:
+        return Fault(11, 0, "", 0, len(data), f"the section has {plural(len(data), 'byte')}, which is no multiple of {RECORD.size}")
+    records = decode_script(data)
+    if len(records) > MAX_RECORDS:
+        return Fault(11, 0, "", 0, len(data), f"the section has {plural(len(records), 'record')}; it must have 0 to {MAX_RECORDS:,}")
+    return first_fault((
+        (7, "record", 0, RECORD.size, field_faults(records, variables)),
+        (8, "record", 0, RECORD.size, block_faults(records)),
+    ), len(data))
+
+
+def first_fault(searches, end):
+    """The first fault of the first search that has one, or None. The script's end has the bytes behind it, which are a trailer's or none."""
     for number, section, start, size, faults in searches:
         for index, text in faults:
-            length = size if start + index * size < len(data) - 8 else 8
-            return Fault(number, index, section, start + index * size, length, text)
+            at = start + index * size
+            return Fault(number, index, section, at, min(size, end - at), text)
     return None
 
 
@@ -124,9 +142,8 @@ def place_fault(node, job, last):
     return ""
 
 
-def field_faults(job):
-    count = len(job.variables)
-    for index, record in enumerate(job.records):
+def field_faults(records, count):
+    for index, record in enumerate(records):
         text = field_fault(record, count)
         if text:
             yield index, text
@@ -159,9 +176,9 @@ ELSE_FAULTS = {
 }
 
 
-def block_faults(job):
+def block_faults(records):
     blocks = []  # the open ones: "if", "else" for an if past its else, or "while"
-    for index, record in enumerate(job.records):
+    for index, record in enumerate(records):
         if COMMANDS[record.command].opens:
             if len(blocks) == MAX_DEPTH:
                 yield index, f"it opens the {MAX_DEPTH + 1}th nested block; {MAX_DEPTH} are allowed"
@@ -178,7 +195,7 @@ def block_faults(job):
                 return
             blocks.pop()
     if blocks:
-        yield len(job.records), f"the script ends with {plural(len(blocks), 'block')} still open"
+        yield len(records), f"the script ends with {plural(len(blocks), 'block')} still open"
 
 
 def check_limits(job, limits):
@@ -197,6 +214,7 @@ def describe(fault):
     """A fault in words, without the names of a source."""
     where = ""
     if fault.section:
-        where = f"{fault.section} {fault.index}, " if fault.length != 8 or fault.section == "variable" else "the script's end, "
-        where += f"bytes {fault.start} to {fault.start + fault.length - 1}: "
+        at_end = fault.section == "record" and fault.length < RECORD.size
+        where = "the script's end" if at_end else f"{fault.section} {fault.index}"
+        where += f", bytes {fault.start} to {fault.start + fault.length - 1}: " if fault.length else ": "
     return f"refused with {ending_text(fault.number)}: {where}{fault.text}"

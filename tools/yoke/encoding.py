@@ -11,7 +11,6 @@ RECORD = struct.Struct("<BBBBB3xII")
 TRAILER = struct.Struct("<HHHH")
 
 
-
 class Variable(NamedTuple):
     level: int
     value: int
@@ -71,7 +70,7 @@ class Job(NamedTuple):
         sections = [
             b"".join(VARIABLE.pack(*v) for v in self.variables),
             b"".join(NODE.pack(*n) for n in self.nodes),
-            b"".join(RECORD.pack(*r) for r in self.records),
+            encode_script(self.records),
         ]
         nodes = len(sections[0])
         script = nodes + len(sections[1])
@@ -85,8 +84,17 @@ def decode(data):
     return Job(
         [Variable(*v) for v in VARIABLE.iter_unpack(data[variables:nodes])],
         [Node(*n) for n in NODE.iter_unpack(data[nodes:script])],
-        [Record(*r) for r in RECORD.iter_unpack(data[script:trailer])],
+        decode_script(data[script:trailer]),
     )
+
+
+def encode_script(records):
+    """A script section; alone it is a follow-on script's."""
+    return b"".join(RECORD.pack(*r) for r in records)
+
+
+def decode_script(data):
+    return [Record(*r) for r in RECORD.iter_unpack(data)]
 
 
 def signed(number):

@@ -12,6 +12,7 @@ ENDINGS = {
     8: "blocks do not match",
     9: "budget out of range",
     10: "buffers do not fit",
+    11: "follow-on not whole",
     21: "flow rule broken",
     22: "node does not exist",
     23: "table full",
@@ -26,7 +27,7 @@ STOPS = [number for number in ENDINGS if number >= FLOW]
 
 
 def refused(number):
-    """Whether the number turns a job back; from 21 on, a run has stopped."""
+    """Whether the number turns a job or a script back; from 21 on, a run has stopped."""
     return 0 < number < FLOW
 
 

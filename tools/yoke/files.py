@@ -4,13 +4,13 @@ import sys
 from pathlib import Path
 
 from .account import named_fault
-from .checks import check, plural
-from .encoding import decode
+from .checks import check, check_section, plural
+from .encoding import decode, decode_script, encode_script
 from .endings import ending_text
-from .errors import JobError, RefusedError, quoted, visible
-from .language import parse, parse_text, parse_tree_text
+from .errors import JobError, RefusedError, Text, quoted, visible
+from .language import parse, parse_script_text, parse_text, parse_tree_text, unknown_tree
 from .limits import PROGRAM
-from .listing import listing
+from .listing import listing, script_lines
 from .streams import warn
 from .words import decoded
 
@@ -99,10 +99,57 @@ def read_either(path, tree_path=None):
     return source, source.job.encode()
 
 
-def warn_of(source, fault):
-    """A source may hold a job that the monitor turns back; the author should know."""
+# Follow-on scripts: a source with a script section alone, or a bare section of bytes.
+
+
+def read_over(path):
+    """What a follow-on script runs over, for the names of its variables: a source or a job."""
+    if path is None:
+        return unknown_tree()
+    source, data = read_either(path)
+    return source or source_of_job(data, path)
+
+
+def read_section(path):
+    """A bare section."""
+    data = read_bytes(path)
+    need_no_utf16(data, path)
+    if is_source(data):
+        raise JobError(f"{shown(path)}: this is a source and no bare section; `{PROGRAM} assemble --bare` makes one of it")
+    need_no_job(data, path)
+    return data
+
+
+def need_no_job(data, path):
+    """A job has a trailer, which no section has."""
+    fault = check(data)
+    if fault is None or fault.number > 3:
+        raise JobError(f"{shown(path)}: this is a job; a follow-on script is a script section alone, in a source or as bytes")
+
+
+def read_script(path, over):
+    """A follow-on script as a source or None, and as a bare section."""
+    data = read_bytes(path)
+    need_no_utf16(data, path)
+    if not is_source(data):
+        need_no_job(data, path)
+        return None, data
+    source = parse_script_text(decoded(data, shown(path)), over)
+    return source, encode_script(source.job.records)
+
+
+def source_of_section(data, path, over):
+    """A bare section that is accepted, as the source that `list --bare` would print."""
+    fault = check_section(data, len(over.job.variables))
+    if fault:
+        raise RefusedError(shown(path), fault)
+    return parse_script_text(Text(f"list of {shown(path)}", script_lines(decode_script(data), over.names.variables)), over)
+
+
+def warn_of(source, fault, what="job"):
+    """A source may hold a job or a script that the monitor turns back; the author should know."""
     place = source.place_of(fault)
-    said = f"warning: the monitor refuses this job with {ending_text(fault.number)}: {named_fault(source, fault)}"
+    said = f"warning: the monitor refuses this {what} with {ending_text(fault.number)}: {named_fault(source, fault)}"
     if place:
         warn("\n".join([f"{place}: {said}", *quoted(place)]))
     else:
@@ -110,5 +157,7 @@ def warn_of(source, fault):
 
 
 def no_tree(source):
-    """A script of its own needs a tree."""
-    return f"\nA script without a tree takes one from another file: --tree TREE" if not source.job.nodes else ""
+    """A script of its own needs a tree, which it takes from another file or finds standing."""
+    if source.job.nodes or source.over:
+        return ""
+    return "\nA script without a tree takes one from another file: --tree TREE"

@@ -4,7 +4,7 @@ from typing import NamedTuple
 
 from .encoding import Job, Node, Variable
 from .errors import JobError, SourceError, Text, word
-from .limits import NO_PARENT, PUBLIC
+from .limits import MAX_VARIABLES, NO_PARENT, PUBLIC
 from .script import Script
 from .words import Token, Words, natural, scan
 
@@ -30,6 +30,7 @@ class Source(NamedTuple):
     path: str
     job: Job
     names: Names
+    over: str = ""  # the path of the source whose variables and tree a follow-on script runs over
 
     def place_of(self, fault):
         """Where the source has the record that a fault is about."""
@@ -66,6 +67,25 @@ def parse_tree_text(text):
     """A source that has variables and a tree, and no script."""
     refuse_section(split_sections(scan(text))["script"], "a tree in a file of its own has no script")
     return parse_text(text)
+
+
+def parse_script_text(text, over):
+    """A follow-on script: a script section alone, over the variables and the tree of another source."""
+    sections = split_sections(scan(text))
+    for name in ("variables", "tree"):
+        refuse_section(sections[name], f"a follow-on script has no {name} of its own: it runs over those that stand")
+    if sections["script"].heading is None:
+        raise JobError(f"{text.path}: a follow-on script has the section script, and there is none here")
+    script = Script(over.names.variables, f"the variables are those of {over.path}")
+    records, record_places = script.parse(sections["script"].lines)
+    return Source(text.path, over.job._replace(records=records), over.names._replace(record_places=record_places), over.path)
+
+
+def unknown_tree():
+    """What a follow-on script runs over where it is not said: as many variables as there may be, with the names that `list` gives."""
+    names = [f"v{index}" for index in range(MAX_VARIABLES)]
+    return Source(f"a job that is not named: v0 to v{MAX_VARIABLES - 1} (--tree TREE names one)",
+                  Job([Variable(PUBLIC, 0)] * MAX_VARIABLES, [], []), Names(names, [], [], [], []))
 
 
 class Section(NamedTuple):

@@ -75,14 +75,13 @@ def listing(job):
         at = "" if in_order else f" record {index}"
         lines.append(f"{'  ' * (depth + 1)}n{index}{levels_text(*node[1:4])} = {node.value}{at}")
     if job.records:
-        lines.append("script")
         lines += script_lines(job.records, variables)
     return "\n".join(lines) + "\n"
 
 
 def script_lines(records, variables):
-    """A script's statements, indented as its blocks."""
-    lines, depth, opened = [], 1, False
+    """The script section: statements, indented as its blocks."""
+    lines, depth, opened = ["script"], 1, False
     for record in records:
         closes = record.command in (ELSE, END)
         if closes and opened:

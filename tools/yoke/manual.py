@@ -58,6 +58,12 @@ the monitor would refuse is written, with a warning.
 
 With --tree the source has a script, and variables of its own if it likes; the
 other file has the tree, and variables that come before those of the script.
+
+  tools/job assemble --bare examples/season-1.yoke --tree examples/season.yoke
+
+With --bare the source has a script and nothing else, and becomes the bare
+section of a follow-on script. Its variables are those of TREE; without --tree
+they are called v0 to v63, as `list --bare` calls them.
 """,
     "list": """\
 Shows a job as a source, with names v0, v1 .. and n0, n1 .. by index. Assembling
@@ -65,6 +71,11 @@ that source gives the same bytes, except bytes that nobody reads: they become 0.
 Of a job that the monitor would refuse it says what is wrong and where.
 
   tools/job list depths.job
+  tools/job list --bare season-1.section --tree examples/season.yoke
+
+With --bare it shows the bare section of a follow-on script. That has no
+variables and no tree; --tree says whose names it takes and how many variables
+there are.
 """,
     "picture": """\
 Draws the tree of a source or a job: in characters, or as SVG. House parts are
@@ -94,6 +105,15 @@ target/bin, or takes $INSPECT and $REPLAY.
 A row of --trace has the step, the line and record, the statement, the node
 under the cursor, the context and the cursor level before the step, and what
 the step changed.
+
+  tools/job run examples/season.yoke examples/season-1.yoke
+
+Scripts behind the source are follow-on scripts: each runs over the variables
+and the tree that the one before it left, from the root, with a budget and a
+board of its own. A file is a source with a script and nothing else, or a bare
+section of bytes. A script that is stopped leaves what it did; one that is
+refused changes nothing; the next goes on. A node that script 2 adds in line 4
+is called new2_4. The program for this is history, in target/bin or $HISTORY.
 
 It shows house numbers: it is for whoever owns them. The public sees the board.
 """,
@@ -130,7 +150,7 @@ the run has finished; then there is one board or none.
 }
 
 STATUS = """\
-exit status: 0 all is well; 1 the job is refused or stopped, or for probe there
-is more than one board; 2 a mistake in the source or the call, or something that
-cannot be read, written or run. An interrupt ends the program by its signal.
+exit status: 0 all is well; 1 a job or script is refused or stopped, or probe
+finds more than one board; 2 a mistake in the source or the call, or what cannot
+be read, written or run. An interrupt ends the program by its signal.
 """

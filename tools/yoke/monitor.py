@@ -13,6 +13,8 @@ from .limits import HOME
 from .pictures import Picture
 
 FRAME = struct.Struct("<IIHH")
+EVENT = struct.Struct("<IIIHH")
+JOB, SCRIPT = 0, 1  # kinds of events
 
 
 class Outcome(NamedTuple):
@@ -103,7 +105,7 @@ def read_outcome(text):
     return Outcome(ending, record, steps, lines, variables, tree)
 
 
-# replay: many jobs in one process, with limits of their own.
+# replay: many jobs in one process, with limits of their own. history: a job, and scripts over the tree that it leaves.
 
 
 def frame(data, limits):
@@ -111,12 +113,27 @@ def frame(data, limits):
 
 
 def replay(frames, brief=False):
-    """The outcome of each frame, in order; in brief, without variables and tree. The frames are written while the answers are read."""
-    child = start("replay")
+    """The outcome of each frame, in order; in brief, without variables and tree."""
+    return outcomes("replay", frames, "job", brief)
+
+
+def history(job, sections, limits):
+    """The outcome of a job and of each bare section behind it, over what stands then."""
+    events = [EVENT.pack(kind, len(data), limits.budget, limits.places, limits.lines) + data
+              for kind, data in [(JOB, job)] + [(SCRIPT, data) for data in sections]]
+    answers = list(outcomes("history", events, "script"))
+    if len(answers) != len(events):
+        raise misread("history", f"{len(events)} answers expected", 0, f"there are {len(answers)}")
+    return answers
+
+
+def outcomes(name, parts, heads, brief=False):
+    """The outcome of each part of a program's input, in order; the first is a job. The parts are written while the answers are read."""
+    child = start(name)
 
     def feed():
         try:
-            for data in frames:
+            for data in parts:
                 child.stdin.write(data)
             child.stdin.close()
         except OSError:  # it has ended; its answers will show that some are missing
@@ -125,13 +142,13 @@ def replay(frames, brief=False):
     writer = threading.Thread(target=feed, daemon=True)
     writer.start()
     rows = (row.decode("utf-8", "replace").rstrip("\n") for row in child.stdout)
-    answers = Answers(rows)
+    answers = Answers(rows, heads)
     try:
         while answers.more():
             yield answers.read(brief)
     except (ValueError, IndexError) as problem:
         child.kill()
-        raise misread("replay", problem, child.wait(), answers.row or "") from None
+        raise misread(name, problem, child.wait(), answers.row or "") from None
     finally:
         child.stdout.close()
         child.stderr.close()
@@ -140,10 +157,11 @@ def replay(frames, brief=False):
 
 
 class Answers:
-    """replay's outcome blocks, row by row."""
+    """Outcome blocks, row by row; heads is the word that starts each behind the first."""
 
-    def __init__(self, rows):
+    def __init__(self, rows, heads):
         self.rows = rows
+        self.heads = heads
         self.count = 0
         self.next()
 
@@ -172,9 +190,10 @@ class Answers:
             self.next()
 
     def read(self, brief):
-        (number,) = self.numbers("job")
+        head = self.heads if self.count else "job"
+        (number,) = self.numbers(head)
         if number != self.count:
-            raise ValueError(f"job {self.count} expected, there is job {number}")
+            raise ValueError(f"{head} {self.count} expected, there is {head} {number}")
         self.count += 1
         ending, record, steps, count = self.numbers("ending", "index", "steps", "lines")
         lines = [value for (value,) in self.several("line")]

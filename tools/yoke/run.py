@@ -1,16 +1,18 @@
 """A run, followed by the paper's rules beside the monitor."""
 
+from typing import NamedTuple
+
 from .commands import (
     ALONE, ASSIGN, COMMANDS, CONSTANT, COVER, DIFFERENCE, ELSE, END, EQUAL, FIRST_CHILD, LESS, MARK_CONTENT, MARK_LIST, MEAN,
     MOVES, NAMED, NEW_FIRST_CHILD, PRINT, REMOVALS, REMOVE_FIRST_CHILD, ROOT, SET, SUM, UP, VALUE, WHILE)
-from .encoding import signed
+from .encoding import Node, signed
 from .endings import ABSENT, BELOW, FINISHED, FLOW, FULL_BOARD, FULL_TABLE, USED_UP
 from .limits import HOUSE, PUBLIC, Limits
-from .pictures import Picture
+from .pictures import Picture, parents_of
 
 
 class Tree:
-    """A node of a run, with the name that the source gave it, or of the record and line that made it."""
+    """A node of a run, with the name that the source gave it, or that of the line that made it, and the place of that line."""
 
     def __init__(self, name, parent, existence, content, below, value, made=None):
         self.name = name
@@ -34,10 +36,10 @@ class Tree:
         return row[at] if at < len(row) else None
 
 
-def grow(job, names):
-    """The job's tree."""
+def grow(nodes, names):
+    """The tree of a job's nodes."""
     made = []
-    for node, name in zip(job.nodes, names):
+    for node, name in zip(nodes, names):
         parent = made[node.parent] if made else None
         made.append(Tree(name, parent, *node[1:]))
         if parent:
@@ -65,6 +67,24 @@ OPERATIONS = {
 }
 
 
+class Standing(NamedTuple):
+    """What a script finds and leaves: the variables' values and the tree."""
+
+    values: list
+    root: Tree
+
+
+def loaded(job, names):
+    """What a job brings."""
+    return Standing([variable.value for variable in job.variables], grow(job.nodes, names))
+
+
+def told(variables, rows):
+    """What a program says that stands: pairs of level and value, and the tree as pictures."""
+    nodes = [Node(parent, *row[1:5]) for parent, row in zip(parents_of(rows), rows)]
+    return Standing([value for _, value in variables], grow(nodes, [row.name for row in rows]))
+
+
 class Stopped(Exception):
     def __init__(self, number):
         super().__init__(number)
@@ -77,13 +97,15 @@ class Run:
     The monitor decides: what this says is shown only where both agree.
     """
 
-    def __init__(self, source, limits=Limits()):
+    def __init__(self, source, limits=Limits(), standing=None, new="new"):
+        """A job's run, or a follow-on script's over what stands; new nodes are called by a word and their line."""
         self.source = source
         self.job = source.job
         self.limits = limits
-        self.values = [v.value for v in self.job.variables]
-        self.root = self.cursor = grow(self.job, source.names.nodes)
-        self.live = len(self.job.nodes)
+        self.new = new
+        self.values, self.root = standing or loaded(self.job, source.names.nodes)
+        self.cursor = self.root
+        self.live = len(drawn_tree(self.root))
         self.cursor_level = PUBLIC
         self.raised_by = None  # the record that made the cursor level house
         self.blocks = []  # the level and the record of each open guard
@@ -214,8 +236,8 @@ class Run:
             raise Stopped(FULL_TABLE)
         content = HOUSE if record.target & MARK_CONTENT else level
         below = HOUSE if record.target & MARK_LIST else here
-        name = f"new_{self.source.names.record_places[self.at].line}"
-        parent.children.insert(at, Tree(name, parent, here, content, below, value, self.at))
+        made = self.source.names.record_places[self.at]
+        parent.children.insert(at, Tree(f"{self.new}_{made.line}", parent, here, content, below, value, made))
         self.live += 1
 
     def target(self, command):

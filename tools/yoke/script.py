@@ -40,8 +40,9 @@ class Block:
 class Script:
     """The script section: statements, and blocks by indentation."""
 
-    def __init__(self, variables):
+    def __init__(self, variables, hint="declare it in the section variables"):
         self.variables = list(variables)
+        self.hint = hint  # where a name is unknown
         self.index = {name: index for index, name in enumerate(self.variables)}
         self.records = []
         self.places = []
@@ -210,7 +211,7 @@ class Script:
             return self.index[token.text]
         if token.text == "value":
             raise SourceError(token.place, "'value' is no variable; to give the node a value write 'set'")
-        hint = meant(token.text, self.variables) or "; declare it in the section variables"
+        hint = meant(token.text, self.variables) or f"; {self.hint}"
         raise SourceError(token.place, f"there is no variable '{word(token.text)}'{hint}")
 
 

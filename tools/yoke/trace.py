@@ -13,7 +13,7 @@ def trace(run):
     """Carries the run out. Each row has the record, the cursor's node, the context and the cursor level before the step."""
     names = run.source.names
     statement = max([len(record_text(record, names.variables)) for record in run.job.records] + [len(HEAD[3])])
-    node = max(len(name) for name in names.nodes + [HEAD[5]])
+    node = max(len(name) for name in [row.name for row in drawn_tree(run.root)] + [HEAD[5]])
     form = f"{{:>7}}  {{:>5}}  {{:>6}}  {{:{min(statement, 40)}}}  {{:7}}  {{:{min(node, 24)}}}  {{:9}}  {{}}"
     yield form.format(*HEAD)
     while run.at < len(run.job.records):

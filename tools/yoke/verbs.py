@@ -6,17 +6,19 @@ import traceback
 from pathlib import Path
 
 from .account import refusal_lines, report
-from .checks import check, check_limits, describe, plural
+from .checks import check, check_limits, check_section, describe, plural
 from .drawings import svg_picture
-from .encoding import Job, decode
+from .encoding import Job, decode, encode_script
 from .endings import ENDINGS, FINISHED, REFUSALS, STOPS, refused
 from .errors import JobError, RefusedError, visible
 from .files import (
-    is_source, need_no_utf16, no_tree, read_bytes, read_either, read_source, shown, source_of_job, warn_of, write_bytes)
+    is_source, need_no_utf16, no_tree, read_bytes, read_either, read_over, read_script, read_section, read_source, shown,
+    source_of_job, source_of_section, warn_of, write_bytes)
+from .history import History, Part, read_part
 from .limits import ASKED_BUDGET, ASKED_LINES, ASKED_PLACES, HOME, PROGRAM, Limits
-from .listing import listing
+from .listing import listing, script_lines
 from .manual import DESCRIPTIONS, LANGUAGE, STATUS
-from .monitor import outcome
+from .monitor import history, outcome
 from .pictures import pictured, text_picture
 from .probe import Variations, boards, probe_report, terminal_progress
 from .run import Run
@@ -27,26 +29,43 @@ from .words import natural
 
 def do_assemble(options):
     need_one_stdin(options.source, options.tree)
+    if options.bare:
+        return assemble_section(options)
     source = read_source(options.source, options.tree)
     job = source.job.encode()
     fault = check(job)
     if fault:
         warn_of(source, fault)
-    write_bytes(options.output or job_path(options.source), job)
+    write_bytes(options.output or job_path(options.source, ".job"), job)
     return 0
 
 
-def job_path(source):
-    """Where a job goes if nothing is said. A source is not written over, whatever its name."""
+def assemble_section(options):
+    source, section = read_script(options.source, read_over(options.tree))
+    if source is None:
+        raise JobError(f"{shown(options.source)}: this is no source; `{PROGRAM} list --bare` shows a bare section")
+    fault = check_section(section, len(source.job.variables))
+    if fault:
+        warn_of(source, fault, "script")
+    write_bytes(options.output or job_path(options.source, ".section"), section)
+    return 0
+
+
+def job_path(source, suffix):
+    """Where a job or a section goes if nothing is said. A source is not written over, whatever its name."""
     if source == "-":
         return "-"
-    path = str(Path(source).with_suffix(".job"))
+    path = str(Path(source).with_suffix(suffix))
     if Path(path) == Path(source):
-        raise JobError(f"{shown(source)}: the job would be written over its source; say where with -o")
+        raise JobError(f"{shown(source)}: the {suffix[1:]} would be written over its source; say where with -o")
     return path
 
 
 def do_list(options):
+    if options.bare:
+        return list_section(options)
+    if options.tree:
+        raise JobError("--tree is for a bare section's names, with --bare")
     data = read_bytes(options.job)
     if is_source(data):
         raise JobError(f"{shown(options.job)}: this is a source and no job; `{PROGRAM} assemble` makes one of it")
@@ -56,12 +75,24 @@ def do_list(options):
         raise RefusedError(shown(options.job), fault)
     job = decode(data)
     sys.stdout.write(listing(job))
-    clean = Job(job.variables, job.nodes, [record.clean() for record in job.records]).encode()
+    note_spare(options.job, data, Job(job.variables, job.nodes, [record.clean() for record in job.records]).encode())
+    return 0
+
+
+def list_section(options):
+    need_one_stdin(options.job, options.tree)
+    data, over = read_section(options.job), read_over(options.tree)
+    source = source_of_section(data, options.job, over)
+    print("\n".join(script_lines(source.job.records, over.names.variables)))
+    note_spare(options.job, data, encode_script(source.job.records))
+    return 0
+
+
+def note_spare(path, data, clean):
     spare = sum(a != b for a, b in zip(clean, data))
     if spare:
-        warn(f"{shown(options.job)}: note: {plural(spare, 'byte')} that nobody reads {'is' if spare == 1 else 'are'} not zero; "
+        warn(f"{shown(path)}: note: {plural(spare, 'byte')} that nobody reads {'is' if spare == 1 else 'are'} not zero; "
              "the source does not keep them")
-    return 0
 
 
 def do_picture(options):
@@ -90,7 +121,7 @@ def do_explain(options):
         print("   0  finished")
         for number in found:
             print(f"  {number:2}  {ENDINGS.get(number, '')}")
-        print(f"\nA job is refused with {REFUSALS[0]} to {REFUSALS[-1]}, and stopped on its way with {STOPS[0]} to {STOPS[-1]}.\n"
+        print(f"\nA job or a script is refused with {REFUSALS[0]} to {REFUSALS[-1]}, and stopped on its way with {STOPS[0]} to {STOPS[-1]}.\n"
               f"`{PROGRAM} explain 21` tells more.")
         return 0
     if options.number == 0:
@@ -112,15 +143,19 @@ def limits_of(options):
 
 
 def do_run(options):
-    need_one_stdin(options.job, options.tree)
+    need_one_stdin(options.job, options.tree, *options.scripts)
     source, data = read_either(options.job, options.tree)
     path = source.path if source else shown(options.job)
     limits, asked = limits_of(options)
     fault = check(data)
     fault = fault or check_limits(decode(data), limits)
+    if options.scripts and not fault:
+        return run_history(Part(path, source or source_of_job(data, options.job), data), options, limits)
     answer = outcome(data, limits, asked)
     if refused(answer.ending):
         print("\n".join(refusal_lines(path, source, answer, fault)) + (no_tree(source) if source else ""))
+        if options.scripts:
+            print(NO_SCRIPT)
         return 1
     if fault:
         raise JobError(f"{path}: the monitor ran this job, and this tool holds that it is {describe(fault)}\n"
@@ -132,6 +167,25 @@ def do_run(options):
         print()
     print("\n".join(report(run.go(), answer, options.all)))
     return 0 if answer.ending == FINISHED else 1
+
+
+NO_SCRIPT = "\nThere is no tree for the scripts, so none was run."
+
+
+def run_history(first, options, limits):
+    scripts = [read_part(path, first.source) for path in options.scripts]
+    answers = history(first.data, [script.data for script in scripts], limits)
+    past = History(limits)
+    for number, (part, answer) in enumerate(zip([first] + scripts, answers)):
+        if number:
+            print(f"\nscript {number} of {len(scripts)}")
+        for row in past.rows(part, answer, options.trace):
+            print(row)
+        if past.standing is None:
+            print(NO_SCRIPT)
+            return 1
+    print("\n".join(past.left(first.source.names.variables, options.all)))
+    return 0 if past.finished else 1
 
 
 def do_probe(options):
@@ -153,7 +207,7 @@ def do_probe(options):
 
 def need_one_stdin(*paths):
     if paths.count("-") > 1:
-        raise JobError("standard input can be one of the two files, not both")
+        raise JobError("standard input can be one of the files, not two of them")
 
 
 # The command line.
@@ -195,10 +249,14 @@ def parser():
 
     one = verb("assemble", "source to job bytes", do_assemble)
     one.add_argument("source", metavar="SOURCE", help="a source, or - for standard input")
-    one.add_argument("-o", "--output", metavar="JOB", help="where to write, - for standard output; SOURCE with .job if not given")
-    one.add_argument("--tree", metavar="TREE", help="variables and tree from this source or job, which has no script")
+    one.add_argument("-o", "--output", metavar="JOB", help="where to write, - for standard output; SOURCE with .job or .section if not given")
+    one.add_argument("--tree", metavar="TREE", help="variables and tree from this source or job, which has no script; "
+                     "with --bare, whose variables the script uses: it may have a script")
+    one.add_argument("--bare", action="store_true", help="a script alone, to the bare section of a follow-on script")
     one = verb("list", "job bytes to source, or what is wrong with them", do_list)
     one.add_argument("job", metavar="JOB", help="a job, or - for standard input")
+    one.add_argument("--bare", action="store_true", help="JOB is the bare section of a follow-on script")
+    one.add_argument("--tree", metavar="TREE", help="with --bare: take the names of variables from this source or job")
     one = verb("picture", "the tree of a source or job", do_picture)
     one.add_argument("job", metavar="JOB|SOURCE", help="a job or a source, or - for standard input")
     kinds = one.add_mutually_exclusive_group()
@@ -209,6 +267,7 @@ def parser():
     one.add_argument("number", metavar="N", nargs="?", type=number_from(0, 999), help="an ending")
     one = verb("run", "run a source or job and explain the outcome", do_run)
     one.add_argument("job", metavar="SOURCE|JOB", help="a source or a job, or - for standard input")
+    one.add_argument("scripts", metavar="SCRIPT", nargs="*", help="follow-on scripts, each over what the one before it left")
     add_limits(one)
     one.add_argument("--trace", action="store_true", help="first a line for each step")
     one.add_argument("--all", action="store_true", help="leave nothing out of the last tree, however long a row is")
@@ -220,9 +279,20 @@ def parser():
     return whole
 
 
+def parsed(arguments):
+    """The call. Scripts may stand behind options, too, where argparse leaves them over."""
+    whole = parser()
+    options, rest = whole.parse_known_args(arguments)
+    if rest and (options.verb != "run" or any(text.startswith("-") and text != "-" for text in rest)):
+        whole.error(f"unrecognized arguments: {' '.join(visible(text) for text in rest)}")
+    if rest:
+        options.scripts += rest
+    return options
+
+
 def act(arguments):
     try:
-        options = parser().parse_args(arguments)
+        options = parsed(arguments)
         return options.function(options)
     except SystemExit as leaving:  # the help, or a call that is no call
         return leaving.code
