@@ -3,6 +3,7 @@
 import importlib
 import io
 import os
+import re
 import struct
 import subprocess
 import sys
@@ -58,6 +59,22 @@ def generated(kind, seed, count):
     return jobs
 
 
+def played(first, sections, budget, places=512, lines=256):
+    """What history says of a job and of each bare section behind it, as lists of lines."""
+    events = b"".join(struct.pack("<IIIHH", kind, len(data), budget, places, lines) + data
+                      for kind, data in [(0, first)] + [(1, data) for data in sections])
+    text = subprocess.run([program("history")], input=events, stdout=subprocess.PIPE, check=True).stdout.decode()
+    heads = ["job 0"] + [f"script {number}" for number in range(1, len(sections) + 1)]
+    answers = []
+    for row in text.splitlines():
+        if len(answers) < len(heads) and row == heads[len(answers)]:
+            answers.append([])
+        else:
+            answers[-1].append(row)
+    assert len(answers) == len(heads), (len(answers), len(heads))
+    return answers
+
+
 def replayed(jobs, budget, places=None, lines=256):
     """What replay says of each job, as lists of its lines; places are 512, or one number for each job."""
     frames = b"".join(struct.pack("<IIHH", len(data), budget, room, lines) + data
@@ -104,6 +121,16 @@ def tool_process(*words, data=b""):
 def assembled(text):
     """A source's bytes."""
     return job.parse(text, "test").job.encode()
+
+
+def examples():
+    """The sources of examples/ that have a tree. The others are scripts over one: NAME-1, NAME-2 .. over that of NAME."""
+    return [path for path in sorted((HOME / "examples").glob("*.yoke")) if not re.search(r"-\d+$", path.stem)]
+
+
+def scripts_of(base):
+    """The scripts over the tree of an example, in order."""
+    return sorted(base.parent.glob(f"{base.stem}-[0-9].yoke"))
 
 
 def scratch():

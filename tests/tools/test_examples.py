@@ -5,7 +5,7 @@ import random
 import subprocess
 import unittest
 
-from support import HOME, job, program, replayed
+from support import HOME, examples, job, played, program, replayed, scripts_of
 
 
 def board(data):
@@ -26,7 +26,7 @@ def with_house(source, number):
 class Silent(unittest.TestCase):
     def test_other_house_numbers(self):
         finished = 0
-        for path in sorted((HOME / "examples").glob("*.yoke")):
+        for path in examples():
             source = job.parse(path.read_text(encoding="utf-8"), path.name)
             lines, ends = board(source.job.encode())
             for number in (0, 1, 50, -1):
@@ -38,6 +38,27 @@ class Silent(unittest.TestCase):
                         self.assertEqual(lines, other)
                         finished += 1
         self.assertGreaterEqual(finished, 6 * 4)  # first, depths, guests, closures, buses, cover
+
+    def test_other_house_numbers_of_histories(self):
+        """Up to and including the first script that does not finish in either."""
+        compared = 0
+        for path in examples():
+            source = job.parse(path.read_text(encoding="utf-8"), path.name)
+            sections = [job.encode_script(job.parse_script_text(job.Text(script.name, script.read_text(encoding="utf-8").split("\n")), source)
+                                          .job.records) for script in scripts_of(path)]
+            if not sections:
+                continue
+            own = played(source.job.encode(), sections, 100_000)
+            for number in (0, 1, 50, 100, -1):
+                for left, right in zip(own, played(with_house(source, number), sections, 100_000)):
+                    lines, others = ([row for row in answer if row.startswith("line ")] for answer in (left, right))
+                    short, long = sorted((lines, others), key=len)
+                    self.assertEqual(long[:len(short)], short)
+                    if not left[0].startswith("ending 0 ") or not right[0].startswith("ending 0 "):
+                        break
+                    self.assertEqual(lines, others)
+                    compared += left != right
+        self.assertGreaterEqual(compared, 5)  # what stands differs, and the boards do not
 
 
 def over(name, nodes):

@@ -1,11 +1,9 @@
 """run with scripts behind the source: script after script over the tree that stays. The monitor's answers come from the repository's history."""
 
-import struct
-import subprocess
 import unittest
 from pathlib import Path
 
-from support import assembled, generated, job, program, scratch, tool
+from support import HOME, assembled, examples, generated, job, played, program, scratch, scripts_of, tool
 from test_trees import Files
 
 BASE = """\
@@ -339,19 +337,6 @@ class Programs(unittest.TestCase):
         self.assertIn("the monitor ran this script, and this tool holds that it is refused with 8", done.error)
 
 
-def played(first, sections, limits):
-    """What history prints of a job and of bare sections, in blocks without their heads."""
-    events = b"".join(struct.pack("<IIIHH", kind, len(data), *limits) + data for kind, data in [(0, first)] + [(1, data) for data in sections])
-    text = subprocess.run([program("history")], input=events, stdout=subprocess.PIPE, check=True).stdout.decode()
-    blocks = []
-    for row in text.split("\n")[:-1]:
-        if row.startswith(("job ", "script ")):
-            blocks.append([])
-        else:
-            blocks[-1].append(row)
-    return blocks
-
-
 class Followed(unittest.TestCase):
     def test_generated_histories(self):
         """The checks and the rules as the tool follows them, beside the monitor: the scripts of generated jobs, one after the other over one tree."""
@@ -365,13 +350,12 @@ class Followed(unittest.TestCase):
             sections[1] = sections[1][:-16]  # a block may stay open
             sections[-1] += bytes(1 + at % 15)
             source = job.parse(job.listing(first), "test")
-            blocks = played(first.encode(), sections, (budget, places, lines))
-            self.assertEqual(len(blocks), 6)
+            answers = played(first.encode(), sections, budget, places, lines)
             standing = None
-            for data, block in zip([None] + sections, blocks):
+            for data, answer in zip([None] + sections, answers):
                 fault = data is not None and job.check_section(data, len(first.variables))
                 if fault:
-                    self.assertEqual(block, [f"ending {fault.number} index {fault.index} steps 0 lines 0"])
+                    self.assertEqual(answer, [f"ending {fault.number} index {fault.index} steps 0 lines 0"])
                     seen.add(fault.number)
                     continue
                 script = source if data is None else job.source_of_section(data, "test", source)
@@ -381,12 +365,26 @@ class Followed(unittest.TestCase):
                 rows += [f"line {line}" for line in run_of.board]
                 rows += [f"variable {v.level} {value}" for v, value in zip(first.variables, run_of.values)]
                 rows += [f"node {n.depth} {n.existence} {n.content} {n.list} {n.value}" for n in job.drawn_tree(run_of.root)]
-                self.assertEqual(block, rows)
+                self.assertEqual(answer, rows)
                 standing = job.Standing(run_of.values, run_of.root)
                 seen.add(run_of.ending)
                 followed += data is not None and run_of.steps > 0
         self.assertEqual(seen, {0, 7, 8, 11, 21, 22, 23, 24, 25})
         self.assertGreater(followed, 50)
+
+    def test_examples(self):
+        found = 0
+        for base in examples():
+            scripts = scripts_of(base)
+            if scripts:
+                done = run(str(base), *map(str, scripts))
+                self.assertEqual((done.status, done.error), (0, ""))
+                self.assertNotIn("another end", done.output)
+                boards = [(HOME / "examples" / "expected" / f"{path.stem}.out").read_text().split("\n")[1:-2] for path in [base] + scripts]
+                shown = [part.split("\n\n")[0].split("\n")[1:] for part in done.output.split("\nboard, ")[1:]]
+                self.assertEqual([[row.strip() for row in rows] for rows in shown], boards)
+                found += 1
+        self.assertGreaterEqual(found, 1)
 
 
 if __name__ == "__main__":

@@ -4,7 +4,7 @@ import struct
 import unittest
 from pathlib import Path
 
-from support import HOME, assembled, generated, job, replayed, scratch, tool
+from support import HOME, assembled, examples, generated, job, replayed, scratch, tool
 
 ROOT = "ffff 000000 000000 0a000000"
 
@@ -218,7 +218,7 @@ class RoundTrips(unittest.TestCase):
         self.assertEqual({" record " in text for text in texts}, {True, False})
 
     def test_examples(self):
-        sources = sorted((HOME / "examples").glob("*.yoke"))
+        sources = examples()
         self.assertGreaterEqual(len(sources), 6)
         for path in sources:
             with self.subTest(path.name):

@@ -3,7 +3,7 @@
 import unittest
 from pathlib import Path
 
-from support import HOME, assembled, generated, job, program, replayed, scratch, tool
+from support import assembled, examples, generated, job, program, replayed, scratch, tool
 
 
 def run(text, **variables):
@@ -300,7 +300,7 @@ class Followed(unittest.TestCase):
         self.assertEqual(seen, {0, 21, 22, 23, 24, 25})
 
     def test_examples(self):
-        for path in sorted((HOME / "examples").glob("*.yoke")):
+        for path in examples():
             with self.subTest(path.name):
                 done = tool("run", str(path), INSPECT=program("inspect"))
                 self.assertNotIn("another end", done.output)

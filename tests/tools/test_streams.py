@@ -13,12 +13,13 @@ from pathlib import Path
 from support import HOME, assembled, program, scratch, tool
 
 SOURCE = "tree\n  resort = 10\nscript\n  print value\n"
+SEASON = (HOME / "examples" / "season.yoke").read_text(encoding="utf-8")
 LOOP = "variables\n  h house = 1\ntree\n  resort = 10\nscript\n  while 1\n    h := h - 1\n"
 
 
 def shell(command, data=b""):
     """A command of the shell in the repository's root: its status and what it said."""
-    variables = dict(os.environ, INSPECT=program("inspect"), REPLAY=program("replay"))
+    variables = dict(os.environ, INSPECT=program("inspect"), REPLAY=program("replay"), HISTORY=program("history"))
     done = subprocess.run(["bash", "-c", command], input=data, cwd=HOME, env=variables, stdout=subprocess.PIPE,
                           stderr=subprocess.PIPE, check=False)
     return done.returncode, done.stdout.decode(), done.stderr.decode()
@@ -88,7 +89,8 @@ class Streams(unittest.TestCase):
     def test_a_full_disk(self):
         for call in ("--help", "run --help", "explain", "explain 21", "run examples/first.yoke", "picture examples/first.yoke",
                      "picture examples/first.yoke --svg -", "assemble examples/first.yoke -o -", "probe examples/guests.yoke --count 3",
-                     "run examples/depths.yoke --trace"):
+                     "run examples/depths.yoke --trace", "run examples/season.yoke examples/season-1.yoke",
+                     "assemble --bare examples/season-1.yoke --tree examples/season.yoke -o -"):
             with self.subTest(call):
                 status, _, error = shell(f"tools/job {call} > /dev/full")
                 self.assertEqual((status, error), (2, "tools/job: standard output: No space left on device\n"))
@@ -191,8 +193,8 @@ class Programs(unittest.TestCase):
             path = Path(folder, "x")
             path.write_text("#!/bin/sh\nkill -9 $$\n")
             path.chmod(0o755)
-            for words in (("run", "-"), ("run", "-", "--budget", "5"), ("probe", "-")):
-                done = tool(*words, data=LOOP, INSPECT=str(path), REPLAY=str(path))
+            for words in (("run", "-"), ("run", "-", "--budget", "5"), ("run", "-", str(HOME / "examples" / "season-1.yoke")), ("probe", "-")):
+                done = tool(*words, data=SEASON if len(words) == 3 else LOOP, INSPECT=str(path), REPLAY=str(path), HISTORY=str(path))
                 self.assertEqual((done.status, done.output), (2, ""))
                 self.assertNotIn("a mistake in this tool", done.error)
 
@@ -207,19 +209,22 @@ class Programs(unittest.TestCase):
             self.assertIn("replay answered in a form that this tool does not know", done.error)
 
     def test_the_command_that_builds_them(self):
-        for words, name in ((("run", "-"), "inspect"), (("run", "-", "--lines", "3"), "replay"), (("probe", "-"), "replay")):
-            done = tool(*words, data=LOOP, INSPECT="/no/such", REPLAY="/no/such")
+        for words, name in ((("run", "-"), "inspect"), (("run", "-", "--lines", "3"), "replay"), (("probe", "-"), "replay"),
+                            (("run", "-", str(HOME / "examples" / "season-1.yoke")), "history")):
+            data = SEASON if name == "history" else LOOP
+            done = tool(*words, data=data, INSPECT="/no/such", REPLAY="/no/such", HISTORY="/no/such")
             self.assertEqual((done.status, done.output), (2, ""))
             self.assertIn(f"the program {name} is not there", done.error)
             self.assertIn("run this in the repository:  make programs\n", done.error)
         with scratch() as folder:  # as in a fresh clone
             shutil.copytree(str(HOME / "tools"), folder + "/tools")
             shutil.copytree(str(HOME / "examples"), folder + "/examples")
-            variables = {name: value for name, value in os.environ.items() if name not in ("INSPECT", "REPLAY")}
-            done = subprocess.run(["tools/job", "run", "examples/first.yoke"], cwd=folder, env=variables, stdout=subprocess.PIPE,
-                                  stderr=subprocess.PIPE, check=False)
-        self.assertEqual((done.returncode, done.stdout), (2, b""))
-        self.assertTrue(done.stderr.decode().endswith("run this in the repository:  make programs\n"), done.stderr)
+            variables = {name: value for name, value in os.environ.items() if name not in ("INSPECT", "REPLAY", "HISTORY")}
+            for files in (["examples/first.yoke"], ["examples/season.yoke", "examples/season-1.yoke"]):
+                done = subprocess.run(["tools/job", "run", *files], cwd=folder, env=variables, stdout=subprocess.PIPE,
+                                      stderr=subprocess.PIPE, check=False)
+                self.assertEqual((done.returncode, done.stdout), (2, b""))
+                self.assertTrue(done.stderr.decode().endswith("run this in the repository:  make programs\n"), done.stderr)
         makefile = (HOME / "Makefile").read_text(encoding="utf-8")
         self.assertRegex(makefile, r"(?m)^programs:")
 
