@@ -1,10 +1,11 @@
 """docs/FORMAT.md: the job that it takes apart is the one that its source makes, and runs as the page says."""
 
 import re
+import struct
 import subprocess
 import unittest
 
-from support import HOME, assembled, job, program
+from support import HOME, assembled, job, played, program, tool
 
 TEXT = (HOME / "docs" / "FORMAT.md").read_text(encoding="utf-8")
 ROWS = [(int(at), bytes.fromhex(digits)) for at, digits in re.findall(r"^\| (\d+) \| `([0-9a-f ]+)` \| ", TEXT, re.M)]
@@ -52,6 +53,58 @@ class Tables(unittest.TestCase):
         for (_, words, target, expression), row in zip(rows, job.COMMANDS):
             self.assertEqual((target, bool(expression)), (row.target, row.expression))
             self.assertTrue(row.words in words or row.words == "end")
+
+
+def rows(head):
+    """The cells of the one table with this head."""
+    (body,) = re.findall(rf"^\| {re.escape(head)} \|\n\|[-|]+\|\n((?:\|.*\|\n)+)", TEXT, re.M)
+    return [[cell.strip() for cell in row.strip("|").split("|")] for row in body.splitlines()]
+
+
+class FollowOn(unittest.TestCase):
+    def test_section(self):
+        done = tool("assemble", "--bare", "-", "-o", "-", data=block("script"))
+        self.assertEqual((done.status, done.error), (0, ""))
+        self.assertEqual(done.bytes.hex(" ", 1), " ".join(block("hex").split()))
+        self.assertIn(f"is these {len(done.bytes)} bytes", TEXT)
+        answers = played(assembled("tree\n  resort = 10\n    slope = 3\n"), [done.bytes, done.bytes[1:], bytes(16 * 1025)], 100)
+        self.assertEqual([answer[0].split()[1] for answer in answers], ["0", "0", "11", "11"])
+        self.assertIn("line 3", answers[1])
+
+    def test_words(self):
+        """The words of a place, in the order of the node table."""
+        names = ["first child", "right sibling", "parent", "existence", "value", "children", "content", "list"]
+        found = rows("word | what")
+        self.assertEqual([int(row[0]) for row in found], list(range(8)))
+        for name, row in zip(names, found):
+            self.assertIn(name, row[1])
+        table = (HOME / "crates/table/src/lib.rt").read_text(encoding="utf-8") + (HOME / "crates/table/src/cells.rt").read_text(encoding="utf-8")
+        constants = dict(re.findall(r"^pub const (\w+): usize = (\d+);$", table, re.M))
+        code = ["FIRST", "RIGHT", "PARENT", "EXISTENCE", "VALUE", "CHILDREN", "CONTENT", "STRUCTURE"]
+        self.assertEqual([int(constants[name]) for name in code], list(range(8)))
+        self.assertEqual((constants["CELL"], constants["NIL"]), ("8", "65535"))
+        self.assertEqual(TEXT.count("or 65535"), 3)
+
+    def test_the_words_are_checked(self):
+        """Each rule of a place, broken by a poke of history, is 11; what stands in a free place is none's business."""
+        fields = {"first": 0, "right": 1, "parent": 2, "children": 3, "existence": 5, "content": 6, "list": 7}
+        first = assembled("variables\n  a = 0\ntree\n  resort = 10\n    slope = 3\n")
+
+        def event(kind, data=b""):
+            return struct.pack("<IIIHH", kind, len(data), 100, 3, 3) + data
+
+        def ending(what, index, value):
+            data = event(0, first) + event(2, struct.pack("<HHI", what, index, value)) + event(1)
+            text = subprocess.run([program("history")], input=data, stdout=subprocess.PIPE, check=True).stdout.decode()
+            return re.findall(r"^script 2\nending (\d+) ", text, re.M)
+
+        for name, place, value in (("first", 0, 3), ("first", 0, 0), ("first", 1, 1), ("right", 0, 1), ("right", 1, 0), ("parent", 0, 0),
+                                   ("parent", 1, 1), ("children", 0, 2), ("children", 1, 1), ("existence", 0, 1), ("existence", 1, 1),
+                                   ("content", 1, 2), ("list", 0, 7)):
+            with self.subTest(name, place=place, value=value):
+                self.assertEqual(ending(fields[name], place, value), ["11"])
+                self.assertEqual(ending(fields[name], 2, value), ["0"])  # a free place
+        self.assertEqual((ending(8, 0, 2), ending(8, 0, 1)), (["11"], ["0"]))  # a variable's level
 
 
 if __name__ == "__main__":

@@ -5,10 +5,11 @@ import re
 import subprocess
 import unittest
 
-from support import HOME, assembled, job, program
+from support import HOME, assembled, job, played, program
 
 TEXT = (HOME / "docs" / "GUARANTEE.md").read_text(encoding="utf-8")
-HOLDS, ENDS = re.findall(r"^```yoke\n(.*?)^```$", TEXT, re.M | re.S)
+HOLDS, ENDS, LEAVES = re.findall(r"^```yoke\n(.*?)^```$", TEXT, re.M | re.S)
+(READS,) = re.findall(r"^```script\n(.*?)^```$", TEXT, re.M | re.S)
 SECRET = re.compile(r"^(.*\S) +# or (none|-?\d+)\n", re.M)
 
 
@@ -52,7 +53,32 @@ class Examples(unittest.TestCase):
             self.assertTrue(ended.startswith("stopped 22 at "), ended)
 
 
+    def test_leaves(self):
+        """What a stop leaves, a script behind it tells."""
+        said = re.search(r"its board has one line: with (\d+) beds (\d+), with (\d+) beds (\d+)\.", TEXT).groups()
+        for source, beds, line in zip((LEAVES, other(LEAVES)), said[::2], said[1::2]):
+            self.assertIn(f"beds house = {beds}", source)
+            parsed = job.parse(source, "GUARANTEE")
+            script = job.parse_script_text(job.Text("GUARANTEE", READS.split("\n")), parsed)
+            stopped, finished = played(parsed.job.encode(), [job.encode_script(script.job.records)], 1_000)
+            self.assertRegex(stopped[0], r"^ending 22 index \d+ steps \d+ lines 0$")
+            self.assertEqual(finished[:2], ["ending 0 index 0 steps 1 lines 1", f"line {line}"])
+
+    def test_leaves_is_what_is_proved(self):
+        """The proved pair: the first script stops with 21 in one history alone, and the line behind it differs."""
+        trials = (HOME / "crates/rules/proofs/HistoryTrials.antt").read_text(encoding="utf-8")
+        (body,) = re.findall(r"^pub stop-tells :\n(.*?)^unfolding", trials, re.M | re.S)
+        (left, right) = (re.findall(r"came (\d+) \d+ (?:\[\]|\(pos (\d+) ∷ \[\]\))", half) for half in body.split("×"))
+        self.assertEqual(([ending for ending, _ in left], [ending for ending, _ in right]), (["21", "0"], ["0", "0"]))
+        self.assertNotEqual(left[1], right[1])
+
+
 class Figures(unittest.TestCase):
+    def test_budget(self):
+        budget, bits = re.search(r"log2\(([\d,]+)\), some (\d+) bits, and a script", TEXT).groups()
+        self.assertEqual(int(budget.replace(",", "")), job.MAX_BUDGET)
+        self.assertEqual(round(math.log2(job.MAX_BUDGET)), int(bits))
+
     def test_board_runner(self):
         lines, boards, argument, bits = re.search(r"board runner, (\d+) lines \| (\d+) \| log2\((\d+)\), some (\d+)", TEXT).groups()
         self.assertEqual(int(boards), int(lines) + 1)

@@ -1,9 +1,11 @@
 """docs/RULES.md: its tables of commands, endings and limits are those of the tool, of the header and of the definitions."""
 
 import re
+import struct
+import subprocess
 import unittest
 
-from support import HOME, job
+from support import HOME, assembled, job, program
 
 TEXT = (HOME / "docs" / "RULES.md").read_text(encoding="utf-8")
 
@@ -64,6 +66,25 @@ class Endings(unittest.TestCase):
     def test_header(self):
         found = re.findall(r"^ +PORTAL_[A-Z_]+ = (\d+)", read("include/portal.h"), re.M)
         self.assertEqual([int(row[0]) for row in self.rows], [int(text) for text in found])
+
+
+class FollowOn(unittest.TestCase):
+    def test_order(self):
+        """A script with every fault, mended one by one in the order that is said."""
+        said = [int(text) for text in re.search(r"^The checks go in the order ([\d, ]+);", TEXT, re.M).group(1).split(", ")]
+        first = assembled("tree\n  resort = 10\n")
+        events, expected = struct.pack("<IIIHH", 0, len(first), 1, 512, 0) + first, [0]
+        for mended in range(len(said) + 1):
+            faults = said[mended:]
+            section = (b"\x11" + bytes(15)) * (7 in faults) + (b"\x02" + bytes(15)) * (8 in faults) + bytes(11 in faults)
+            events += struct.pack("<IIIHH", 1, len(section), 0 if 9 in faults else 1, 513 if 10 in faults else 512, 0) + section
+            expected.append(faults[0] if faults else 0)
+        text = subprocess.run([program("history")], input=events, stdout=subprocess.PIPE, check=True).stdout.decode()
+        self.assertEqual([int(found) for found in re.findall(r"^ending (\d+) ", text, re.M)], expected)
+
+    def test_a_store_is_kept(self):
+        self.assertIn("It is proved that what a job or a script leaves is never a reason for 11.", " ".join(TEXT.split()))
+        self.assertRegex(read("crates/rules/proofs/Stores.antt"), r"(?m)^pub store-kept : StoreKept$")
 
 
 class Limits(unittest.TestCase):
