@@ -9,7 +9,7 @@ import textwrap
 import unittest
 from pathlib import Path
 
-from support import HOME, assembled, program, scratch, tool
+from support import HOME, assembled, examples, program, scratch, tool
 
 TEXT = (HOME / "README.md").read_text(encoding="utf-8")
 # Indented blocks, without their indentation; blank lines belong to the block around them.
@@ -51,7 +51,7 @@ class Shown(unittest.TestCase):
     def test_commands(self):
         """Each command, as a reader gives it."""
         transcripts = [Transcript(text) for text in BLOCKS if text.startswith("$ ")]
-        self.assertEqual([transcript.commands[-1].split()[0] for transcript in transcripts], ["make", "tools/job", "tools/job"])
+        self.assertEqual([transcript.commands[-1].split()[0] for transcript in transcripts], ["make", "tools/job", "tools/job", "cat", "tools/job"])
         for transcript in transcripts:
             with self.subTest(transcript.commands[-1]):
                 output, error = transcript.output()
@@ -137,7 +137,7 @@ class Said(unittest.TestCase):
         """Each example that is named, and no example is left out."""
         (said,) = re.findall(r"^`examples/` has more:(.*?)\n\n", TEXT, re.M | re.S)
         named = {name for name in re.findall(r"\(`([\w-]+)`", said)}
-        found = {path.stem for path in (HOME / "examples").glob("*.yoke")}
+        found = {path.stem for path in examples()}
         self.assertEqual({name for name in named if not name.startswith("trap")} | {"first"},
                          {name for name in found if not name.startswith("trap")})
 
