@@ -121,7 +121,7 @@ def read_section(path):
 
 
 def need_no_job(data, path):
-    """A job has a trailer, which no section has."""
+    """What ends in a trailer that fits is a job: the numbers of a section's last record are hardly ever such."""
     fault = check(data)
     if fault is None or fault.number > 3:
         raise JobError(f"{shown(path)}: this is a job; a follow-on script is a script section alone, in a source or as bytes")
