@@ -90,21 +90,25 @@ class FollowOn(unittest.TestCase):
         fields = {"first": 0, "right": 1, "parent": 2, "children": 3, "existence": 5, "content": 6, "list": 7}
         first = assembled("variables\n  a = 0\ntree\n  resort = 10\n    slope = 3\n")
 
-        def event(kind, data=b""):
-            return struct.pack("<IIIHH", kind, len(data), 100, 3, 3) + data
+        def told(*events):
+            data = b"".join(struct.pack("<IIIHH", kind, len(body), 100, 3, 3) + body for kind, body in events)
+            return subprocess.run([program("history")], input=data, stdout=subprocess.PIPE, check=True).stdout.decode()
 
         def ending(what, index, value):
-            data = event(0, first) + event(2, struct.pack("<HHI", what, index, value)) + event(1)
-            text = subprocess.run([program("history")], input=data, stdout=subprocess.PIPE, check=True).stdout.decode()
-            return re.findall(r"^script 2\nending (\d+) ", text, re.M)
+            return re.findall(r"^script 2\nending (\d+) ", told((0, first), (2, struct.pack("<HHI", what, index, value)), (1, b"")), re.M)
 
-        for name, place, value in (("first", 0, 3), ("first", 0, 0), ("first", 1, 1), ("right", 0, 1), ("right", 1, 0), ("parent", 0, 0),
-                                   ("parent", 1, 1), ("children", 0, 2), ("children", 1, 1), ("existence", 0, 1), ("existence", 1, 1),
-                                   ("content", 1, 2), ("list", 0, 7)):
+        root = 0
+        slope = int(re.search(rf"^record {root} (\d+) ", told((0, first), (3, b"")), re.M).group(1))  # where it stands is the monitor's choice
+        free = 3 - slope
+        for name, place, value in (("first", root, 3), ("first", root, root), ("first", slope, slope), ("right", root, slope),
+                                   ("right", slope, root), ("right", slope, 3), ("parent", root, root), ("parent", slope, slope), ("children", root, 2),
+                                   ("children", slope, 1), ("existence", root, 1), ("existence", slope, 1), ("content", slope, 2),
+                                   ("list", root, 7)):
             with self.subTest(name, place=place, value=value):
                 self.assertEqual(ending(fields[name], place, value), ["11"])
-                self.assertEqual(ending(fields[name], 2, value), ["0"])  # a free place
+                self.assertEqual(ending(fields[name], free, value), ["0"])
         self.assertEqual((ending(8, 0, 2), ending(8, 0, 1)), (["11"], ["0"]))  # a variable's level
+        self.assertEqual((ending(10, 0, 65), ending(10, 0, 64)), (["11"], ["0"]))  # how many variables
 
 
 if __name__ == "__main__":
