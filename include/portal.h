@@ -1,4 +1,4 @@
-/* The monitor, for a portal in C or C++: hand over a job, get its board lines and how it ended.
+/* The monitor, for a portal in C or C++: hand over a job, get its board lines and how it ended. Or keep the job's tree, and run script after script over it.
 
    `make lib` builds libportal.a beside this file; `make install` puts both where a compiler finds them. To compile and link, in the repository or after
    an installation:
@@ -6,13 +6,13 @@
        cc -I include my_portal.c include/libportal.a
        cc my_portal.c $(pkg-config --cflags --libs portal)
 
-   The library is for x86-64. It keeps nothing from one call to the next and allocates nothing, so calls from several threads are fine as long as they
-   do not share an area for lines. A call takes less than 64 kilobytes of stack.
+   The library is for x86-64. It keeps nothing from one call to the next and allocates nothing, so calls from several threads are fine as long as none
+   writes what another one is lent. A call takes less than 64 kilobytes of stack.
 
    What to show. The lines are for the public. The ending is for the house: never publish it, nor how long a call took. The lines hold no house number, but
    where a board ends may depend on one: a script can count to 100, put each number out, and stop itself where the count equals a house number. So publish a
    board only where portal_ending(answer) is PORTAL_FINISHED. Two finished boards of the same script over the same public parts are always the same.
-   docs/GUARANTEE.md has the example and the figures. */
+   docs/GUARANTEE.md has the example and the figures. A tree that is kept asks for one thing more: see portal_follow. */
 #ifndef PORTAL_H
 #define PORTAL_H
 
@@ -20,9 +20,9 @@
 #include <stdint.h>
 
 /* The version of this header and of the library beside it. The first number changes where a program must be changed. */
-#define PORTAL_VERSION "1.1.0"
+#define PORTAL_VERSION "1.2.0"
 #define PORTAL_VERSION_MAJOR 1
-#define PORTAL_VERSION_MINOR 1
+#define PORTAL_VERSION_MINOR 2
 #define PORTAL_VERSION_PATCH 0
 
 /* The largest job, in bytes. Read up to one byte more, so that a longer one is seen and turned back. */
@@ -34,6 +34,17 @@
 /* No run has more lines than steps, so an area of 4 * PORTAL_MAX_LINES bytes is never full. */
 #define PORTAL_MAX_LINES PORTAL_MAX_BUDGET
 
+/* The largest follow-on script, in bytes: 1,024 records of 16. Read up to one byte more, as of a job. */
+#define PORTAL_MAX_SCRIPT 16384
+
+/* A table of nodes has PORTAL_PLACE_WORDS words for each place, and at most PORTAL_MAX_PLACES places. */
+#define PORTAL_PLACE_WORDS 8
+#define PORTAL_MAX_PLACES 512
+#define PORTAL_MAX_WORDS (PORTAL_PLACE_WORDS * PORTAL_MAX_PLACES)
+
+/* The most variables that a job may have. */
+#define PORTAL_MAX_VARIABLES 64
+
 /* A cast that both C and C++ take without a warning. */
 #ifdef __cplusplus
 #define PORTAL_CAST(type, number) static_cast<type>(number)
@@ -42,8 +53,8 @@ extern "C" {
 #define PORTAL_CAST(type, number) ((type)(number))
 #endif
 
-/* How a job ended. Up to 20 the job was turned back: it was not run, there are no lines and nothing was written. From 21 on it was stopped: the lines
-   that it put out before stand in the area. */
+/* How a job or a follow-on script ended. Up to 20 it was turned back: it was not run, there are no lines and nothing was written. From 21 on it was stopped:
+   the lines that it put out before stand in the area, and a kept tree is as the stop left it. */
 enum {
     PORTAL_FINISHED = 0,            /* the script's end was reached */
     PORTAL_WRONG_SIZE = 1,          /* under 8 or over 23,048 bytes */
@@ -55,10 +66,11 @@ enum {
     PORTAL_BAD_FIELD = 7,           /* a command above 16, or a field that it reads is out of range */
     PORTAL_BAD_BLOCKS = 8,          /* if, else, while and end do not match, or more than 16 of them are nested */
     PORTAL_BAD_BUDGET = 9,          /* the budget is not 1 to 1,000,000 */
-    PORTAL_BAD_BUFFERS = 10,        /* not given by portal_run, which has room for every job */
+    PORTAL_BAD_BUFFERS = 10,        /* more than 512 places; to portal_start also too few places or variables. portal_run has room for every job */
+    PORTAL_BAD_FOLLOW_ON = 11,      /* the script is no whole records or more than 1,024, or no accepted job could hold what stands in table and variables */
     PORTAL_FLOW = 21,               /* a command would have let house data flow to the public */
     PORTAL_NO_NODE = 22,            /* the node to go to, or to remove, does not exist */
-    PORTAL_TABLE_FULL = 23,         /* a new node, where there are 512 already */
+    PORTAL_TABLE_FULL = 23,         /* a new node, where there are as many as places */
     PORTAL_BOARD_FULL = 24,         /* a board line, where the area is full */
     PORTAL_BUDGET_USED_UP = 25,     /* as many steps as the budget allows */
     PORTAL_LOW_CONTEXT = 26         /* a new node, less secret than the node worked at; it is proved that no call gives this */
@@ -82,7 +94,71 @@ enum {
    at the same time may read the same job. */
 uint64_t portal_run(const uint8_t *job, size_t job_len, uint64_t budget, uint8_t *lines, size_t lines_len);
 
-/* How a job ended: one of the numbers above. For the house alone. */
+/* Runs one job, and leaves its tree and its variables with the portal, for follow-on scripts.
+
+   job, job_len, budget    as for portal_run
+   table       words for the tree, PORTAL_PLACE_WORDS for each place; they may hold anything
+   table_len   how many words: a table of table_len / PORTAL_PLACE_WORDS places, 1 to PORTAL_MAX_PLACES and at least as many as the job has nodes. The more
+               places, the more nodes can be added later
+   levels      a byte for the level of each variable
+   levels_len  how many bytes, at least as many as the job has variables: PORTAL_MAX_VARIABLES is always enough
+   values      a number for the value of each variable
+   values_len  how many numbers, at least as many as the job has variables
+   lines, lines_len        as for portal_run
+
+   Returns what portal_run returns. Too few words, levels or values come back as PORTAL_BAD_BUFFERS. Where the job was turned back, nothing that was lent has
+   changed. Otherwise the tree stands in the table and the first portal_variables(job, job_len) of levels and values are the job's variables; levels, values and
+   bytes of the area behind them are as they were, and so are words that make no whole place. What free places hold is open.
+
+   What a portal keeps between calls: table, levels and values, as the last call left them. There is no address in them, so they may be copied, moved, and
+   put away and brought back by the same version of this library. Nothing else is needed: each call looks the table over before it runs a script.
+
+   NULL: each pointer may be NULL where its length is 0. Otherwise it points to as many numbers as its length says, aligned as C asks for.
+
+   Overlap: what is written (table, levels, values, lines) must overlap nothing else that is lent.
+
+   Threads: two trees may be worked on at the same time; of one tree, one call at a time. */
+uint64_t portal_start(const uint8_t *job, size_t job_len, uint64_t budget, uint32_t *table, size_t table_len, uint8_t *levels, size_t levels_len,
+                      int32_t *values, size_t values_len, uint8_t *lines, size_t lines_len);
+
+/* Runs one script over a tree and variables that stand already: those that portal_start or the last call of portal_follow left. The script starts at the
+   root, with a budget and an area for lines of its own.
+
+   script      a bare script section: records of 16 bytes, as in a job, and nothing around them
+   script_len  how many bytes: a multiple of 16, at most PORTAL_MAX_SCRIPT. 0 is a script that finishes at once
+   budget      how many steps this script may take, 1 to PORTAL_MAX_BUDGET
+   table       the table in which the tree stands
+   table_len   how many words: not more than PORTAL_MAX_PLACES places. It may be another number than before, as long as every place of a node is there
+   levels      the variables' levels, which are read only
+   levels_len  how many variables there are: exactly portal_variables(job, job_len) of the job that began
+   values      the variables' values
+   values_len  the same number as levels_len
+   lines, lines_len        as for portal_run
+
+   Returns what portal_run returns. The table and the variables may hold anything, whoever wrote it: what no accepted job could hold comes back as
+   PORTAL_BAD_FOLLOW_ON, and nothing outside is read or written. Where the script was turned back, nothing that was lent has changed. Otherwise the tree and
+   the values are as the script left them, for the next one; free places serve again.
+
+   What to show. A stopped script leaves the tree as its stop left it, and where it stops may depend on house numbers: a script that counts in a public
+   variable and stops itself where the count equals a house number leaves that number to the next one, which may print it. So copy table and values before
+   a call, and put them back where portal_ending(answer) is PORTAL_FLOW or more, as examples/standing.c does. Then the boards of finished scripts tell
+   nothing of house numbers but which scripts finished. And where portal_start was stopped, show no board of that tree.
+
+   NULL, overlap, threads: as for portal_start; script and levels are only read, and may overlap each other. */
+uint64_t portal_follow(const uint8_t *script, size_t script_len, uint64_t budget, uint32_t *table, size_t table_len, const uint8_t *levels,
+                       size_t levels_len, int32_t *values, size_t values_len, uint8_t *lines, size_t lines_len);
+
+/* How many variables a job has, if it is not turned back with 1 to 8: its trailer says where the nodes begin, and each variable before them has 8 bytes.
+   For other bytes, some number up to PORTAL_MAX_VARIABLES. */
+static inline size_t portal_variables(const uint8_t *job, size_t job_len) {
+    if (job_len < 8) {
+        return 0;
+    }
+    size_t variables = (job[job_len - 6] + 256u * job[job_len - 5]) / 8;
+    return variables <= PORTAL_MAX_VARIABLES ? variables : 0;
+}
+
+/* How a job or a script ended: one of the numbers above. For the house alone. */
 static inline int portal_ending(uint64_t answer) { return PORTAL_CAST(int, answer >> 32); }
 
 /* How many lines it put out. */
@@ -109,6 +185,7 @@ static inline const char *portal_ending_name(int ending) {
     case PORTAL_BAD_BLOCKS: return "blocks do not match";
     case PORTAL_BAD_BUDGET: return "budget out of range";
     case PORTAL_BAD_BUFFERS: return "buffers do not fit";
+    case PORTAL_BAD_FOLLOW_ON: return "follow-on not whole";
     case PORTAL_FLOW: return "flow rule broken";
     case PORTAL_NO_NODE: return "node does not exist";
     case PORTAL_TABLE_FULL: return "table full";

@@ -61,14 +61,14 @@ static void no_area(void) {
 static void names(void) {
     int named = 0;
     for (int ending = -1; ending <= 40; ending++) {
-        int known = ending == 0 || (1 <= ending && ending <= 10) || (21 <= ending && ending <= 26);
+        int known = ending == 0 || (1 <= ending && ending <= 11) || (21 <= ending && ending <= 26);
         same("portal_ending_name", "known", known, strcmp(portal_ending_name(ending), "unknown") != 0);
         named += known;
         for (int other = 0; known && other < ending; other++) {
             same("portal_ending_name", "another name", 1, strcmp(portal_ending_name(ending), portal_ending_name(other)) != 0);
         }
     }
-    same("portal_ending_name", "how many", 17, named);
+    same("portal_ending_name", "how many", 18, named);
     same("portal_ending_name", "finished", 0, strcmp(portal_ending_name(PORTAL_FINISHED), "finished"));
 }
 
@@ -77,6 +77,8 @@ static void versions(void) {
     snprintf(text, sizeof text, "%d.%d.%d", PORTAL_VERSION_MAJOR, PORTAL_VERSION_MINOR, PORTAL_VERSION_PATCH);
     same("PORTAL_VERSION", "its numbers", 0, strcmp(text, PORTAL_VERSION));
     same("PORTAL_MAX_LINES", "number", 1000000, PORTAL_MAX_LINES);
+    same("PORTAL_MAX_SCRIPT", "number", 16384, PORTAL_MAX_SCRIPT);
+    same("PORTAL_MAX_WORDS", "number", 4096, PORTAL_MAX_WORDS);
 }
 
 int main(void) {
