@@ -1,6 +1,6 @@
-/* portal_start and portal_follow from C. Every lent area lies between two pages that nobody may touch, at the end of one or at the beginning of the other. First
-   come endings and lines and each way in which a table holds no tree; then so many rounds with table and variables filled with random numbers, and as many with
-   what a job and a script left, as it is or changed in one place. What a table must be is written here once more, from the paper.
+/* portal_start and portal_follow from C. Every lent area lies between two pages that nobody may touch, and touches one of them. First come endings and lines
+   and each way in which a table holds no tree; then so many rounds with table and variables filled with random numbers, and as many with what a job and a
+   script left, as it is or changed in one place. What a table must be is written here once more, from the paper.
 
        standing ROUNDS
 

@@ -1,5 +1,5 @@
--- What the runs over words promise, as what a portal is handed back: an outcome's line count fits into the number, and with the portal's own buffers the run over
--- job bytes leaves what the rules' run gives. Assumes nothing.
+-- What the runs over words promise, as what a portal is handed back: an outcome's line count fits into the number, and with the portal's own buffers the run
+-- over job bytes leaves what the rules' run gives. Assumes nothing.
 use mathlib.Core.Path.{_≡_, _∙_, ap, ap₂}
 use mathlib.Core.List.{List}
 use Prim.Native.Nat.{ℕ, _≤_}

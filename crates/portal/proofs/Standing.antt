@@ -1,5 +1,5 @@
--- The calls over a tree that the portal keeps, from their contracts alone: what C reads off a call is what the monitor's outcome says, so demand 3 and the secrecy
--- rule for histories are the monitor's. Assumes nothing.
+-- The calls over a tree that the portal keeps, from their contracts alone: what C reads off a call is what the monitor's outcome says, so demand 3 and the
+-- secrecy rule for histories are the monitor's. Assumes nothing.
 use mathlib.Core.Path.{_≡_, refl, sym, _∙_, ap, subst}
 use mathlib.Core.List.{List, [], _∷_, map}
 use Prim.Native.Nat.{ℕ, _*_, _/_, _%_, _<_, _≤_}

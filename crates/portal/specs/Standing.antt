@@ -66,7 +66,7 @@ pub record PortalCall : Type 0 where
 abbrev pub seen : PortalCall → Handed
 seen c = shown (c .number) (c .left)
 
--- call after call, each over what the one before it left, the first over what x holds
+-- call after call, each over what the one before it left, the first over what x holds; a call that the portal undoes is none of them
 abbrev pub PortalHistory : Words → List PortalCall → Type 0
 PortalHistory x [] = Unit {0}
 PortalHistory x (c ∷ cs) =

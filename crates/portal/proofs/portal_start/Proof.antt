@@ -14,4 +14,6 @@ returns c =
     record { outcome = _; promise = p .0; number = c .number .ensures; behind = p .1 }
 
 pub portal-start-spec : {M : Type 1} → statement M
-portal-start-spec = tie.close (tie.spec (λ c κs. search needs) number-requires (λ c. search needs) (λ c. search needs) (λ c. search needs) (λ c. search needs) returns)
+portal-start-spec =
+    tie.close
+    (tie.spec (λ c κs. search needs) number-requires (λ c. search needs) (λ c. search needs) (λ c. search needs) (λ c. search needs) returns)
