@@ -151,10 +151,7 @@ uint64_t portal_follow(const uint8_t *script, size_t script_len, uint64_t budget
 /* How many variables a job has, if it is not turned back with 1 to 8: its trailer says where the nodes begin, and each variable before them has 8 bytes.
    For other bytes, some number up to PORTAL_MAX_VARIABLES. */
 static inline size_t portal_variables(const uint8_t *job, size_t job_len) {
-    if (job_len < 8) {
-        return 0;
-    }
-    size_t variables = (job[job_len - 6] + 256u * job[job_len - 5]) / 8;
+    size_t variables = job_len < 8 ? 0 : (job[job_len - 6] + 256u * job[job_len - 5]) / 8;
     return variables <= PORTAL_MAX_VARIABLES ? variables : 0;
 }
 
