@@ -1,0 +1,201 @@
+// One event: its header, its body, and what it does.
+use super::dump;
+use super::poke;
+use super::runs;
+use super::variables::Variables;
+use frames::Header;
+use frames::State;
+use frames::outcome::WORDS;
+use job::reads::full_at;
+use print::SIZE;
+ghost use Prim.Native.Nat.{_<_, _≤_};
+ghost use Rattle.frames.specs.Bounds.{Fits};
+ghost use Rattle.history.specs.Room.{Room};
+
+// Four bytes for each of 65,535 lines.
+pub const AREA: usize = 262140;
+
+// The state after an event, and the variables that stand.
+pub struct After {
+    pub state: State,
+    pub variables: Variables,
+}
+
+// Puts the name and the number of an event.
+fn name(buf: &mut [u8; SIZE], s: State, text: &[u8], k: u64) -> State
+    requires { ⌜ Fits s ⌝ }
+    ensures { λ r. ⌜ Fits r ⌝ }
+{
+    let out = print::item(buf, s.out, text, k);
+    let span = s.span;
+    State {
+        span,
+        out: print::byte(buf, out, b'\n'),
+        over: false,
+    }
+}
+
+// A job or a script.
+fn run(
+    block: &mut [u8; SIZE],
+    body: &mut [u8],
+    buf: &mut [u8; SIZE],
+    words: &mut [u32; WORDS],
+    lines: &mut [u8; AREA],
+    s: State,
+    v: Variables,
+    kind: u32,
+    h: Header,
+    k: u64,
+) -> After
+    requires { ⌜ Fits s × Room v × (h .lines < 65536) ⌝ }
+    ensures { λ r. ⌜ Fits (r .state) × Room (r .variables) ⌝ }
+{
+    let b = frames::read_body(block, body, buf, s, h.size);
+    let read = b.state;
+    if read.over {
+        return After {
+            state: read,
+            variables: v,
+        };
+    }
+    let count = b.count;
+    let r = runs::run(kind, &body[..count], h, k, buf, read.out, words, lines, v);
+    let span = read.span;
+    let out = r.out;
+    let variables = r.variables;
+    After {
+        state: State {
+            span,
+            out,
+            over: false,
+        },
+        variables,
+    }
+}
+
+// The entries of a poke, as they come.
+fn set(
+    block: &mut [u8; SIZE],
+    buf: &mut [u8; SIZE],
+    words: &mut [u32; WORDS],
+    s: State,
+    v: Variables,
+    size: usize,
+) -> After
+    requires { ⌜ Fits s × Room v ⌝ }
+    ensures { λ r. ⌜ Fits (r .state) × Room (r .variables) ⌝ }
+{
+    let mut entry = [0u8; 8];
+    let mut t = s;
+    let mut u = v;
+    let mut left = size;
+    while left >= 8 {
+        t = frames::part(block, &mut entry, buf, t);
+        if t.over {
+            return After {
+                state: t,
+                variables: u,
+            };
+        }
+        u = poke::set(words, u, &entry);
+        left -= 8;
+    }
+    After {
+        state: frames::pass(block, buf, t, left),
+        variables: u,
+    }
+}
+
+fn poke(
+    block: &mut [u8; SIZE],
+    buf: &mut [u8; SIZE],
+    words: &mut [u32; WORDS],
+    s: State,
+    v: Variables,
+    h: Header,
+    k: u64,
+) -> After
+    requires { ⌜ Fits s × Room v ⌝ }
+    ensures { λ r. ⌜ Fits (r .state) × Room (r .variables) ⌝ }
+{
+    let e = set(block, buf, words, s, v, h.size);
+    let t = e.state;
+    let u = e.variables;
+    if t.over {
+        return After {
+            state: t,
+            variables: u,
+        };
+    }
+    After {
+        state: name(buf, t, b"poke ", k),
+        variables: u,
+    }
+}
+
+// A dump (kind 3), or an event of no kind. Of its body nothing is read.
+fn show(
+    block: &mut [u8; SIZE],
+    buf: &mut [u8; SIZE],
+    words: &[u32; WORDS],
+    s: State,
+    v: Variables,
+    kind: u32,
+    h: Header,
+    k: u64,
+) -> State
+    requires { ⌜ Fits s × Room v ⌝ }
+    ensures { λ r. ⌜ Fits r ⌝ }
+{
+    let t = frames::pass(block, buf, s, h.size);
+    if t.over {
+        return t;
+    }
+    if kind != 3 {
+        return name(buf, t, b"unknown ", k);
+    }
+    let u = name(buf, t, b"table ", k);
+    let span = u.span;
+    State {
+        span,
+        out: dump::put(buf, u.out, words, h.places, v),
+        over: false,
+    }
+}
+
+// The next event, which is number k.
+pub fn next(
+    block: &mut [u8; SIZE],
+    body: &mut [u8],
+    buf: &mut [u8; SIZE],
+    words: &mut [u32; WORDS],
+    lines: &mut [u8; AREA],
+    s: State,
+    v: Variables,
+    k: u64,
+) -> After
+    requires { ⌜ Fits s × Room v ⌝ }
+    ensures { λ r. ⌜ Fits (r .state) × Room (r .variables) ⌝ }
+{
+    let mut head = [0u8; 16];
+    let t = frames::next(block, &mut head, buf, s);
+    if t.over {
+        return After {
+            state: t,
+            variables: v,
+        };
+    }
+    let kind = full_at(&head, 0);
+    let h = frames::read_header(&head, 4);
+    if kind < 2 {
+        return run(block, body, buf, words, lines, t, v, kind, h, k);
+    }
+    if kind == 2 {
+        return poke(block, buf, words, t, v, h, k);
+    }
+    After {
+        state: show(block, buf, words, t, v, kind, h, k),
+        variables: v,
+    }
+}

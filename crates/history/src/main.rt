@@ -1,0 +1,44 @@
+// Runs scripts over a tree that stays, for tests. Standard input is a sequence of events: the kind, the body's length and the budget in 4 bytes each, the
+// places and the line capacity in 2 bytes each, little-endian, then the body. For each, in order, what became of it goes to standard output; events are
+// counted from 0.
+mod dump;
+mod event;
+mod poke;
+mod runs;
+mod variables;
+
+use event::AREA;
+use frames::outcome::WORDS;
+use print::SIZE;
+
+// A proved loop has to end, and nothing says that the input does: so this one ends too where the events can be counted no further.
+fn history(
+    block: &mut [u8; SIZE],
+    body: &mut [u8],
+    buf: &mut [u8; SIZE],
+    words: &mut [u32; WORDS],
+    lines: &mut [u8; AREA],
+) {
+    let mut s = frames::start();
+    let mut v = variables::none();
+    let mut k: u64 = 0;
+    while k < u64::MAX {
+        let e = event::next(block, body, buf, words, lines, s, v, k);
+        s = e.state;
+        v = e.variables;
+        if s.over {
+            return;
+        }
+        k += 1;
+    }
+}
+
+// The body's buffer has one place more than a job may have bytes, so that a body that is too long is seen.
+fn main() {
+    let mut block = io::large_buffer();
+    let mut body = [0u8; 23049];
+    let mut buf = io::large_buffer();
+    let mut words = [0u32; WORDS];
+    let mut lines = [0u8; AREA];
+    history(&mut block, &mut body, &mut buf, &mut words, &mut lines);
+}

@@ -1,0 +1,68 @@
+// Single numbers of what stands, set from outside: what is lent to a script may hold anything.
+use super::variables;
+use super::variables::Variables;
+use frames::outcome::PLACES;
+use frames::outcome::WORDS;
+use job::reads::full_at;
+use job::reads::half_at;
+use rules::numbers::signed;
+use table::Node;
+use table::lent;
+ghost use Prim.Native.Nat.{_≤_};
+ghost use Rattle.history.specs.Room.{Room};
+
+// The level in the low byte.
+fn low(x: u32) -> u8 {
+    (x % 256) as u8
+}
+
+// A record with another number in one of its eight fields.
+fn with(node: Node, field: usize, x: u32) -> Node {
+    let mut r = node;
+    match field {
+        0 => r.first = x,
+        1 => r.right = x,
+        2 => r.parent = x,
+        3 => r.children = x,
+        4 => r.value = signed(x),
+        5 => r.existence = low(x),
+        6 => r.content = low(x),
+        _ => r.structure = low(x),
+    }
+    r
+}
+
+fn set_field(words: &mut [u32; WORDS], place: usize, field: usize, x: u32) {
+    if place >= PLACES {
+        return;
+    }
+    let node = lent::node_of(words, place);
+    lent::put(words, place, with(node, field, x));
+}
+
+fn set_variable(v: Variables, i: usize, what: usize, x: u32) -> Variables
+    requires { ⌜ Room v ⌝ }
+    ensures { λ r. ⌜ Room r ⌝ }
+{
+    match what {
+        8 => variables::set_level(v, i, low(x)),
+        9 => variables::set_value(v, i, signed(x)),
+        10 => variables::lend(v, x as usize),
+        _ => v,
+    }
+}
+
+// An entry: what is set, at which place, to which number.
+pub fn set(words: &mut [u32; WORDS], v: Variables, entry: &[u8; 8]) -> Variables
+    requires { ⌜ Room v ⌝ }
+    ensures { λ r. ⌜ Room r ⌝ }
+{
+    let what = half_at(entry, 0);
+    let at = half_at(entry, 2);
+    let x = full_at(entry, 4);
+    if what < 8 {
+        set_field(words, at, what, x);
+        return v;
+    }
+    set_variable(v, at, what, x)
+}
