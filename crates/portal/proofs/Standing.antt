@@ -19,12 +19,13 @@ use Rattle.monitor.specs.declared.entry.Outcome.{Outcome}
 use Rattle.monitor.specs.Promises.{answerOf, placesIn, Tree, Leaves, Promises}
 use Rattle.monitor.specs.Secrecy.{boardOf, SecretCalls}
 use Rattle.monitor.specs.Follow.{StandsIn, Follows, over, none}
-use Rattle.monitor.specs.Histories.{Call, CallHistory, UnseenHistory, SecretHistories}
+use Rattle.monitor.specs.Histories.{Call, CallHistory, UnseenHistory, SecretHistories, SecretJobHistories}
 use Rattle.monitor.proofs.Secret.{secret-calls}
 use Rattle.monitor.proofs.Histories.{secret-histories}
+use Rattle.monitor.proofs.JobHistories.{secret-job-histories}
 use Rattle.portal.specs.Portal.{numberOf}
 use Rattle.portal.specs.Secrecy.{endingIn, countIn, linesIn, Unseen}
-use Rattle.portal.specs.Standing.{Words, shown, TurnedBack, LowNeverLent, PortalCall, PortalHistory, SecretStart, UnseenPortalHistory, SecretPortalHistories}
+use Rattle.portal.specs.Standing.{Words, shown, TurnedBack, LowNeverLent, PortalCall, PortalHistory, SecretStart, UnseenPortalHistory, SecretPortalHistories, SecretPortalJobHistories}
 use Rattle.portal.proofs.Handed.{few-started, few-followed}
 use Rattle.portal.proofs.Secret.{upper, lower}
 
@@ -172,3 +173,14 @@ unfolding SecretPortalHistories SecretHistories
 secret-portal-histories o x y cs ds agree same h k =
     read-off o cs ds x y h k
     (secret-histories o x y (calls x cs h) (calls y ds k) agree (scripts x cs h ∙ same ∙ sym (scripts y ds k)) (kept x cs h) (kept y ds k))
+
+pub secret-portal-job-histories : (o : Level) → SecretPortalJobHistories o
+unfolding SecretPortalJobHistories SecretJobHistories SecretStart
+secret-portal-job-histories o a b n m x x′ y y′ z w r s cs ds p q ha hb alike on on′ same h k =
+    let ep = sym (ending-in (p .outcome) (few-started (p .promise)) x′ r (p .number)) in
+    let eq = sym (ending-in (q .outcome) (few-started (q .promise)) y′ s (q .number)) in
+    let u = secret-job-histories o a b n m x x′ y y′ z w (p .outcome) (q .outcome) (calls z cs h) (calls w ds k) (p .promise) (q .promise) ha hb alike on on′
+    (scripts z cs h ∙ same ∙ sym (scripts w ds k)) (kept z cs h) (kept w ds k) in (
+      secret-start o a b n m x x′ y y′ r s p q ha hb alike,
+      λ e f. read-off o cs ds z w h k (u .1 (ep ∙ e) (eq ∙ f)),
+    )

@@ -15,7 +15,7 @@ use Rattle.monitor.specs.declared.entry.Outcome.{Outcome}
 use Rattle.monitor.specs.Promises.{answerOf, Lent, placesIn, Tree, Promises}
 use Rattle.monitor.specs.Secrecy.{variableIn}
 use Rattle.monitor.specs.Follow.{StandsIn, Follows}
-use Rattle.monitor.specs.Histories.{Stays, AgreeLent}
+use Rattle.monitor.specs.Histories.{Stays, LentOn, AgreeLent}
 use Rattle.portal.specs.Portal.{numberOf, Handed, handed}
 use Rattle.portal.specs.Secrecy.{endingIn, Unseen}
 
@@ -70,7 +70,11 @@ seen c = shown (c .number) (c .left)
 abbrev pub PortalHistory : Words → List PortalCall → Type 0
 PortalHistory x [] = Unit {0}
 PortalHistory x (c ∷ cs) =
-    Stays x (c .given) × (Followed (c .section) (c .budget) (c .given) (c .left) (c .number) × PortalHistory (c .left) cs)
+    Stays StandsIn x (c .given) × (Followed (c .section) (c .budget) (c .given) (c .left) (c .number) × PortalHistory (c .left) cs)
+
+-- "the same scripts"
+abbrev pub SameScripts : List PortalCall → List PortalCall → Type 0
+SameScripts cs ds = map (λ c. sectionScript (c .section)) cs ≡ map (λ d. sectionScript (d .section)) ds
 
 -- for a reader o
 module _ (o : Level) where
@@ -100,6 +104,13 @@ module _ (o : Level) where
   -- two histories of calls of portal_follow that keep the contract, with the same scripts, from what agrees for o, whatever their budgets and areas
   unfoldable pub SecretPortalHistories : Type 0
   SecretPortalHistories =
-      (x y : Words) (cs ds : List PortalCall) → AgreeLent placesIn Tree StandsIn o x y
-      → map (λ c. sectionScript (c .section)) cs ≡ map (λ d. sectionScript (d .section)) ds → PortalHistory x cs → PortalHistory y ds
+      (x y : Words) (cs ds : List PortalCall) → AgreeLent placesIn Tree StandsIn o x y → SameScripts cs ds → PortalHistory x cs → PortalHistory y ds
       → UnseenPortalHistory cs ds
+
+  -- the same from two calls of portal_start with accepted jobs that are alike for o, which come first
+  unfoldable pub SecretPortalJobHistories : Type 0
+  SecretPortalJobHistories =
+      (a b : List ℕ) (n m : ℕ) (x x′ y y′ z w : Words) (r s : ℕ) (cs ds : List PortalCall) → Started a n x x′ r → Started b m y y′ s
+      → checkBytes a ≡ accepted → checkBytes b ≡ accepted → Alike o a b → LentOn (variableCount a) x′ z → LentOn (variableCount b) y′ w
+      → SameScripts cs ds → PortalHistory z cs → PortalHistory w ds
+      → UnseenStart (variableCount a) x′ y′ r s × (endingIn (shown r x′) ≡ 0 → endingIn (shown s y′) ≡ 0 → UnseenPortalHistory cs ds)
