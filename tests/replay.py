@@ -1,52 +1,14 @@
-"""Tries the program replay, whose path is the argument. What it must write is worked out from the paper for each frame."""
-import os
+"""Tries the program replay. What it must write is worked out from the paper for each frame."""
 import struct
-import subprocess
-import sys
 
-REPLAY = sys.argv[1]
-checked = 0
-
-ROOT = bytes.fromhex("ffff 00 00 00 000000 0a000000")
-CHILD = bytes.fromhex("0000 00 00 00 000000 03000000")
-TWO = bytes.fromhex("00000000 00000000 01000000 f9ffffff")  # public 0, house -7
-PRINT = bytes.fromhex("06 00 00 02 00 000000 00000000 00000000")
-END = bytes.fromhex("05 00 00 00 00 000000 00000000 00000000")
-FOREVER = bytes.fromhex("04 00 00 00 00 000000 01000000 00000000")
-NEW_CHILD = bytes.fromhex("0b 03 00 00 00 000000 04000000 00000000")
-
-
-def job(variables, nodes, *script):
-    v, n, s = len(variables), len(variables) + len(nodes), len(variables) + len(nodes) + 16 * len(script)
-    return variables + nodes + b"".join(script) + struct.pack("<HHHH", 0, v, n, s)
+from frames import (CHILD, END, FOREVER, NEW_CHILD, PAPER, PAPER_ANSWER, PRINT, ROOT, TWO, answer, done, expect, job, node, one_by_one,
+                    same_memory)
 
 
 def frame(job, budget=100, places=512, lines=256):
     return struct.pack("<IIHH", len(job), budget, places, lines) + job
 
 
-def run(data):
-    return subprocess.run([REPLAY], input=data, stdout=subprocess.PIPE, stderr=subprocess.PIPE)
-
-
-def same(what, want, got):
-    global checked
-    if want != got:
-        sys.exit(f"FAILED: {what}\n--- expected\n{want[:2000]}\n--- got\n{got[:2000]}")
-    checked += 1
-
-
-def expect(what, data, want):
-    p = run(data)
-    same(what, (want, "", 0), (p.stdout.decode(), p.stderr.decode(), p.returncode))
-
-
-def answer(ending, index=0, steps=0, lines=0):
-    return f"ending {ending} index {index} steps {steps} lines {lines}\n"
-
-
-PAPER = job(b"", ROOT, PRINT)
-PAPER_ANSWER = answer(0, 0, 1, 1) + "line 10\nnode 0 0 0 0 10\n"
 EMPTY = job(TWO, ROOT + CHILD)
 EMPTY_REST = "variable 0 0\nvariable 1 -7\nnode 0 0 0 0 10\nnode 1 0 0 0 3\n"
 
@@ -98,7 +60,7 @@ expect("a job of 23048 bytes", frame(bytes(23048)) + frame(PAPER), "job 0\n" + a
 expect("a job of no bytes", frame(b"") + frame(PAPER), "job 0\n" + answer(1) + "job 1\n" + PAPER_ANSWER)
 
 # A tree that is walked up by more than one step: under the root 1 the nodes 2 and 3, under 2 the node 4, under 4 the nodes 5 and 6.
-NODES = b"".join(struct.pack("<HBBBBHi", p, e, c, l, 0, 0, v) for p, e, c, l, v in [
+NODES = b"".join(node(*fields) for fields in [
     (65535, 0, 0, 1, 1), (0, 0, 1, 1, 2), (0, 1, 1, 1, -3), (1, 0, 0, 1, 4), (3, 0, 0, 0, -2147483648), (3, 1, 1, 1, 2147483647)])
 expect("a tree", frame(job(b"", NODES)), "job 0\n" + answer(0) +
        "node 0 0 0 1 1\nnode 1 0 1 1 2\nnode 2 0 0 1 4\nnode 3 0 0 0 -2147483648\nnode 3 1 1 1 2147483647\nnode 1 1 1 1 -3\n")
@@ -106,33 +68,6 @@ expect("a tree", frame(job(b"", NODES)), "job 0\n" + answer(0) +
 # Many jobs, so that frames and answers fall on every edge of the blocks.
 N = 100000
 expect(f"{N} jobs", frame(PAPER) * N, "".join(f"job {k}\n" + PAPER_ANSWER for k in range(N)))
-
-
-# The most memory that the program has had, in kilobytes, when it has come to the last of n jobs.
-def memory(n):
-    with subprocess.Popen([REPLAY], stdin=subprocess.PIPE, stdout=subprocess.DEVNULL) as p:
-        p.stdin.write(frame(PAPER) * n)
-        p.stdin.flush()
-        with open(f"/proc/{p.pid}/status") as status:
-            kilobytes = next(int(line.split()[1]) for line in status if line.startswith("VmHWM"))
-        p.stdin.close()
-    return kilobytes
-
-
-few, lots = memory(2000), memory(200000)
-if lots > few + 256:
-    sys.exit(f"FAILED: memory grew from {few} to {lots} kilobytes")
-print(f"replay: {few} kilobytes for 2,000 jobs, {lots} for 200,000")
-
-# One frame at a time: each is answered before the next is sent. Bytes may come one by one.
-with subprocess.Popen([REPLAY], stdin=subprocess.PIPE, stdout=subprocess.PIPE) as p:
-    for k in range(3):
-        for b in frame(PAPER):
-            p.stdin.write(bytes([b]))
-            p.stdin.flush()
-        want = f"job {k}\n" + PAPER_ANSWER
-        same(f"frame {k} alone", want, os.read(p.stdout.fileno(), 4096).decode())
-    p.stdin.close()
-    same("its end", "", p.stdout.read().decode())
-
-print(f"replay: {checked} comparisons")
+same_memory(frame(PAPER))
+one_by_one([frame(PAPER)] * 5, [f"job {k}\n" + PAPER_ANSWER for k in range(5)])
+done()

@@ -1,0 +1,234 @@
+"""Tries the program history. What it must write is worked out from the papers for each event."""
+import struct
+
+from frames import (CHILD, END, FOREVER, NEW_CHILD, PAPER, PAPER_ANSWER, PRINT, ROOT, TWO, answer, done, expect, job, node, one_by_one, output,
+                    record, same, same_memory)
+
+NONE = 65535
+FIRST, RIGHT, PARENT, CHILDREN, VALUE, EXISTENCE, CONTENT, LIST, LEVEL, NUMBER, COUNT = range(11)
+
+
+def event(kind, body=b"", budget=100, places=512, lines=256):
+    return struct.pack("<IIIHH", kind, len(body), budget, places, lines) + body
+
+
+def start(body, **lent):
+    return event(0, body, **lent)
+
+
+def script(*records, **lent):
+    return event(1, b"".join(records), **lent)
+
+
+def poke(*entries):
+    return event(2, b"".join(struct.pack("<HHI", what, index, value % 2**32) for what, index, value in entries))
+
+
+def dump(places):
+    return event(3, places=places)
+
+
+def fields(place, first, right, parent, children, value, existence, content, structure):
+    """The entries that set a whole record."""
+    numbers = (first, right, parent, children, value, existence, content, structure)
+    return [(what, place, number) for what, number in enumerate(numbers)]
+
+
+def history(what, *pairs):
+    """Events, each with what must come for it; K stands for its number."""
+    expect(what, b"".join(data for data, _ in pairs), "".join(text.replace("K", str(k), 1) for k, (_, text) in enumerate(pairs)))
+
+
+def came(ending, index=0, steps=0, lines="", left=""):
+    """What comes for a script: its answer, its lines, the variables and the tree that it leaves."""
+    return "script K\n" + answer(ending, index, steps, lines.count("line")) + lines + left
+
+
+BLANK = "record {} 0 0 0 0 0 0 0 0\n"
+ROOT_TEN = "node 0 0 0 0 10\n"
+FAMILY = "variable 0 0\nvariable 1 -7\n" + ROOT_TEN + "node 1 0 0 0 3\n"
+FAMILY_JOB = (start(job(TWO, ROOT + CHILD)), "job K\n" + answer(0) + FAMILY)
+PAPER_JOB = (start(PAPER), "job K\n" + PAPER_ANSWER)
+STANDS = (script(), came(0, left=FAMILY))
+POKED = "poke K\n"
+
+# Before any job all is blank: no root stands there.
+expect("no input", b"", "")
+for places, shown in [(0, 0), (1, 1), (2, 2), (512, 512), (513, 513), (514, 513), (65535, 513)]:
+    history(f"{places} blank records", (dump(places), "table K\n" + "".join(BLANK.format(p) for p in range(shown))))
+for places in [0, 1, 2, 512, 513, 65535]:
+    history(f"a script over {places} blank records", (script(places=places), came(11)), (script(PRINT, places=places, budget=0), came(11)))
+
+# Script after script: each starts at the root with cursor level 0 and has its own steps and lines; what it leaves stands for the next, also where it stops.
+NEW = "node 1 0 1 1 4\n"
+history(
+    "script after script",
+    FAMILY_JOB,
+    (script(record(9), record(15, left=(0, 5))), came(0, 0, 2, left=FAMILY.replace(" 3\n", " 5\n"))),
+    (script(PRINT), came(0, 0, 1, "line 10\n", FAMILY.replace(" 3\n", " 5\n"))),
+    (script(NEW_CHILD, record(1, left=(3, 0))), came(0, 0, 2, "", "variable 0 2\nvariable 1 -7\n" + ROOT_TEN + NEW + "node 1 0 0 0 5\n")),
+    (script(record(13), record(1, operator=1, left=(1, 0), right=(0, 7)), record(1, left=(1, 1)), PRINT),
+     came(21, 2, 2, "", "variable 0 9\nvariable 1 -7\n" + ROOT_TEN + "node 1 0 0 0 5\n")),
+    (script(record(16), record(9)), came(0, 0, 2, "", "variable 0 9\nvariable 1 -7\n" + ROOT_TEN + "node 1 0 0 0 5\n")),
+    (script(record(6, left=(1, 0)), record(9), PRINT, record(8), PRINT),
+     came(0, 0, 5, "line 9\nline 5\nline 10\n", "variable 0 9\nvariable 1 -7\n" + ROOT_TEN + "node 1 0 0 0 5\n")),
+    (script(FOREVER, END, budget=10), came(25, 0, 10, "", "variable 0 9\nvariable 1 -7\n" + ROOT_TEN + "node 1 0 0 0 5\n")),
+)
+
+# Of two places the second is free after a removal and serves again; with both in use there is none for a third node.
+FULL = "variable 0 0\nvariable 1 -7\n" + ROOT_TEN + NEW
+history(
+    "two places",
+    (start(job(TWO, ROOT + CHILD), places=2), FAMILY_JOB[1]),
+    (script(record(13), NEW_CHILD, places=2), came(0, 0, 2, "", FULL)),
+    (script(NEW_CHILD, places=2), came(23, 0, 0, "", FULL)),
+    (script(NEW_CHILD, places=3), came(0, 0, 1, "", FULL + NEW)),
+    (script(places=2), came(11)),
+    (script(places=3), came(0, left=FULL + NEW)),
+)
+
+# A job that is turned back leaves everything; one that is run leaves its own tree and variables. The paper's job stops and finishes alike.
+history(
+    "job after job",
+    FAMILY_JOB,
+    (start(job(TWO, ROOT + CHILD), places=1), "job K\n" + answer(10)),
+    (start(job(TWO, ROOT + CHILD), budget=0), "job K\n" + answer(9)),
+    (start(b"1234567"), "job K\n" + answer(1)),
+    STANDS,
+    (start(job(TWO[:8], node(65535, 0, 1, 0, 7), PRINT)), "job K\n" + answer(21) + "variable 0 0\nnode 0 0 1 0 7\n"),
+    (script(), came(0, left="variable 0 0\nnode 0 0 1 0 7\n")),
+    PAPER_JOB,
+    (script(PRINT), came(0, 0, 1, "line 10\n", ROOT_TEN)),
+)
+
+# Turned away in the order 11, 7, 8, 9, 10, and nothing has changed. A section has whole records, at most 1,024.
+STRANGE = record(17)
+history(
+    "turned away",
+    FAMILY_JOB,
+    (event(1, STRANGE[:15], budget=0, places=513), came(11)),
+    (script(END, STRANGE, budget=0, places=1), came(11)),
+    (script(END, STRANGE, budget=0, places=513), came(7, 1)),
+    (script(record(0), END, budget=0, places=513), came(8, 1)),
+    (script(FOREVER, FOREVER, budget=0, places=513), came(8, 2)),
+    (script(record(1, target=2), places=513), came(7, 0)),
+    (script(record(0), budget=0, places=513), came(9)),
+    (script(record(0), budget=1000001, places=513), came(9)),
+    (script(record(0), budget=1000000, places=513), came(10)),
+    (script(record(0), budget=1000000, places=65535), came(10)),
+    (script(record(0), budget=1, places=512), came(0, 0, 1, "", FAMILY)),
+    (script(*[record(0)] * 1024, budget=1024), came(0, 0, 1024, "", FAMILY)),
+    (script(*[record(0)] * 1024, budget=1023), came(25, 1023, 1023, "", FAMILY)),
+    (script(*[record(0)] * 1025, budget=1025), came(11)),
+    (script(*[STRANGE] * 1025, budget=1025), came(11)),
+    STANDS,
+)
+
+# Bodies that are longer than any section or job: they are read to their end, and the next event is found.
+for size in [16400, 23040, 23048, 23049, 23056, 65536, 70000, 200000]:
+    history(f"bodies of {size} bytes", FAMILY_JOB, (event(1, bytes(size)), came(11)), (start(bytes(size)), "job K\n" + answer(1 if size > 23048 else 2)),
+            (event(3, bytes(size), places=0), "table K\nvariable 0 0\nvariable 1 -7\n"), (event(9, bytes(size)), "unknown K\n"), STANDS)
+for kind in [4, 5, 2**32 - 1]:
+    history(f"kind {kind}", FAMILY_JOB, (event(kind, bytes(24)), "unknown K\n"), (event(kind), "unknown K\n"), STANDS)
+
+# Line capacities. Each turn of the loop takes three steps, so that the stop in turn n comes after 3 * (n - 1) + 1.
+for capacity in [0, 1, 1024, 1025, 65535]:
+    history(f"line capacity {capacity}", PAPER_JOB, (script(FOREVER, PRINT, END, budget=1000000, lines=capacity),
+            came(24, 1, 3 * capacity + 1, "line 10\n" * capacity, ROOT_TEN)), (script(PRINT), came(0, 0, 1, "line 10\n", ROOT_TEN)))
+    if capacity > 300:
+        continue
+    history(f"line capacity {capacity} of a job", (start(job(b"", ROOT, FOREVER, PRINT, END), lines=capacity),
+            "job K\n" + answer(24, 1, 3 * capacity + 1, capacity) + "line 10\n" * capacity + ROOT_TEN), (script(), came(0, left=ROOT_TEN)))
+
+# A table that is poked in, its nodes out of order: under the root, in place 0, those in places 5 and 3, under that in place 3 the one in place 1. In the
+# free places stands what leads nowhere.
+TABLE = [(5, NONE, NONE, 2, 10, 0, 0, 1), (NONE, NONE, 3, 0, -2147483648, 1, 1, 1), (7, 7, 7, 7, 7, 255, 255, 255), (1, NONE, 0, 1, 2147483647, 1, 1, 1),
+         (0, 0, 0, 0, 0, 0, 0, 0), (NONE, 3, 0, 0, -3, 0, 1, 0)]
+TREE = "node 0 0 0 1 10\nnode 1 0 1 0 -3\nnode 1 1 1 1 2147483647\nnode 2 1 1 1 -2147483648\n"
+VARIABLES = "variable 0 5\nvariable 1 -5\n"
+WHOLE = poke(*[entry for place, numbers in enumerate(TABLE) for entry in fields(place, *numbers)],
+             (LEVEL, 0, 0), (NUMBER, 0, 5), (LEVEL, 1, 1), (NUMBER, 1, -5), (COUNT, 0, 2))
+RECORDS = ["record {} {} {} {} {} {} {} {} {}\n".format(place, *numbers) for place, numbers in enumerate(TABLE)]
+PUT = (WHOLE, POKED)
+RUNS = (script(places=6), came(0, left=VARIABLES + TREE))
+history("a table that is put in", PUT, (dump(6), "table K\n" + "".join(RECORDS) + VARIABLES), (dump(2), "table K\n" + "".join(RECORDS[:2]) + VARIABLES), RUNS,
+        (script(places=512), came(0, left=VARIABLES + TREE)), (script(places=513), came(10)), (script(places=5), came(11)), (script(places=0), came(11)))
+
+# Each of these breaks it, so that no accepted job could hold it: links out of range, cycles, places that two links lead to, wrong parents, wrong counts,
+# a root with a parent or a sibling, levels out of range, broken tree rules, variables. A script is turned away and leaves every record as it was.
+for broken in [
+    [(FIRST, 0, 6)], [(FIRST, 0, 65534)], [(FIRST, 0, 65536)], [(FIRST, 0, 2**32 - 1)], [(RIGHT, 3, 6)], [(RIGHT, 1, 70000)], [(FIRST, 5, 100)],
+    [(FIRST, 5, 5), (CHILDREN, 5, 1)], [(FIRST, 1, 3), (CHILDREN, 1, 1)], [(FIRST, 1, 0), (CHILDREN, 1, 1)], [(RIGHT, 3, 5)], [(RIGHT, 3, 3)], [(FIRST, 0, 0)],
+    [(FIRST, 5, 1), (CHILDREN, 5, 1)], [(RIGHT, 1, 3)],
+    [(PARENT, 5, 3)], [(PARENT, 5, NONE)], [(PARENT, 1, 0)], [(PARENT, 3, 5)], [(PARENT, 0, 0)], [(PARENT, 0, 5)], [(RIGHT, 0, 2)], [(RIGHT, 0, 5)],
+    [(CHILDREN, 0, 1)], [(CHILDREN, 0, 3)], [(CHILDREN, 1, 1)], [(CHILDREN, 3, 0)], [(CHILDREN, 0, 65538)],
+    [(FIRST, 0, NONE)], [(RIGHT, 5, NONE)], [(FIRST, 3, NONE)],
+    [(EXISTENCE, 0, 1), (CONTENT, 0, 1)], [(EXISTENCE, 5, 2)], [(CONTENT, 1, 2)], [(LIST, 3, 255)],
+    [(CONTENT, 3, 0)], [(LIST, 3, 0)], [(EXISTENCE, 5, 1), (EXISTENCE, 3, 0)], [(EXISTENCE, 1, 0)], [(LIST, 0, 0)],
+    [(LEVEL, 0, 2)], [(LEVEL, 1, 255)], [(COUNT, 0, 65)], [(COUNT, 0, 1000)],
+]:
+    changed = [list(numbers) for numbers in TABLE]
+    variables = [[0, 5], [1, -5]] + [[0, 0]] * 63
+    count = 2
+    for what, index, number in broken:
+        if what < LEVEL:
+            changed[index][what] = number
+        elif what == COUNT:
+            count = min(number, 65)
+        else:
+            variables[index][what - LEVEL] = number
+    shown = "".join("record {} {} {} {} {} {} {} {} {}\n".format(place, *numbers) for place, numbers in enumerate(changed))
+    shown += "".join("variable {} {}\n".format(*variable) for variable in variables[:count])
+    history(f"a broken table, {broken}", PUT, (poke(*broken), POKED), (script(NEW_CHILD, places=6), came(11)), (script(STRANGE, budget=0, places=6), came(11)),
+            (dump(6), "table K\n" + shown), (poke((COUNT, 0, 2)), POKED), PUT, RUNS)
+
+# These do not: what free places hold is nobody's business, and 64 variables are not too many.
+for entries, left in [
+    ([(FIRST, 2, 2**32 - 1), (PARENT, 4, 9), (EXISTENCE, 4, 9)], VARIABLES),
+    ([(COUNT, 0, 0)], ""),
+    ([(COUNT, 0, 64)], VARIABLES + "variable 0 0\n" * 62),
+    ([(LEVEL, 64, 9), (NUMBER, 64, 9), (LEVEL, 2, 9)], VARIABLES),
+]:
+    history(f"a table that serves, {entries}", PUT, (poke(*entries), POKED), (script(places=6), came(0, left=left + TREE)))
+
+# The most live nodes: 512. One more is too many for any job, with places enough.
+CHAIN = [entry for place in range(513) for entry in fields(place, place + 1 if place < 512 else NONE, NONE, place - 1 if place else NONE, int(place < 512), 0, 0, 0, 0)]
+DEEP = "".join(f"node {depth} 0 0 0 0\n" for depth in range(512))
+history("512 nodes and 513", (poke(*CHAIN, (FIRST, 511, NONE), (CHILDREN, 511, 0)), POKED), (script(places=512), came(0, left=DEEP)), (script(places=513), came(10)),
+        (poke(*CHAIN), POKED), (script(places=513), came(11)), (script(places=512), came(11)))
+
+# A live node may stand in record 512: the tree could be held, so it is 10.
+history("a node in record 512", (poke(*fields(0, 512, NONE, NONE, 1, 0, 0, 0, 0), *fields(512, NONE, NONE, 0, 0, 1, 0, 0, 0)), POKED),
+        (script(places=513), came(10)), (script(places=512), came(11)))
+
+# An index that is not there, and what is nothing, is passed over; so is a part entry at the end.
+SAME = "table K\n" + "".join(RECORDS) + VARIABLES
+PASSED = [(what, 513, 1) for what in range(8)] + [(FIRST, 65535, 1), (LEVEL, 65, 1), (NUMBER, 65, 1), (NUMBER, 65535, 1)]
+PASSED += [(what, 0, 1) for what in [11, 12, 15, 16, 255, 256, 65535]]
+PART = struct.pack("<HHI", NUMBER, 0, 6)
+history("pokes that are passed over", PUT, (poke(*PASSED), POKED), (dump(6), SAME), (event(2), POKED), (event(2, PART[:7]), POKED), (dump(6), SAME),
+        (event(2, PART + PART[:7]), POKED), (dump(6), SAME.replace("variable 0 5", "variable 0 6")))
+history("a long poke", PUT, (poke(*[(NUMBER, 0, number) for number in range(10000)], (VALUE, 0, 11)), POKED),
+        (script(places=6), came(0, left=(VARIABLES + TREE).replace("variable 0 5", "variable 0 9999").replace("0 1 10", "0 1 11"))))
+
+# Behind the places lent, records stay; behind the last variable, variables do. The root stands in record 0.
+expect("behind what is lent", WHOLE + poke((LEVEL, 2, 1), (NUMBER, 2, 77)) + start(PAPER, places=2) + poke((COUNT, 0, 3)) + dump(1),
+       "poke 0\npoke 1\njob 2\n" + PAPER_ANSWER + "poke 3\ntable 4\nrecord 0 65535 65535 65535 0 10 0 0 0\n" + VARIABLES + "variable 1 77\n")
+behind = output(WHOLE + start(PAPER, places=2) + script(NEW_CHILD, places=3) + dump(6)).splitlines(keepends=True)
+same("records behind the places lent", "".join(RECORDS[3:]), "".join(behind[-3:]))
+
+# Input that ends within a header or within a body.
+for kind in range(5):
+    whole = event(kind, bytes(24))
+    for cut in [1, 4, 15, 16, 17, 24, 39]:
+        expect(f"kind {kind} cut after {cut} bytes", start(PAPER) + whole[:cut], "job 0\n" + PAPER_ANSWER + "truncated\n")
+    expect(f"a long body of kind {kind} cut", event(kind, bytes(80000))[:-1], "truncated\n")
+
+# Many events, so that headers, bodies and answers fall on every edge of the blocks.
+N = 30000
+MANY = [start(PAPER), script(PRINT), poke((VALUE, 0, 10)), dump(1)]
+SAID = ["job {}\n" + PAPER_ANSWER, "script {}\n" + PAPER_ANSWER, "poke {}\n", "table {}\nrecord 0 65535 65535 65535 0 10 0 0 0\n"]
+expect(f"{4 * N} events", b"".join(MANY) * N, "".join(SAID[k % 4].format(k) for k in range(4 * N)))
+same_memory(b"".join(MANY))
+one_by_one(MANY * 3, [SAID[k % 4].format(k) for k in range(12)])
+done()
