@@ -62,6 +62,20 @@ impl Event {
         }
     }
 
+    /// Makes all blank, as at first.
+    pub fn blank() -> Event {
+        let record = Lent::default();
+        let mut entries: Vec<Entry> = (0..RECORDS)
+            .flat_map(|place| Entry::of_record(place, &record))
+            .collect();
+        for place in 0..VARIABLES {
+            entries.push(Entry::new(what::VARIABLE_LEVEL, place, 0));
+            entries.push(Entry::new(what::VARIABLE_VALUE, place, 0));
+        }
+        entries.push(Entry::new(what::VARIABLES, 0, 0));
+        Event::poke(&entries)
+    }
+
     /// Records lent: "at most 513".
     pub fn lent(&self) -> usize {
         usize::from(self.places).min(RECORDS)

@@ -1,7 +1,7 @@
 //! The smallest failing case, or pair, for a predicate: takes the first
 //! smaller one that still fails, until there is none.
 
-use crate::generate::{renumber, Case, Pair, Season};
+use crate::generate::{renumber, Case, HistoryPair, Pair};
 use crate::history::{self, Event};
 use crate::job::{
     self, command, kind, operator, Block, Job, Node, Record, Target, Variable, READS,
@@ -500,11 +500,12 @@ fn simpler_sections(section: &[u8]) -> Box<dyn Iterator<Item = Vec<u8>> + '_> {
     }))
 }
 
-/// Shrinks a season, for which `failing` holds; what comes out is one still.
-pub fn season(start: &Season, failing: &dyn Fn(&Season) -> bool) -> Season {
+/// Shrinks a pair of histories, for which `failing` holds; what comes out is one still.
+pub fn history_pair(start: &HistoryPair, failing: &dyn Fn(&HistoryPair) -> bool) -> HistoryPair {
     let mut best = start.clone();
     loop {
-        let found = smaller_seasons(&best).find(|season| season.well_formed() && failing(season));
+        let found = smaller_history_pairs(&best)
+            .find(|histories| histories.well_formed() && failing(histories));
         match found {
             Some(smaller) => best = smaller,
             None => return best,
@@ -515,10 +516,10 @@ pub fn season(start: &Season, failing: &dyn Fn(&Season) -> bool) -> Season {
 /// Fewer scripts; scripts with fewer or simpler records on both sides, which
 /// have the same ones where nothing stands in bytes that nobody reads; and
 /// smaller pairs of jobs.
-fn smaller_seasons(season: &Season) -> Box<dyn Iterator<Item = Season> + '_> {
-    let count = season.left.len();
+fn smaller_history_pairs(histories: &HistoryPair) -> Box<dyn Iterator<Item = HistoryPair> + '_> {
+    let count = histories.left.len();
     let with = move |change: &dyn Fn(&mut Vec<Event>)| {
-        let mut changed = season.clone();
+        let mut changed = histories.clone();
         change(&mut changed.left);
         change(&mut changed.right);
         changed
@@ -527,12 +528,12 @@ fn smaller_seasons(season: &Season) -> Box<dyn Iterator<Item = Season> + '_> {
         .rev()
         .map(move |place| with(&|events| drop(events.remove(place))));
     let plain = (1..count).map(move |place| {
-        let records = job::records(&season.left[place].body);
+        let records = job::records(&histories.left[place].body);
         let plain: Vec<Record> = records.iter().map(Record::plain).collect();
         with(&|events| events[place].body = job::section(&plain))
     });
     let simpler = (1..count).flat_map(move |place| {
-        smaller_events(&season.left[place])
+        smaller_events(&histories.left[place])
             .map(move |event| with(&|events| events[place].body = event.body.clone()))
     });
     let job = |events: &[Event]| Case {
@@ -540,16 +541,16 @@ fn smaller_seasons(season: &Season) -> Box<dyn Iterator<Item = Season> + '_> {
         limits: events[0].limits(),
     };
     let pair = Pair {
-        left: job(&season.left),
-        right: job(&season.right),
+        left: job(&histories.left),
+        right: job(&histories.right),
     };
     let jobs: Vec<Pair> = smaller_pairs(&pair).collect();
     let jobs = jobs.into_iter().map(move |pair| {
-        let mut changed = season.clone();
+        let mut changed = histories.clone();
         changed.left[0].body = pair.left.bytes;
         changed.right[0].body = pair.right.bytes;
         changed
     });
     let all = fewer.chain(plain).chain(simpler).chain(jobs);
-    Box::new(all.filter(move |changed| changed != season))
+    Box::new(all.filter(move |changed| changed != histories))
 }

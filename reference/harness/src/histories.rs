@@ -15,6 +15,7 @@ use reference::Level;
 use crate::differential::Unlike;
 use crate::frame;
 use crate::quick;
+use crate::replay::{Printed, Replay};
 
 /// What is printed for the event of a number.
 pub fn heading(event: &Event, number: usize) -> String {
@@ -143,19 +144,25 @@ pub enum Wrong {
     Open(usize),
 }
 
+/// What was printed for a history, event by event.
+pub struct Told {
+    /// The number of the first event.
+    pub first: usize,
+    pub parts: Vec<String>,
+}
+
 /// Holds what was printed for a history to the reference, and counts what it
 /// reaches.
 pub fn check(
     events: &[Event],
-    printed: &str,
+    told: &Told,
     mistake: Mistake,
     coverage: &mut Coverage,
 ) -> Result<(), Wrong> {
-    let parts = split(printed);
     let mut model = Model::new(mistake);
-    for (number, event) in events.iter().enumerate() {
-        let got = parts.get(number).cloned().unwrap_or_default();
-        let head = heading(event, number);
+    for (place, event) in events.iter().enumerate() {
+        let got = told.parts.get(place).map_or("", |part| part);
+        let head = heading(event, told.first + place);
         let expected = match coverage.add_event(&mut model, event) {
             Expected::Outcome(outcome) => head + &frame::text(&outcome),
             Expected::Poked | Expected::Unknown => head,
@@ -166,20 +173,23 @@ pub fn check(
             Expected::Table {
                 records: None,
                 variables,
-            } => learn(&mut model, head, &variables, &got),
-            Expected::Open => return Err(Wrong::Open(number)),
+            } => learn(&mut model, head, &variables, got),
+            Expected::Open => return Err(Wrong::Open(place)),
         };
-        if got != expected {
-            return Err(Wrong::Unlike(number, Unlike { expected, got }));
-        }
+        unlike(place, expected, got)?;
     }
-    match parts.get(events.len()) {
-        None => Ok(()),
-        Some(more) => Err(Wrong::Unlike(
-            events.len(),
+    let more = told.parts.get(events.len()).map_or("", |part| part);
+    unlike(events.len(), String::new(), more)
+}
+
+fn unlike(place: usize, expected: String, got: &str) -> Result<(), Wrong> {
+    match got == expected {
+        true => Ok(()),
+        false => Err(Wrong::Unlike(
+            place,
             Unlike {
-                expected: String::new(),
-                got: more.clone(),
+                expected,
+                got: got.into(),
             },
         )),
     }
@@ -345,10 +355,72 @@ pub fn records(table: &[Lent]) -> Vec<Record> {
     table.iter().map(record).collect()
 }
 
-/// What a player prints for a whole history.
-pub fn played(player: Player, events: &[Event]) -> String {
+/// What histories go through.
+#[derive(Clone, Debug)]
+pub enum Through {
+    Program(Replay),
+    Player(Player),
+}
+
+impl Through {
+    pub fn name(&self) -> String {
+        match self {
+            Through::Program(program) => program.path.clone(),
+            Through::Player(player) => format!("a stand-in, {player:?}"),
+        }
+    }
+
+    /// What is printed for each history. One process plays them all, and
+    /// between two of them all is made blank.
+    pub fn told(&self, histories: &[&[Event]]) -> Vec<Told> {
+        match self {
+            Through::Program(program) => {
+                let blank = history::stream(&[Event::blank()]);
+                let input = histories.iter().map(|events| history::stream(events));
+                let input: Vec<Vec<u8>> = input.collect();
+                parted(histories, &text(program.run(input.join(&blank[..]))))
+            }
+            Through::Player(player) => histories.iter().map(|h| played(*player, h)).collect(),
+        }
+    }
+
+    pub fn told_one(&self, events: &[Event]) -> Told {
+        self.told(&[events]).pop().expect("one")
+    }
+}
+
+/// What a program printed, and how it ended where that was not well.
+pub fn text(printed: Printed) -> String {
+    match printed.trouble {
+        None => printed.text,
+        Some(trouble) => format!("{}({trouble})\n", printed.text),
+    }
+}
+
+/// The parts of each history in what one process printed. What comes too much
+/// is left to the last.
+fn parted(histories: &[&[Event]], text: &str) -> Vec<Told> {
+    let mut rest = split(text);
+    let mut all: Vec<Told> = Vec::new();
+    let mut first = 0;
+    for events in histories {
+        if first > 0 && !rest.is_empty() {
+            rest.remove(0);
+        }
+        let later = rest.split_off(events.len().min(rest.len()));
+        all.push(Told { first, parts: rest });
+        first += events.len() + 1;
+        rest = later;
+    }
+    let last = all.last_mut().expect("a history");
+    last.parts.extend(rest);
+    all
+}
+
+fn played(player: Player, events: &[Event]) -> Told {
     let mut standin = Standin::new(player);
-    events.iter().map(|event| standin.play(event)).collect()
+    let parts = events.iter().map(|event| standin.play(event)).collect();
+    Told { first: 0, parts }
 }
 
 /// A history in a form to read.
@@ -397,8 +469,3 @@ const FIELDS: [&str; 11] = [
     "value of variable",
     "variables lent",
 ];
-
-/// The bytes of a history.
-pub fn stream(events: &[Event]) -> Vec<u8> {
-    history::stream(events)
-}

@@ -14,6 +14,7 @@ use crate::differential::split_jobs;
 use crate::frame::{self, Frame};
 use crate::portal::Portal;
 use crate::replay::Replay;
+use crate::search;
 
 /// A budget, and the length of the area for lines in bytes.
 #[derive(Clone, Copy, Debug, PartialEq, Eq)]
@@ -37,8 +38,7 @@ pub struct Found {
     pub reason: String,
 }
 
-/// What the tried pairs were like: a test of pairs that print nothing would
-/// show nothing.
+/// What the tried pairs were like.
 #[derive(Clone, Copy, Debug, Default)]
 pub struct Tally {
     pub pairs: u64,
@@ -245,9 +245,15 @@ impl Tally {
         self.other_endings += (left.ending != right.ending) as u64;
         self.both_finished += (left.ending == 0 && right.ending == 0) as u64;
     }
+}
 
-    /// Whether enough pairs could have shown something: a tenth of them.
-    pub fn telling(&self) -> bool {
+impl search::Tally for Tally {
+    fn pairs(&self) -> u64 {
+        self.pairs
+    }
+
+    /// A tenth of them.
+    fn telling(&self) -> bool {
         [self.lines_in_both, self.other_endings, self.both_finished]
             .into_iter()
             .all(|count| 10 * count >= self.pairs)

@@ -7,13 +7,14 @@
 //! - [`differential`]: whole outcomes against the reference.
 //! - [`histories`]: scripts over a standing tree, through `history`.
 //! - [`leaks`]: pairs of jobs that agree on their public parts.
-//! - [`seasons`]: pairs of histories.
+//! - [`history_pairs`]: pairs of histories.
 //! - [`quick`]: outcomes of the fast version.
 //! - [`workloads`], [`bench`], [`clock`] and [`instructions`]: the jobs that are
 //!   measured, and how; [`lua`]: the same work in Lua.
 //! - [`memory`]: that of a process that runs for long.
 //! - [`input`]: what the stand-ins read.
-//! - [`arguments`] and [`progress`]: the command lines and the progress lines.
+//! - [`search`], [`arguments`] and [`progress`]: what the searches over seeds
+//!   share, the command lines and the progress lines.
 
 pub mod arguments;
 pub mod bench;
@@ -21,6 +22,7 @@ pub mod clock;
 pub mod differential;
 pub mod frame;
 pub mod histories;
+pub mod history_pairs;
 pub mod input;
 pub mod instructions;
 pub mod leaks;
@@ -31,5 +33,5 @@ pub mod programs;
 pub mod progress;
 pub mod quick;
 pub mod replay;
-pub mod seasons;
+pub mod search;
 pub mod workloads;

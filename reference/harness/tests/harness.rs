@@ -20,7 +20,7 @@ const SOAK: &str = env!("CARGO_BIN_EXE_soak");
 const PROGRAMS: &str = env!("CARGO_BIN_EXE_programs");
 const HISTORIES: &str = env!("CARGO_BIN_EXE_histories");
 const HISTORY_STANDIN: &str = env!("CARGO_BIN_EXE_history_standin");
-const SEASONS: &str = env!("CARGO_BIN_EXE_seasons");
+const HISTORY_PAIRS: &str = env!("CARGO_BIN_EXE_history_pairs");
 const STANDIN: &str = env!("CARGO_BIN_EXE_replay_standin");
 
 fn started(program: &str, words: &[&str]) -> Output {
@@ -401,14 +401,14 @@ fn no_leak_in_histories() {
         "--seconds",
         "600",
     ];
-    let text = ended(SEASONS, &words, 0);
+    let text = ended(HISTORY_PAIRS, &words, 0);
     assert!(
         text.contains("500 pairs") && text.contains("no leak"),
         "{text}"
     );
     let words = ["--player", "reference", "--mistake", "CursorStays"];
-    let text = ended(SEASONS, &words, 1);
+    let text = ended(HISTORY_PAIRS, &words, 1);
     assert!(text.contains("the smallest pair"), "{text}");
-    let text = ended(SEASONS, &["--history", "cat", "--pairs", "10"], 1);
+    let text = ended(HISTORY_PAIRS, &["--history", "cat", "--pairs", "10"], 1);
     assert!(text.contains("no outcome"), "{text}");
 }

@@ -2,17 +2,17 @@
 
 mod damage;
 mod history;
+mod history_pairs;
 mod nodes;
 mod pairs;
 mod script;
-mod seasons;
 
 pub use damage::damaged;
 pub use history::history;
+pub use history_pairs::{history_pair, HistoryPair};
 pub use nodes::renumber;
 use nodes::Growth;
 pub use pairs::{pair, Pair};
-pub use seasons::{season, Season};
 
 use crate::ending::Ending;
 use crate::job::{Job, Record, Variable, MAX_VARIABLES};

@@ -123,10 +123,9 @@ fn outcomes(events: &[Event], mistake: Mistake) -> Vec<Outcome> {
 #[test]
 fn histories_leak_nothing() {
     for seed in 0..SEEDS {
-        let season = generate::season(seed);
-        assert!(season.well_formed(), "seed {seed}");
-        let [left, right] =
-            [&season.left, &season.right].map(|events| outcomes(events, Mistake::None));
+        let pair = generate::history_pair(seed);
+        assert!(pair.well_formed(), "seed {seed}");
+        let [left, right] = [&pair.left, &pair.right].map(|events| outcomes(events, Mistake::None));
         assert_eq!(public::history_leak(&left, &right), None, "seed {seed}");
     }
 }
@@ -135,12 +134,11 @@ fn histories_leak_nothing() {
 fn leaks_from_script_to_script_are_found() {
     for mistake in Mistake::LEAKING_ON.into_iter().chain(Mistake::LEAKING) {
         let found = (0..SEEDS).find(|&seed| {
-            let season = generate::season(seed);
-            let [left, right] =
-                [&season.left, &season.right].map(|events| outcomes(events, mistake));
+            let pair = generate::history_pair(seed);
+            let [left, right] = [&pair.left, &pair.right].map(|events| outcomes(events, mistake));
             public::history_leak(&left, &right).is_some()
         });
-        println!("{mistake:?}: season {found:?}");
+        println!("{mistake:?}: pair {found:?}");
         assert!(found.is_some(), "{mistake:?}");
     }
 }

@@ -3,13 +3,12 @@
 //!
 //! Exit status: 0 no difference, 1 a difference, 2 bad usage.
 
-use std::time::Instant;
-
 use harness::arguments::{all_mistakes, fail, Arguments};
 use harness::differential::{portal_unlike, spare, Sides};
 use harness::frame::{self, Frame};
 use harness::progress::Progress;
 use harness::replay::Replay;
+use harness::search::{each_found, Bounds};
 use reference::coverage::Coverage;
 use reference::generate::{self, Case};
 use reference::mistake::Mistake;
@@ -33,6 +32,9 @@ const KNOWN: [&str; 12] = [
     "--each-mistake",
     "--coverage",
 ];
+
+/// Enough to reach everything.
+const MANY: u64 = 20_000;
 
 /// Cases for one process.
 const BATCH: u64 = 500;
@@ -78,17 +80,14 @@ fn describe(sides: &Sides) {
 
 /// True where no difference was found.
 fn compare(sides: &Sides, arguments: &Arguments) -> bool {
-    let seed = arguments.number("--seed", 0);
-    let forever = arguments.has("--forever");
-    let most = arguments.number("--jobs", if forever { u64::MAX } else { 20_000 });
-    let limit = arguments.seconds(if forever { u64::MAX } else { 60 });
-    let start = Instant::now();
+    let bounds = Bounds::read(arguments, "--jobs", MANY);
+    let seed = bounds.seed;
     let mut coverage = Coverage::new();
     let mut progress = Progress::new("differential");
     let mut done = 0;
     println!("seed {seed}");
-    while done < most && start.elapsed() < limit {
-        let count = BATCH.min(most - done);
+    while bounds.go_on(done) {
+        let count = BATCH.min(bounds.most - done);
         let first = seed + done;
         if let Err(difference) = sides.batch(first..first + count, &mut coverage) {
             println!("\n{difference}\n");
@@ -99,7 +98,7 @@ fn compare(sides: &Sides, arguments: &Arguments) -> bool {
             return false;
         }
         done += count;
-        if forever {
+        if bounds.forever {
             progress.show(|| {
                 format!(
                     "{done} jobs, seeds {seed} to {}, no difference",
@@ -115,16 +114,15 @@ fn compare(sides: &Sides, arguments: &Arguments) -> bool {
             return false;
         }
     }
-    let seconds = start.elapsed().as_secs_f64();
     if arguments.has("--coverage") {
         println!("{coverage}");
     }
     let missing = coverage.missing();
-    if !missing.is_empty() && done >= 20_000 {
+    if !missing.is_empty() && done >= MANY {
         println!("never reached: {missing:?}");
         return false;
     }
-    println!("{done} jobs in {seconds:.1} s, no difference");
+    println!("{done} jobs in {:.1} s, no difference", bounds.seconds());
     true
 }
 
@@ -132,7 +130,7 @@ fn compare(sides: &Sides, arguments: &Arguments) -> bool {
 /// the portal gives, where it can.
 fn each_mistake(sides: &Sides, arguments: &Arguments) -> bool {
     let seed = arguments.number("--seed", 0);
-    let jobs = arguments.number("--jobs", 20_000);
+    let jobs = arguments.number("--jobs", MANY);
     let cases: Vec<Case> = (seed..seed + jobs).map(generate::case).collect();
     let varied = |(case, seed)| Frame::varied(case, seed);
     let frames: Vec<Frame> = cases.iter().zip(seed..).map(varied).collect();
@@ -163,15 +161,7 @@ fn each_mistake(sides: &Sides, arguments: &Arguments) -> bool {
         let hidden = matches!(mistake, Mistake::StopCountsStep | Mistake::TableFullAt512);
         all &= by_replay != Some(None) && (hidden || by_portal != Some(None));
     }
-    println!(
-        "{}",
-        if all {
-            "each mistake was found"
-        } else {
-            "a mistake was not found"
-        }
-    );
-    all
+    each_found("mistake", all)
 }
 
 fn place<T: std::fmt::Display>(found: Option<Option<T>>) -> String {

@@ -3,16 +3,15 @@
 //!
 //! Exit status: 0 no difference, 1 a difference, 2 bad usage.
 
-use std::time::Instant;
-
 use harness::arguments::{fail, Arguments};
 use harness::frame;
-use harness::histories::{check, played, show, stream, Player, Wrong};
+use harness::histories::{check, show, text, Player, Through, Told, Wrong};
 use harness::progress::Progress;
-use harness::replay::{Printed, Replay};
+use harness::replay::Replay;
+use harness::search::{each_found, Bounds};
 use reference::coverage::Coverage;
 use reference::generate;
-use reference::history::Event;
+use reference::history::{stream, Event};
 use reference::mistake::Mistake;
 use reference::shrink;
 
@@ -36,47 +35,19 @@ const KNOWN: [&str; 10] = [
 /// Enough to reach everything.
 const MANY: u64 = 10_000;
 
-/// What is compared with the reference.
-#[derive(Clone)]
-enum Side {
-    /// The program at a path.
-    Program(Replay),
-    Fast,
-}
-
-impl Side {
-    fn name(&self) -> &str {
-        match self {
-            Side::Program(program) => &program.path,
-            Side::Fast => "the fast version",
-        }
-    }
-
-    fn printed(&self, events: &[Event]) -> String {
-        match self {
-            Side::Program(program) => text(program.run(stream(events))),
-            Side::Fast => played(Player::Fast, events),
-        }
-    }
-}
-
-fn text(printed: Printed) -> String {
-    match printed.trouble {
-        None => printed.text,
-        Some(trouble) => format!("{}({trouble})\n", printed.text),
-    }
-}
+/// Histories for one process.
+const BATCH: u64 = 100;
 
 fn main() {
     let arguments = Arguments::read(USAGE, &KNOWN);
     let mut sides = Vec::new();
     match (arguments.has("--no-history"), arguments.text("--history")) {
         (true, _) => {}
-        (false, Some(path)) => sides.push(Side::Program(Replay { path: path.into() })),
+        (false, Some(path)) => sides.push(Through::Program(Replay { path: path.into() })),
         (false, None) => fail("no history: name it by --history, or say --no-history"),
     }
     if !arguments.has("--no-fast") {
-        sides.push(Side::Fast);
+        sides.push(Through::Player(Player::Fast));
     }
     for side in &sides {
         println!("compared: {}", side.name());
@@ -89,29 +60,29 @@ fn main() {
 }
 
 /// True where no difference was found.
-fn compare(sides: &[Side], arguments: &Arguments) -> bool {
-    let seed = arguments.number("--seed", 0);
-    let forever = arguments.has("--forever");
-    let most = arguments.number("--histories", if forever { u64::MAX } else { MANY });
-    let limit = arguments.seconds(if forever { u64::MAX } else { 60 });
+fn compare(sides: &[Through], arguments: &Arguments) -> bool {
+    let bounds = Bounds::read(arguments, "--histories", MANY);
+    let seed = bounds.seed;
     let mistake = arguments.mistake();
-    let start = Instant::now();
     let mut coverage = Coverage::new();
     let mut progress = Progress::new("histories");
     let (mut done, mut events) = (0, 0);
     println!("seed {seed}");
-    while done < most && start.elapsed() < limit {
-        let history = generate::history(seed + done);
+    while bounds.go_on(done) {
+        let first = seed + done;
+        let histories = generated(first, BATCH.min(bounds.most - done));
         for side in sides {
-            let printed = side.printed(&history);
-            if let Err(wrong) = check(&history, &printed, mistake, &mut coverage) {
-                report(side, seed + done, &history, &wrong, mistake);
-                return false;
+            for (place, told) in told(side, &histories).iter().enumerate() {
+                let history = &histories[place];
+                if let Err(wrong) = check(history, told, mistake, &mut coverage) {
+                    report(side, first + place as u64, history, &wrong, mistake);
+                    return false;
+                }
             }
         }
-        done += 1;
-        events += history.len();
-        if forever {
+        done += histories.len() as u64;
+        events += histories.iter().map(Vec::len).sum::<usize>();
+        if bounds.forever {
             progress.show(|| format!("{done} histories, no difference"));
         }
     }
@@ -126,16 +97,30 @@ fn compare(sides: &[Side], arguments: &Arguments) -> bool {
         println!("never reached: {missing:?}");
         return false;
     }
-    let seconds = start.elapsed().as_secs_f64();
+    let seconds = bounds.seconds();
     println!("{done} histories of {events} events in {seconds:.1} s, no difference");
     true
 }
 
+fn generated(first: u64, count: u64) -> Vec<Vec<Event>> {
+    (first..first + count).map(generate::history).collect()
+}
+
+fn told(side: &Through, histories: &[Vec<Event>]) -> Vec<Told> {
+    let histories: Vec<&[Event]> = histories.iter().map(Vec::as_slice).collect();
+    side.told(&histories)
+}
+
 /// The smallest history that shows it.
-fn report(side: &Side, seed: u64, history: &[Event], wrong: &Wrong, mistake: Mistake) {
+fn report(side: &Through, seed: u64, history: &[Event], wrong: &Wrong, mistake: Mistake) {
     let wrong_of = |events: &[Event]| {
-        let printed = side.printed(events);
-        check(events, &printed, mistake, &mut Coverage::new()).err()
+        check(
+            events,
+            &side.told_one(events),
+            mistake,
+            &mut Coverage::new(),
+        )
+        .err()
     };
     let failing = |events: &[Event]| matches!(wrong_of(events), Some(Wrong::Unlike(..)));
     let small = match wrong {
@@ -163,16 +148,16 @@ fn beginning(text: &str) -> String {
 }
 
 /// Streams whose last event is cut.
-fn cuts(sides: &[Side], seed: u64) -> bool {
+fn cuts(sides: &[Through], seed: u64) -> bool {
     for side in sides {
-        let Side::Program(program) = side else {
+        let Through::Program(program) = side else {
             continue;
         };
         let history = generate::history(seed + 3);
         let (last, before) = history.split_last().expect("an event");
         let start = stream(before);
         let end = stream(std::slice::from_ref(last));
-        let whole = side.printed(before);
+        let whole = side.told_one(before).parts.concat();
         for cut in [1, 4, 15, 16, end.len() - 1] {
             if cut >= end.len() {
                 continue;
@@ -189,17 +174,16 @@ fn cuts(sides: &[Side], seed: u64) -> bool {
 }
 
 /// Whether each planted mistake shows in what each side prints.
-fn each_mistake(sides: &[Side], arguments: &Arguments) -> bool {
-    let seed = arguments.number("--seed", 0);
-    let most = arguments.number("--histories", MANY);
-    let seeds = seed..seed + most;
-    let histories: Vec<Vec<Event>> = seeds.map(generate::history).collect();
+fn each_mistake(sides: &[Through], arguments: &Arguments) -> bool {
+    let bounds = Bounds::read(arguments, "--histories", MANY);
+    let histories = generated(bounds.seed, bounds.most);
     let mut all = true;
     for side in sides {
-        let printed: Vec<String> = histories.iter().map(|h| side.printed(h)).collect();
+        let batches = histories.chunks(BATCH as usize);
+        let printed: Vec<Told> = batches.flat_map(|batch| told(side, batch)).collect();
         for mistake in Mistake::FOLLOWING {
-            let found = histories.iter().zip(&printed).position(|(history, text)| {
-                let wrong = check(history, text, mistake, &mut Coverage::new());
+            let found = histories.iter().zip(&printed).position(|(history, told)| {
+                let wrong = check(history, told, mistake, &mut Coverage::new());
                 matches!(wrong, Err(Wrong::Unlike(..)))
             });
             match found {
@@ -209,11 +193,5 @@ fn each_mistake(sides: &[Side], arguments: &Arguments) -> bool {
             all &= found.is_some();
         }
     }
-    let verdict = if all {
-        "each mistake was found"
-    } else {
-        "a mistake was not found"
-    };
-    println!("{verdict}");
-    all
+    each_found("mistake", all)
 }

@@ -2,13 +2,11 @@
 //!
 //! Exit status: 0 no leak, 1 a leak, 2 bad usage.
 
-use std::time::Instant;
-
 use harness::arguments::Arguments;
 use harness::leaks::{try_pair, try_replay, Found, Tally};
 use harness::portal::Portal;
-use harness::progress::Progress;
 use harness::replay::Replay;
+use harness::search::{each_leak, no_leak, Bounds};
 use reference::mistake::{Mistake, RULED_COMMANDS};
 
 const USAGE: &str =
@@ -40,6 +38,8 @@ enum Through {
     Portal(Portal),
     Replay(Replay),
 }
+
+const MANY: u64 = 20_000;
 
 /// Pairs for one process.
 const BATCH: u64 = 500;
@@ -77,60 +77,18 @@ impl Through {
 /// True where no pair gave anything away.
 fn search(arguments: &Arguments) -> bool {
     let through = Through::read(arguments);
-    let seed = arguments.number("--seed", 0);
-    let forever = arguments.has("--forever");
-    let most = arguments.number("--pairs", if forever { u64::MAX } else { 20_000 });
-    let limit = arguments.seconds(if forever { u64::MAX } else { 60 });
-    println!("{}\nseed {seed}", through.name());
-    let start = Instant::now();
-    let mut tally = Tally::default();
-    let mut progress = Progress::new("leak");
-    while tally.pairs < most && start.elapsed() < limit {
-        let next = seed + tally.pairs;
-        if let Err(found) = through.try_some(next, most - tally.pairs, &mut tally) {
-            let smallest = through.smallest(&found);
-            println!("\n{found}\nthe smallest pair that shows it\n\n{smallest}");
-            return false;
-        }
-        if forever {
-            progress.show(|| format!("{tally}, no leak"));
-        }
-    }
-    println!("{tally}");
-    if !tally.telling() {
-        println!("too few pairs could have shown a leak");
-        return false;
-    }
-    println!("no leak in {:.1} s", start.elapsed().as_secs_f64());
-    true
+    println!("{}", through.name());
+    let bounds = Bounds::read(arguments, "--pairs", MANY);
+    let some = |seed, most, tally: &mut Tally| through.try_some(seed, most, tally);
+    no_leak("leak", bounds, some, |found| through.smallest(found))
 }
 
-/// Whether the test finds each way to leak, in the reference with that
-/// mistake.
 fn each_mistake(arguments: &Arguments) -> bool {
-    let seed = arguments.number("--seed", 0);
-    let most = arguments.number("--pairs", 20_000);
-    let mut all = true;
-    for mistake in Mistake::LEAKING
-        .into_iter()
-        .chain(RULED_COMMANDS.map(Mistake::NoRule))
-    {
-        let portal = Portal::Reference(mistake);
-        let mut tally = Tally::default();
-        let found = (seed..seed + most).find(|&seed| try_pair(portal, seed, &mut tally).is_err());
-        match found {
-            Some(seed) => println!("{mistake:?}: leak at seed {seed}"),
-            None => println!("{mistake:?}: NOT FOUND in {most} pairs"),
-        }
-        all &= found.is_some();
-    }
-    println!(
-        "{}",
-        if all {
-            "each leak was found"
-        } else {
-            "a leak was not found"
-        }
-    );
-    all
+    let rules = RULED_COMMANDS.map(Mistake::NoRule);
+    let bounds = Bounds::read(arguments, "--pairs", MANY);
+    each_leak(
+        bounds,
+        Mistake::LEAKING.into_iter().chain(rules),
+        |mistake, seed| try_pair(Portal::Reference(mistake), seed, &mut Tally::default()).is_err(),
+    )
 }

@@ -12,12 +12,12 @@ use crate::run::{Limits, Monitor, Standing, MAX_PLACES};
 
 /// A job and scripts over what it leaves, on two sides.
 #[derive(Clone, Debug, PartialEq, Eq)]
-pub struct Season {
+pub struct HistoryPair {
     pub left: Vec<Event>,
     pub right: Vec<Event>,
 }
 
-impl Season {
+impl HistoryPair {
     /// Whether both sides begin with accepted jobs of the same script that
     /// agree on their public parts, and go on with the same scripts.
     pub fn well_formed(&self) -> bool {
@@ -43,8 +43,8 @@ impl Season {
     }
 }
 
-/// The season of a seed.
-pub fn season(seed: u64) -> Season {
+/// The pair of histories of a seed.
+pub fn history_pair(seed: u64) -> HistoryPair {
     let mut random = Random::new(seed ^ 0x0073_6561_736f_6e00);
     let random = &mut random;
     let (mut left, mut right) = agreeing(random);
@@ -60,12 +60,12 @@ pub fn season(seed: u64) -> Season {
     left.script = scripts.remove(0);
     right.script = left.script.clone();
     let noise = random.chance(1, 4);
-    let season = Season {
+    let pair = HistoryPair {
         left: events(random, left, &scripts, noise),
         right: events(random, right, &scripts, noise),
     };
-    debug_assert!(season.well_formed());
-    season
+    debug_assert!(pair.well_formed());
+    pair
 }
 
 /// Before the last one, a script that the right monitor finishes on both sides;

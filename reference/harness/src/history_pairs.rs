@@ -5,54 +5,26 @@
 use std::fmt;
 
 use reference::ending::Ending;
-use reference::generate::{self, Season};
-use reference::history::Event;
+use reference::generate::{self, HistoryPair};
 use reference::run::Outcome;
 use reference::{print, public, shrink};
 
 use crate::frame;
-use crate::histories::{played, show, split, stream, Player};
-use crate::replay::Replay;
+use crate::histories::{show, Through, Told};
+use crate::search;
 
-/// What the histories go through.
-#[derive(Clone, Debug)]
-pub enum Through {
-    Program(Replay),
-    Player(Player),
-}
-
-impl Through {
-    pub fn name(&self) -> String {
-        match self {
-            Through::Program(program) => format!("history: {}", program.path),
-            Through::Player(player) => format!("history: a stand-in, {player:?}"),
-        }
-    }
-
-    fn outcomes(&self, events: &[Event]) -> Option<Vec<Outcome>> {
-        let text = match self {
-            Through::Program(program) => program.run(stream(events)).text,
-            Through::Player(player) => played(*player, events),
-        };
-        let parts = split(&text);
-        let outcome = |part: &String| frame::parse(part.split_once('\n')?.1);
-        let outcomes: Option<Vec<Outcome>> = parts.iter().map(outcome).collect();
-        outcomes.filter(|outcomes| outcomes.len() == events.len())
-    }
-}
-
-/// A season that gives something away, or that could not be tried.
+/// A pair that gives something away, or that could not be tried.
 #[derive(Clone, Debug)]
 pub struct Found {
     pub seed: u64,
-    pub season: Season,
+    pub pair: HistoryPair,
     pub reason: String,
 }
 
-/// What the tried seasons were like.
+/// What the tried pairs were like.
 #[derive(Clone, Copy, Debug, Default)]
 pub struct Tally {
-    pub seasons: u64,
+    pub pairs: u64,
     /// Both finished the job and a script at least.
     pub both_went_on: u64,
     /// Lines of a follow-on script in both.
@@ -61,30 +33,37 @@ pub struct Tally {
     pub other_endings: u64,
 }
 
-pub fn try_season(through: &Through, seed: u64, tally: &mut Tally) -> Result<(), Box<Found>> {
-    let season = generate::season(seed);
-    match given_away(through, &season) {
-        Ok((left, right)) => {
-            tally.count(&left, &right);
-            Ok(())
+/// Tries the pairs of `seeds`, in one process.
+pub fn try_histories(
+    through: &Through,
+    seeds: std::ops::Range<u64>,
+    tally: &mut Tally,
+) -> Result<(), Box<Found>> {
+    let pairs: Vec<HistoryPair> = seeds.clone().map(generate::history_pair).collect();
+    let sides = pairs.iter().flat_map(|pair| [&pair.left[..], &pair.right]);
+    let told = through.told(&sides.collect::<Vec<_>>());
+    for ((pair, told), seed) in pairs.iter().zip(told.chunks(2)).zip(seeds) {
+        match given_away(pair, told) {
+            Ok((left, right)) => tally.count(&left, &right),
+            Err(reason) => {
+                return Err(Box::new(Found {
+                    seed,
+                    pair: pair.clone(),
+                    reason,
+                }))
+            }
         }
-        Err(reason) => Err(Box::new(Found {
-            seed,
-            season,
-            reason,
-        })),
     }
+    Ok(())
 }
 
 /// The outcomes of both sides, or why they tell more than they may.
-fn given_away(through: &Through, season: &Season) -> Result<(Vec<Outcome>, Vec<Outcome>), String> {
-    if !season.well_formed() {
-        return Err(String::from("the season is not well formed"));
+fn given_away(pair: &HistoryPair, told: &[Told]) -> Result<(Vec<Outcome>, Vec<Outcome>), String> {
+    if !pair.well_formed() {
+        return Err(String::from("the pair is not well formed"));
     }
-    let (Some(left), Some(right)) = (
-        through.outcomes(&season.left),
-        through.outcomes(&season.right),
-    ) else {
+    let count = pair.left.len();
+    let (Some(left), Some(right)) = (outcomes(count, &told[0]), outcomes(count, &told[1])) else {
         return Err(String::from("no outcome of each event is told"));
     };
     match public::history_leak(&left, &right) {
@@ -101,17 +80,22 @@ fn given_away(through: &Through, season: &Season) -> Result<(Vec<Outcome>, Vec<O
     }
 }
 
+/// The outcomes of so many events.
+fn outcomes(count: usize, told: &Told) -> Option<Vec<Outcome>> {
+    let outcome = |part: &String| frame::parse(part.split_once('\n')?.1);
+    let outcomes: Option<Vec<Outcome>> = told.parts.iter().map(outcome).collect();
+    outcomes.filter(|outcomes| outcomes.len() == count)
+}
+
 impl Found {
-    /// The smallest season that still gives something away.
+    /// The smallest pair that still gives something away.
     pub fn smallest(&self, through: &Through) -> Found {
-        let failing = |season: &Season| given_away(through, season).is_err();
-        let season = shrink::season(&self.season, &failing);
-        let reason = match given_away(through, &season) {
-            Err(reason) => reason,
-            Ok(_) => self.reason.clone(),
-        };
+        let given =
+            |pair: &HistoryPair| given_away(pair, &through.told(&[&pair.left, &pair.right]));
+        let pair = shrink::history_pair(&self.pair, &|pair| given(pair).is_err());
+        let reason = given(&pair).err().unwrap_or_else(|| self.reason.clone());
         Found {
-            season,
+            pair,
             reason,
             seed: self.seed,
         }
@@ -120,7 +104,7 @@ impl Found {
 
 impl fmt::Display for Found {
     fn fmt(&self, f: &mut fmt::Formatter) -> fmt::Result {
-        let Season { left, right } = &self.season;
+        let HistoryPair { left, right } = &self.pair;
         writeln!(
             f,
             "leak, seed {}\nleft\n{}right\n{}{}",
@@ -141,17 +125,22 @@ impl Tally {
         let compared = (finished(left).min(finished(right)) + 1).min(left.len());
         let scripts = || left.iter().zip(right).take(compared).skip(1);
         let some = |outcome: &Outcome| !outcome.lines.is_empty();
-        self.seasons += 1;
+        self.pairs += 1;
         self.both_went_on += (compared > 2) as u64;
         self.lines_in_both += scripts().any(|(left, right)| some(left) && some(right)) as u64;
         self.other_endings += scripts().any(|(left, right)| left.ending != right.ending) as u64;
     }
+}
 
-    /// Whether enough seasons could have shown something.
-    pub fn telling(&self) -> bool {
-        10 * self.both_went_on >= self.seasons
-            && 10 * self.lines_in_both >= self.seasons
-            && 100 * self.other_endings >= self.seasons
+impl search::Tally for Tally {
+    fn pairs(&self) -> u64 {
+        self.pairs
+    }
+
+    fn telling(&self) -> bool {
+        10 * self.both_went_on >= self.pairs
+            && 10 * self.lines_in_both >= self.pairs
+            && 100 * self.other_endings >= self.pairs
     }
 }
 
@@ -160,7 +149,7 @@ impl fmt::Display for Tally {
         write!(
             f,
             "{} pairs of histories; both went on {}, lines of a script in both {}, other endings {}",
-            self.seasons, self.both_went_on, self.lines_in_both, self.other_endings
+            self.pairs, self.both_went_on, self.lines_in_both, self.other_endings
         )
     }
 }
