@@ -1,5 +1,9 @@
 -- The laws of the run over lent node records; those that callers cite come first.
 pub mod Secret
 mod Runs
-mod Own
+mod Following
+mod Owning
+mod Surveying
+mod Reshare
+mod Steps
 mod Numbers

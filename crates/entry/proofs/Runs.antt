@@ -1,4 +1,4 @@
--- From the run over words to the run over records: where the job was turned back no record is filled, and where it was run each record is that of its
+-- From a run over words to a run over records: where the script was turned away no record is filled, and where it was run each record is that of its
 -- place, so the records hold the tree that the words hold. Assumes nothing.
 use mathlib.Core.Path.{_≡_, refl, sym, _∙_, ap, subst}
 use mathlib.Core.List.{List}
@@ -25,9 +25,8 @@ ran-all finished e n = refl
 ran-all (stopped k) e n = refl
 
 -- a run over words, with as many places as there are records, whose answer is r; k records are to be filled
-module _ (b : List ℕ) (budget : ℕ) (ns : List Node) (x x′ : Lent (List ℕ)) (r : Outcome) (k : ℕ) (ek : k ≡ keptOf r (length ns))
-    (p : Promises (λ _. length ns) Words.Tree b budget x x′ r) where
-  none : (j i : ℕ) → r ≡ told (Rules.rejected j i) → k ≡ 0
+module _ (ns : List Node) (x x′ : Lent (List ℕ)) (r : Outcome) (k : ℕ) (ek : k ≡ keptOf r (length ns)) where
+  pub none : (j i : ℕ) → r ≡ told (Rules.rejected j i) → k ≡ 0
   unfolding told keptOf
   none j i e = ek ∙ ap (λ s. keptOf s (length ns)) e
 
@@ -35,27 +34,28 @@ module _ (b : List ℕ) (budget : ℕ) (ns : List Node) (x x′ : Lent (List ℕ
   unfolding told
   all e q = ek ∙ ap (λ s. keptOf s (length ns)) q ∙ ran-all (e .ending) e (length ns)
 
-  asked : (o : Rules.Outcome) → r ≡ told o → Leaves (λ _. length ns) Words.Tree (variableCount b) x x′ o → (k ≤ length ns) × (8 * k ≤ 4096)
-  asked (Rules.rejected j i) e h = let z = none j i e in (omega arith, omega arith)
-  asked (Rules.ran a) e h = let z = all a e in (omega arith, omega (arith, h .tree .holds .few))
+  asked : (n : ℕ) (o : Rules.Outcome) → r ≡ told o → Leaves (λ _. length ns) Words.Tree n x x′ o → (k ≤ length ns) × (8 * k ≤ 4096)
+  asked n (Rules.rejected j i) e h = let z = none j i e in (omega arith, omega arith)
+  asked n (Rules.ran a) e h = let z = all a e in (omega arith, omega (arith, h .tree .holds .few))
 
   -- what `store` asks for
-  pub store-asks : length (x′ .table) ≡ 4096 → (k ≤ length ns) × (8 * k ≤ length (x′ .table))
-  store-asks len = let a = asked _ (p .outcome) (p .leaves) in (a .0, omega (arith, a .1))
+  pub store-asks : (n : ℕ) (o : Rules.Outcome) → r ≡ told o → Leaves (λ _. length ns) Words.Tree n x x′ o → length (x′ .table) ≡ 4096
+      → (k ≤ length ns) × (8 * k ≤ length (x′ .table))
+  store-asks n o e h len = let a = asked n o e h in (a .0, omega (arith, a .1))
 
   -- the records are filled
   module _ (ns′ : List Node) (filled : ns′ ≡ stored (x′ .table) k ns) where
-    abbrev y : Lent (List Node)
+    abbrev pub y : Lent (List Node)
     y = lent ns (x .levels) (x .values) (x .board)
 
-    abbrev y′ : Lent (List Node)
+    abbrev pub y′ : Lent (List Node)
     y′ = lent ns′ (x′ .levels) (x′ .values) (x′ .board)
 
-    leaves : (o : Rules.Outcome) → r ≡ told o → Leaves (λ _. length ns) Words.Tree (variableCount b) x x′ o → Leaves length Tree (variableCount b) y y′ o
-    leaves (Rules.rejected j i) e h =
+    pub leaves : (n : ℕ) (o : Rules.Outcome) → r ≡ told o → Leaves (λ _. length ns) Words.Tree n x x′ o → Leaves length Tree n y y′ o
+    leaves n (Rules.rejected j i) e h =
         let z : ns′ ≡ ns = filled ∙ ap (λ m. stored (x′ .table) m ns) (none j i e) in
         λ i. record { table = z i; levels = h i .levels; values = h i .values; board = h i .board }
-    leaves (Rules.ran a) e h =
+    leaves n (Rules.ran a) e h =
         let z : ns′ ≡ stored (x′ .table) (length ns) ns = filled ∙ ap (λ m. stored (x′ .table) m ns) (all a e) in
         let t = h .tree in
         let long : length ns ≤ length ns = omega arith in
@@ -69,6 +69,7 @@ module _ (b : List ℕ) (budget : ℕ) (ns : List Node) (x x′ : Lent (List ℕ
               (record { used = t .used; free = t .free; at = t .at; holds = Copies.lent (x′ .table) ns long (t .holds) });
         }
 
-    pub promised : Promises length Tree b budget y y′ r
+    -- the run over a job
+    pub promised : (b : List ℕ) (budget : ℕ) → Promises (λ _. length ns) Words.Tree b budget x x′ r → Promises length Tree b budget y y′ r
     unfolding lentBy
-    promised = record { outcome = p .outcome; answered = p .answered; leaves = leaves _ (p .outcome) (p .leaves) }
+    promised b budget p = record { outcome = p .outcome; answered = p .answered; leaves = leaves (variableCount b) _ (p .outcome) (p .leaves) }

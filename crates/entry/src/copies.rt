@@ -3,7 +3,8 @@ ghost use mathlib.Core.Path.{_≡_};
 ghost use Prim.Native.Nat.{_*_, _≤_};
 ghost use lib.ListN.{length};
 ghost use Rattle.table.specs.Cells.{cellSize};
-ghost use Rattle.table.specs.Lent.{stored, loaded};
+ghost use Rattle.table.specs.Lent.{stored};
+ghost use Rattle.entry.specs.Records.{Loads};
 use table::Node;
 use table::lent;
 
@@ -19,12 +20,11 @@ pub fn store(table: &mut [Node], words: &[u32], n: usize)
     }
 }
 
-// Makes the first places those of all records.
-pub fn load(table: &[Node], words: &mut [u32])
-    requires { ⌜ cellSize * length (now table) ≤ length (now words) ⌝ }
-    ensures { λ _. ⌜ now (words .exit) ≡ loaded (now (table .entry)) (length (now (table .entry))) (now (words .entry)) ⌝ }
+// Makes the first n places those of the first n records.
+pub fn load(table: &[Node], words: &mut [u32], n: usize)
+    requires { ⌜ (n ≤ length (now table)) × (cellSize * n ≤ length (now words)) ⌝ }
+    ensures { λ _. ⌜ Loads (now (table .entry)) n (now (words .entry)) (now (words .exit)) ⌝ }
 {
-    let n = table.len();
     let mut x = 0;
     while x < n {
         lent::put(words, x, table[x]);

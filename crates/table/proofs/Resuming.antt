@@ -1,7 +1,7 @@
 -- What callers need of a tree that stands in a table: at most one does; the tree of a run does; and a table that was found to hold one, with its other
 -- places made free, can be run on. Assumes nothing.
 use mathlib.Core.Path.{_≡_, refl, sym, ap, _∙_}
-use mathlib.Core.Bool.{true}
+use mathlib.Core.Bool.{Bool, true}
 use mathlib.Core.List.{List}
 use Prim.Native.Nat.{ℕ, _<_, _≤_}
 use native.Mathlib.Omega.{arith}
@@ -46,6 +46,18 @@ stands-same {m} {m′} {n} e h =
     below : (y : ℕ) → 0 < times y (h .placed) → Dec (y < n) → y < n
     below y q (yes lt) = lt
     below y q (no ge) = absurd (omega (arith, none-beyond m n gone (h .placed) (h .stored) y (omega arith)))
+
+-- and what is known of the one holds of the other
+pub decided-same : {m m′ : Table} {n : ℕ} {r : Bool} → ((x : ℕ) → x < n → m′ x ≡ m x) → Decided m n r → Decided m′ n r
+decided-same e d =
+    record {
+      sound = λ a. let s = d .sound a in (s .0, stands-same e (s .1));
+      exact = λ t h. d .exact t (stands-same (λ x q. sym (e x q)) h);
+    }
+
+pub marked-same : {m m′ : Table} {n : ℕ} (marks : List ℕ) → ((x : ℕ) → x < n → m′ x ≡ m x) → Marked m n marks → Marked m′ n marks
+unfolding Marked stands-same
+marked-same marks e h t s x lt few = h t (stands-same (λ y q. sym (e y q)) s) x lt few
 
 -- what a run leaves stands
 pub holds-stands : {m : Table} {n used free at : ℕ} {t : Forest} {p : Place} → Holds m n used free at t p → TreeRules t → Stands m n t

@@ -5,3 +5,4 @@ pub mod Relend
 pub mod Locals
 pub mod Slots
 pub mod Big
+pub mod Calls

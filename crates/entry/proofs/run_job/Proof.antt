@@ -359,8 +359,8 @@ module _ {M : Type 1} (𝓤 : URA M) (H : Heap 𝓤) (A : Atoms 𝓤) (W : Given
         -- [the slice; the lender's part; the token of μ; the tokens but the second (3); the last levels, values, lines (7); the job; the second token
         -- (11); the table; _23 (13); …]
         move ! (11 ∷ 2 ∷ 12 ∷ 0 ∷ []) $ group ! 4 $
-        use1 W (raw (Store 𝓤 H A mem run .pre (to-store μ l₈ ε ws k v))) (goes-store μ l₈ ε ws k v isk (store-asks _ _ ys (lent _ _ _ _) (lent _ _ _
-        _) r k ek (counted len zs r said) (same ∙ len))) $
+        use1 W (raw (Store 𝓤 H A mem run .pre (to-store μ l₈ ε ws k v))) (goes-store μ l₈ ε ws k v isk (store-asks ys (lent _ _ _ _) (lent _ _ _
+        _) r k ek _ _ (counted len zs r said .outcome) (counted len zs r said .leaves) (same ∙ len))) $
         -- [the pre; the lender's part; the tokens but the second; the last levels, values, lines; the job; _23 (10); …]
         calls-at ! (fmOf 𝓤 H (W .laws) 𝓣) (Store 𝓤 H A mem run) known-store (to-store μ l₈ ε ws k v) (and-then ! (var ! 14 refl) (and-then ! (var !
         10 refl) (and-then ! (var ! 36 refl) (no-more !)))) (λ w₂.
@@ -392,7 +392,7 @@ module _ {M : Type 1} (𝓤 : URA M) (H : Heap 𝓤) (A : Atoms 𝓤) (W : Given
         move ! (18 ∷ 19 ∷ []) $ free1 ! $ move ! (16 ∷ 17 ∷ []) $ free1 ! $ move ! (14 ∷ 15 ∷ []) $ free1 ! $ move ! (12 ∷ 13 ∷ []) $ free1 ! $
         free0 ! $
         keep ! (4 ∷ 2 ∷ 5 ∷ 6 ∷ 7 ∷ 11 ∷ 3 ∷ 8 ∷ 9 ∷ 10 ∷ []) $ by ! (exits (us .0) (zs .1 .1 .1 .1 .0) (zs .1 .1 .1 .1 .1 .0) (zs .1 .1 .1 .1 .1 .1
-        .0) r w (promised _ _ ys (lent _ _ _ _) (lent _ _ _ _) r k ek (counted len zs r said) (us .0) et) lt ll lv lb
+        .0) r w (promised ys (lent _ _ _ _) (lent _ _ _ _) r k ek (us .0) et _ _ (counted len zs r said)) lt ll lv lb
         isr)))))))))))))))))))))))))))))))))))))))))))))))))))
 
 module _ {M : Type 1} (𝓤 : URA M) (H : Heap 𝓤) (A : Atoms 𝓤) (W : Given 𝓤 H A) (mem : Memory → SProp 𝓤) (run : Routine → Fun 𝓤) (𝓣 : Tables 𝓤 H)
