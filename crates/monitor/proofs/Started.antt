@@ -1,49 +1,38 @@
 -- An accepted job, from loading to its outcome: the loaded slices stand for the state that the rules begin with, so what the run leaves in them is what
 -- the rules' run leaves. Assumes nothing.
-use mathlib.Core.Path.{_≡_, refl, sym, _∙_, ap, subst}
-use mathlib.Core.Bool.{Bool, true, false, cond}
-use mathlib.Core.List.{List, []}
-use Prim.Native.Nat.{ℕ, zero, suc, _+_, _-_, _*_, _<_, _≤_}
+use mathlib.Core.Path.{_≡_, sym, _∙_, ap, subst}
+use mathlib.Core.List.{List}
+use Prim.Native.Nat.{ℕ, _+_, _<_}
 use native.Mathlib.Omega.{arith}
 use native.Mathlib.Decide.{ℕ-discrete}
-use lib.Dec.{eqb, leb}
 use lib.IntN.{ℤ, pos}
-use lib.ListN.{length, getD, set, drop}
+use lib.ListN.{length, getD, set}
 use lib.Seq.{getD-set-same, getD-set-other}
-use borrow.Author.Tests.{eq-eqb, ne-eqb}
-use Rattle.rules.specs.Limits.{maxNodes, maxRecords, maxBudget}
-use Rattle.rules.specs.Level.{public}
-use Rattle.rules.specs.Bytes.{variablePlace, recordPlace, nodesAt, scriptAt, variableCount, nodeCount, recordCount}
+use Rattle.rules.specs.Bytes.{variablePlace, nodesAt, variableCount, nodeCount, recordCount}
 use Rattle.rules.specs.Check as Check
 use Rattle.rules.specs.Check.{checkBytes}
-use Rattle.rules.specs.Job.{Variable, variableOf, variables, treeOf, jobTree, script, scriptOf, listed}
-use Rattle.rules.specs.Script.{Command}
-use Rattle.rules.specs.Run.{Buffers, State, Ended, Ending, finished, stopped, stopNumber, noVariable, variableAt, start, run}
+use Rattle.rules.specs.Tree.{root}
+use Rattle.rules.specs.Job.{variableOf, variables, jobTree, script}
+use Rattle.rules.specs.Run.{Buffers, noVariable, variableAt, run}
 use Rattle.rules.specs.Outcome as Rules
-use Rattle.rules.specs.Outcome.{endingNumber, begin}
+use Rattle.rules.specs.Outcome.{begin}
 use Rattle.rules.proofs.Accepted.{Right, right, blocks-right}
-use Rattle.rules.proofs.Checks.{Sections, sections, counts}
-use Rattle.rules.proofs.Control.{Valid}
+use Rattle.rules.proofs.Checks.{sections, counts}
 use Rattle.rules.proofs.Decode.{listed-length, listed-from-zero}
 use Rattle.rules.proofs.Noninterference.{loads, begin-valid}
 use Rattle.job.specs.declared.sections.Layout.{Layout}
 use Rattle.job.specs.Layout.{layoutOf}
-use Rattle.table.specs.Cells.{cells}
+use Rattle.table.specs.Cells.{cells, gone}
 use Rattle.table.specs.Holds.{Holds}
 use Rattle.table.specs.Promises.{Behind, Loadable, Loaded}
-use Rattle.actions.specs.declared.guards.Guards.{Guards}
-use Rattle.actions.specs.declared.control.Running.{Running}
-use Rattle.actions.specs.declared.control.Stepped.{Stepped}
+use Rattle.actions.specs.Board.{capacity, written}
+use Rattle.actions.specs.Shows.{Slices, Variables}
 use Rattle.monitor.specs.declared.step.Frame.{Frame}
-use Rattle.actions.specs.Guards.{Holds as Guarded}
-use Rattle.actions.specs.Board.{capacity}
-use Rattle.actions.specs.Shows.{Slices, slices, Variables, Shows}
-use Rattle.actions.specs.Stands.{Stands}
-use Rattle.monitor.specs.Steps.{Held, held, scriptIn, Script, Safe, Startable, Runs, codeOf}
-use Rattle.monitor.specs.Promises.{told, toldBy, Tree, Ran}
-use Rattle.monitor.specs.Starting.{outcomeOf, Loading, VariablesLoaded, Begun, asLent, Left}
-use Rattle.actions.proofs.Board.{no-lines, lines-many, as-written}
-use Rattle.actions.proofs.Stepping.{stop-below}
+use Rattle.monitor.specs.declared.entry.Outcome.{Outcome}
+use Rattle.monitor.specs.Steps.{held, Script, Lent}
+use Rattle.monitor.specs.Promises.{told, Tree, Ran}
+use Rattle.monitor.specs.Starting.{Loading, VariablesLoaded, Begun, asLent, Left}
+use Rattle.monitor.specs.FromRoot.{Rooted, FromRoot}
 
 -- one variable more
 module _ (b : List ℕ) (i : ℕ) (levels₀ levels : List ℕ) (values₀ values : List ℤ) (l : ℕ) (v : ℤ) (h : VariablesLoaded b i levels₀ levels values₀ values)
@@ -66,40 +55,48 @@ module _ (b : List ℕ) (i : ℕ) (levels₀ levels : List ℕ) (values₀ value
         value-at k q (yes e) = rw e (getD-set-same values i v (pos 0) c ∙ ve)
         value-at k q (no e) = getD-set-other values i k v (pos 0) e ∙ h .value k (omega arith)
 
--- the frame of a layout, and the record that a run starts from
+-- the frame of a layout
 abbrev pub frame : Layout → ℕ → Frame
 frame l places = record { script = l .script; records = l .records; vars = l .variables; places = places }
-
-abbrev pub startOf : Layout → Guards → Running
-startOf l g = record { memory = record { cursor = 0; level = 0; lines = 0; free = 65535; used = l .nodes }; guards = g; at = 0; steps = 0 }
 
 module _ (b plan : List ℕ) (budget : ℕ) (x : Slices) (places : ℕ) (ok : checkBytes b ≡ Check.accepted) (g : Begun b (layoutOf b) plan budget x places) where
   r : Right b
   r = right b ok
 
-  -- the script that the run goes by is the job's
-  same-script : scriptIn (held b plan (frame (layoutOf b) places)) ≡ script b
-  unfolding layoutOf script
-  same-script = refl
-
-  pub scripted : length plan ≡ 1025 → Script (held b plan (frame (layoutOf b) places))
+  scripted : recordCount b < length plan → Script (held b plan (frame (layoutOf b) places))
   unfolding layoutOf script
   scripted long =
       let s = sections b (r .offsets) in
-      let n = counts _ _ _ (r .counts) in
       record {
         inside = omega (arith, s .records);
-        few = n .records;
+        few = counts _ _ _ (r .counts) .records;
         fields = r .records;
         blocks = blocks-right b r;
-        long = omega (arith, n .records, long);
+        long = long;
         plan = g .planned;
       }
 
-  -- the slices after loading
-  module _ (x₁ : Slices) (gs : Guards) (none : Guarded gs []) (vl : VariablesLoaded b (variableCount b) (x .levels) (x₁ .levels) (x .values) (x₁ .values))
+  pub rooted : (x₁ : Slices) → length (x₁ .words) ≡ length (x .words) → length (x₁ .levels) ≡ length (x .levels) → length (x₁ .values) ≡ length (x .values)
+      → Rooted (held b plan (frame (layoutOf b) places)) x₁ budget
+  unfolding layoutOf
+  rooted x₁ e e₁ e₂ =
+      let n = counts _ _ _ (r .counts) in
+      record {
+        short = n .records;
+        script = scripted;
+        spend = g .spend;
+        words = omega (arith, g .words, e);
+        some = omega (arith, g .nodes, n .some);
+        few = g .few;
+        levelled = omega (arith, g .levelled, e₁);
+        valued = omega (arith, g .valued, e₂);
+      }
+
+  -- the slices after loading, and after the run
+  module _ (x₁ x₂ : Slices) (vl : VariablesLoaded b (variableCount b) (x .levels) (x₁ .levels) (x .values) (x₁ .values))
       (tl : Loaded b (nodesAt b) (nodeCount b) (cells (x₁ .words))) (bl : Behind (nodeCount b) (cells (x .words)) (cells (x₁ .words)))
-      (board : x₁ .board ≡ x .board) where
+      (board : x₁ .board ≡ x .board) (o : Outcome)
+      (run-of : FromRoot (held b plan (frame (layoutOf b) places)) (nodeCount b) gone budget x₁ x₂ o) where
     shown-variables : Variables (x₁ .levels) (x₁ .values) (variableCount b) (variables b)
     unfolding variables variableAt
     shown-variables =
@@ -109,62 +106,38 @@ module _ (b plan : List ℕ) (budget : ℕ) (x : Slices) (places : ℕ) (ok : ch
           value = λ i q. ap (λ w. w .value) (listed-from-zero (λ (k : ℕ). variableOf b (variablePlace k)) noVariable (variableCount b) i q) ∙ sym (vl .value i q);
         }
 
-    pub begins : Stands places (variableCount b) x₁ (startOf (layoutOf b) gs) (begin b)
-    unfolding begin start public layoutOf jobTree Loaded
-    begins =
-        record {
-          memory =
-              record {
-                tree = tl (r .parents) places (g .nodes) (g .few);
-                level = refl;
-                variables = shown-variables;
-                lines = no-lines;
-              };
-          guards = none;
-          at = refl;
-          steps = refl;
-        }
+    loaded-tree : Holds (cells (x₁ .words)) places (nodeCount b) gone 0 (jobTree b) root
+    unfolding layoutOf jobTree Loaded
+    loaded-tree = tl (r .parents) places (g .nodes) (g .few)
 
-    -- what the run leaves
-    module _ (x₂ : Slices) (levels : x₂ .levels ≡ x₁ .levels) (a : Stepped)
-        (rs : Runs (held b plan (frame (layoutOf b) places)) x₁ x₂ (startOf (layoutOf b) gs) budget a) (lent : Buffers)
-        (lp : lent .places ≡ places) (lb : lent .lines ≡ capacity (x .board)) where
-      e : Ended
-      e = run lent (script b) budget (begin b)
+    module _ (given : Buffers) (gp : given .places ≡ places) (gb : given .lines ≡ capacity (x .board)) where
+      lent-so : Lent (held b plan (frame (layoutOf b) places)) x₁ given
+      lent-so = record { places = gp; board = gb ∙ ap capacity (sym board) }
 
-      ran : Rattle.monitor.specs.Steps.Ran (held b plan (frame (layoutOf b) places)) x₂ a (run lent (script b) budget (begin b))
-      unfolding layoutOf script
-      ran = rs .runs lent (begin b) (record { places = lp; board = lb ∙ ap capacity (sym board) }) (begin-valid b (loads b ok)) begins
+      outcome : o ≡ told (Rules.ran (run given (script b) budget (begin b)))
+      unfolding layoutOf script begin
+      outcome = run-of .outcome given (variables b) (jobTree b) lent-so (begin-valid b (loads b ok)) shown-variables loaded-tree
 
-      line-count : length (run lent (script b) budget (begin b) .last .memory .lines) ≡ a .running .memory .lines
-      line-count = lines-many (ran .last .memory .lines)
-
-      answered : (k : Ending) → run lent (script b) budget (begin b) .ending ≡ k → a .stop ≡ codeOf k
-          → outcomeOf a ≡ told (Rules.ran (run lent (script b) budget (begin b)))
-      unfolding told toldBy outcomeOf codeOf
-      answered finished w z = rw (w, line-count, ran .last .steps, eq-eqb _ 255 z)
-      answered (stopped k) w z = rw (w, line-count, ran .last .steps, ran .last .at, ne-eqb _ 255 (λ y. stop-below k (sym z ∙ y)), z)
-
-      pub answers : outcomeOf a ≡ told (Rules.ran (run lent (script b) budget (begin b)))
-      answers = answered (run lent (script b) budget (begin b) .ending) refl (ran .ending)
-
-      pub leaves : Ran Tree (variableCount b) places (asLent x) (asLent x₂) (run lent (script b) budget (begin b))
-      unfolding layoutOf
+      leaves : Ran Tree (variableCount b) places (asLent x) (asLent x₂) (run given (script b) budget (begin b))
+      unfolding layoutOf script begin
       leaves =
-          let m = ran .last .memory in
+          let k = run-of .leaves given (variables b) (jobTree b) lent-so (begin-valid b (loads b ok)) shown-variables loaded-tree in
           record {
-            board = as-written _ (x .board) _ (x₂ .board) (m .lines) line-count (rs .kept .board ∙ ap (drop (4 * a .running .memory .lines)) board);
-            variables = m .variables;
-            spare-levels = λ j q. ap (λ (l : List ℕ). getD l j 0) levels ∙ vl .spare-levels j q;
-            spare-values = λ j q. rs .kept .values j q ∙ vl .spare-values j q;
-            tree = record { used = a .running .memory .used; free = a .running .memory .free; at = a .running .memory .cursor; holds = m .tree };
+            board = k .board ∙ ap (written _) board;
+            variables = k .variables;
+            spare-levels = λ j q. k .spare-levels j q ∙ vl .spare-levels j q;
+            spare-values = λ j q. k .spare-values j q ∙ vl .spare-values j q;
+            tree = k .tree;
           }
 
-    -- the two together
-    pub left : (x₂ : Slices) → x₂ .levels ≡ x₁ .levels → (a : Stepped)
-        → Runs (held b plan (frame (layoutOf b) places)) x₁ x₂ (startOf (layoutOf b) gs) budget a → Left b budget places x x₂ (outcomeOf a)
+    pub left : Left b budget places x x₂ o
     unfolding layoutOf
-    left x₂ same a rs = record { outcome = λ lent lp lb. answers x₂ same a rs lent lp lb; behind = record { same = λ y h. rs .kept .cells .same y h ∙ bl .same y (omega (arith, g .nodes, h)) }; leaves = λ lent lp lb. leaves x₂ same a rs lent lp lb }
+    left =
+        record {
+          outcome = λ given gp gb. outcome given gp gb;
+          behind = record { same = λ y h. run-of .behind .same y h ∙ bl .same y (omega (arith, g .nodes, h)) };
+          leaves = λ given gp gb. leaves given gp gb;
+        }
 
 -- the same for a layout that is the job's: what the functions called ask for, and what they leave
 module _ (b plan : List ℕ) (budget : ℕ) (x : Slices) (places : ℕ) (l : Layout) (g : Begun b l plan budget x places) where
@@ -185,27 +158,12 @@ module _ (b plan : List ℕ) (budget : ℕ) (x : Slices) (places : ℕ) (l : Lay
       rw (g .layout)
       (record { whole = omega (arith, s .nodes, s .records); long = omega (arith, here .words, here .nodes); some = n .some; few = n .nodes })
 
-  pub ready : length plan ≡ 1025 → Script (held b plan (frame l places))
-  ready = rw (g .layout) (scripted b plan budget x places (g .accepted) here)
+  pub rooted-at : (x₁ : Slices) → length (x₁ .words) ≡ length (x .words) → length (x₁ .levels) ≡ length (x .levels) → length (x₁ .values) ≡ length (x .values)
+      → Rooted (held b plan (frame l places)) x₁ budget
+  rooted-at = rw (g .layout) (rooted b plan budget x places (g .accepted) here)
 
-  pub safe : (w vs : List ℕ) (us : List ℤ) (gs : Guards) → length w ≡ length (x .words) → length vs ≡ length (x .levels)
-      → length us ≡ length (x .values) → Safe (held b plan (frame l places)) (slices w vs us (x .board)) (startOf l gs)
-  safe w vs us gs e e₁ e₂ =
-      record {
-        long = omega (arith, g .words, e);
-        few = g .few;
-        levelled = omega (arith, g .levelled, e₁);
-        valued = omega (arith, g .valued, e₂);
-        cursor = omega (arith, g .nodes, loadable .some);
-        room = omega arith;
-        within = omega arith;
-      }
-
-  pub left-of : (x₁ : Slices) (gs : Guards) → Guarded gs [] → VariablesLoaded b (l .variables) (x .levels) (x₁ .levels) (x .values) (x₁ .values)
-      → Loaded b (l .tree) (l .nodes) (cells (x₁ .words)) → Behind (l .nodes) (cells (x .words)) (cells (x₁ .words)) → x₁ .board ≡ x .board → (x₂ : Slices) → x₂ .levels ≡ x₁ .levels → (a : Stepped)
-      → Runs (held b plan (frame l places)) x₁ x₂ (startOf l gs) (budget - 0) a → Left b budget places x x₂ (outcomeOf a)
+  pub left-of : (x₁ x₂ : Slices) → VariablesLoaded b (l .variables) (x .levels) (x₁ .levels) (x .values) (x₁ .values)
+      → Loaded b (l .tree) (l .nodes) (cells (x₁ .words)) → Behind (l .nodes) (cells (x .words)) (cells (x₁ .words)) → x₁ .board ≡ x .board → (o : Outcome)
+      → FromRoot (held b plan (frame l places)) (l .nodes) gone budget x₁ x₂ o → Left b budget places x x₂ o
   unfolding layoutOf
-  left-of =
-      rw (g .layout)
-      (λ x₁ gs none vl tl bl board x₂ same a rs. left b plan budget x places (g .accepted) here x₁ gs none vl tl bl board x₂ same a
-      (subst (λ (k : ℕ). Runs (held b plan (frame (layoutOf b) places)) x₁ x₂ (startOf (layoutOf b) gs) k a) {x = budget - 0} (omega arith) rs))
+  left-of = rw (g .layout) (left b plan budget x places (g .accepted) here)

@@ -1,11 +1,6 @@
 // The run over a job's bytes: the checks 1 to 10, then the job is loaded and run.
-use super::run::run_from;
+use super::start::from_root;
 use super::step::Frame;
-use actions::control::FINISHED;
-use actions::control::Running;
-use actions::control::Stepped;
-use actions::guards;
-use actions::memory::Memory;
 use job::Checked;
 use job::plan::WORDS;
 use job::prepare;
@@ -16,15 +11,14 @@ use rules::limits::MAX_BUDGET;
 use rules::limits::MAX_NODES;
 use table::records;
 ghost use mathlib.Core.Path.{_≡_};
-ghost use Prim.Native.Nat.{_≤_, min};
+ghost use Prim.Native.Nat.{min};
 ghost use lib.ListN.{length};
-ghost use Rattle.rules.specs.Limits.{maxBudget};
 ghost use Rattle.table.specs.Cells.{cells};
 ghost use Rattle.table.specs.Promises.{Behind};
 ghost use Rattle.rules.specs.Outcome.{budgetRule};
 ghost use Rattle.actions.specs.Shows.{slices};
 ghost use Rattle.monitor.specs.Promises.{lent, placesIn, placesFor, Tree, Promises};
-ghost use Rattle.monitor.specs.Starting.{outcomeOf, bufferTest, Loading, VariablesLoaded, Begun, Left};
+ghost use Rattle.monitor.specs.Starting.{bufferTest, Loading, VariablesLoaded, Begun, Left};
 
 // What becomes of a job: turned back with a number and an index; or run, to its end or to a stop with its number and record.
 pub enum Outcome {
@@ -88,25 +82,6 @@ fn asked(places: usize, words: usize) -> usize
     }
 }
 
-// How a run has ended, as an outcome.
-pub fn ended(a: Stepped) -> Outcome
-    requires { ⌜ a .running .steps ≤ maxBudget ⌝ }
-    ensures { λ r. ⌜ r ≡ outcomeOf a ⌝ }
-{
-    if a.stop == FINISHED {
-        return Outcome::Finished {
-            steps: a.running.steps as u32,
-            lines: a.running.memory.lines,
-        };
-    }
-    Outcome::Stopped {
-        number: a.stop,
-        index: a.running.at,
-        steps: a.running.steps as u32,
-        lines: a.running.memory.lines,
-    }
-}
-
 // An accepted job, with buffers that are large enough: loaded, and run from the root.
 fn run_accepted(
     job: &[u8],
@@ -131,30 +106,18 @@ fn run_accepted(
         vars: l.variables,
         places,
     };
-    let memory = Memory {
-        cursor: 0,
-        level: 0,
-        lines: 0,
-        free: table::NIL,
-        used: l.nodes,
-    };
-    let start = Running {
-        memory,
-        guards: guards::none(),
-        at: 0,
-        steps: 0,
-    };
-    ended(run_from(
-        start,
+    from_root(
         job,
         plan,
-        levels,
         frame,
         budget,
+        l.nodes,
+        table::NIL,
         words,
+        levels,
         values,
         lines,
-    ))
+    )
 }
 
 // The run over a job's bytes, with a budget and what the caller lends: a node table of some places, eight words to each, the variables' levels and

@@ -1,15 +1,39 @@
 // A run from the root, over a table and variables that stand already.
 use super::entry::Outcome;
-use super::entry::ended;
 use super::run::run_from;
 use super::step::Frame;
+use actions::control::FINISHED;
 use actions::control::Running;
+use actions::control::Stepped;
 use actions::guards;
 use actions::memory::Memory;
 use job::plan::WORDS;
+ghost use mathlib.Core.Path.{_≡_};
+ghost use Prim.Native.Nat.{_≤_};
+ghost use Rattle.rules.specs.Limits.{maxBudget};
 ghost use Rattle.actions.specs.Shows.{slices};
 ghost use Rattle.monitor.specs.Steps.{held};
+ghost use Rattle.monitor.specs.Starting.{outcomeOf};
 ghost use Rattle.monitor.specs.FromRoot.{Rooted, FromRoot};
+
+// How a run has ended, as an outcome.
+fn ended(a: Stepped) -> Outcome
+    requires { ⌜ a .running .steps ≤ maxBudget ⌝ }
+    ensures { λ r. ⌜ r ≡ outcomeOf a ⌝ }
+{
+    if a.stop == FINISHED {
+        return Outcome::Finished {
+            steps: a.running.steps as u32,
+            lines: a.running.memory.lines,
+        };
+    }
+    Outcome::Stopped {
+        number: a.stop,
+        index: a.running.at,
+        steps: a.running.steps as u32,
+        lines: a.running.memory.lines,
+    }
+}
 
 // `used` places of the table were used so far, and `free` leads to the free ones among them.
 pub fn from_root(

@@ -2,8 +2,8 @@
 use borrow.Author.Tests.{eq-eqb, ne-eqb}
 use Rattle.monitor.specs.Starting.{outcomeOf}
 use borrow.Author.Needs.{needs}
-use Rattle.monitor.proofs.entry.ended.Statement.{statement}
-use Rattle.monitor.proofs.entry.ended.Tie as tie
+use Rattle.monitor.proofs.start.ended.Statement.{statement}
+use Rattle.monitor.proofs.start.ended.Tie as tie
 
 returns : tie.Need-returns
 unfolding outcomeOf
