@@ -6,12 +6,12 @@ use lib.Dec.{leb}
 use mathlib.Core.List.{List}
 use lib.ListN.{length, getD}
 use lib.IntN.{ℤ, pos}
-use Rattle.rules.specs.Limits.{maxNodes}
+use Rattle.rules.specs.Limits.{maxNodes, maxVariables}
 use Rattle.rules.specs.Tree.{Forest, Place}
 use Rattle.rules.specs.Bytes.{variableCount}
 use Rattle.rules.specs.Run.{Buffers, Ending, finished, stopped, stopNumber, Ended}
 use Rattle.rules.specs.Outcome as Rules
-use Rattle.rules.specs.Outcome.{Answer, answer, runJob}
+use Rattle.rules.specs.Outcome.{Answer, answer, runJob, boardLines}
 use Rattle.table.specs.Cells.{cellSize, cells}
 use Rattle.table.specs.Holds.{Holds}
 use Rattle.monitor.specs.declared.entry.Outcome.{Outcome}
@@ -69,6 +69,15 @@ module _ {T : Type 0} (places : T → ℕ) (HoldsTree : T → ℕ → Forest →
     pub outcome : r ≡ told (runJob b budget (lentBy places x))
     pub answered : answerOf r ≡ answer (runJob b budget (lentBy places x))
     pub leaves : Leaves (variableCount b) x x′ (runJob b budget (lentBy places x))
+
+-- the largest buffers that 10 lets through, with an area for lines
+unfoldable pub largest : List ℕ → Buffers
+largest area = record { places = maxNodes; variables = maxVariables; lines = capacity area }
+
+-- a run that has such buffers of its own: the answer is the rules', and so is all that stands in the area
+pub record PromisesLines (b : List ℕ) (budget : ℕ) (area area′ : List ℕ) (r : Outcome) : Type 0 where
+  pub outcome : r ≡ told (runJob b budget (largest area))
+  pub lines : area′ ≡ written (boardLines (runJob b budget (largest area))) area
 
 -- a table of words has eight to a place
 abbrev pub placesIn : List ℕ → ℕ

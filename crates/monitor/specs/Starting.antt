@@ -9,13 +9,16 @@ use lib.Dec.{eqb, leb}
 use Rattle.rules.specs.Limits.{maxNodes, maxBudget, variableSize}
 use Rattle.rules.specs.Bytes.{variablePlace, variableCount, scriptAt, recordCount}
 use Rattle.rules.specs.Check as Check
-use Rattle.rules.specs.Check.{checkBytes}
+use Rattle.rules.specs.Check.{checkBytes, code}
 use Rattle.rules.specs.Job.{variableOf, script}
 use Rattle.rules.specs.Run.{Buffers, run}
 use Rattle.rules.specs.Outcome as Rules
-use Rattle.rules.specs.Outcome.{begin}
+use Rattle.rules.specs.Outcome.{checkJob, begin}
 use Rattle.job.specs.declared.sections.Layout.{Layout}
+use Rattle.job.specs.declared.checks.Checked.{Checked}
 use Rattle.job.specs.Layout.{layoutOf}
+use Rattle.job.specs.Plan.{Whole}
+use Rattle.job.specs.Answer.{answer}
 use Rattle.table.specs.Cells.{cellSize, cells}
 use Rattle.table.specs.Promises.{Behind}
 use Rattle.actions.specs.declared.control.Stepped.{Stepped}
@@ -49,6 +52,11 @@ pub record VariablesLoaded (b : List ℕ) (n : ℕ) (levels levels′ : List ℕ
 -- check 10 by numbers: nodes and variables of a job, places and room for variables of the buffers
 unfoldable pub bufferTest : ℕ → ℕ → ℕ → ℕ → Bool
 bufferTest nodes variables places room = leb 1 places && leb places maxNodes && leb nodes places && leb variables room
+
+-- the checks 1 to 10, with so many places and room for so many variables, and the plan of a script
+pub record AdmitsJob (b : List ℕ) (budget places room : ℕ) (p p′ : List ℕ) (r : Checked) : Type 0 where
+  pub answered : (given : Buffers) → given .places ≡ places → given .variables ≡ room → r ≡ answer (layoutOf b) (checkJob b budget given)
+  pub whole : checkBytes b ≡ Check.accepted → Whole (code b (scriptAt b)) (recordCount b) p p′
 
 -- an accepted job with its layout and plan, a budget, and buffers that are large enough
 pub record Begun (b : List ℕ) (l : Layout) (plan : List ℕ) (budget : ℕ) (x : Slices) (places : ℕ) : Type 0 where

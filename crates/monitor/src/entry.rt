@@ -9,6 +9,7 @@ use rules::limits::BAD_BUDGET;
 use rules::limits::BAD_BUFFERS;
 use rules::limits::MAX_BUDGET;
 use rules::limits::MAX_NODES;
+use rules::limits::MAX_VARIABLES;
 use table::records;
 ghost use mathlib.Core.Path.{_≡_};
 ghost use Prim.Native.Nat.{min};
@@ -17,8 +18,8 @@ ghost use Rattle.table.specs.Cells.{cells};
 ghost use Rattle.table.specs.Promises.{Behind};
 ghost use Rattle.rules.specs.Outcome.{budgetRule};
 ghost use Rattle.actions.specs.Shows.{slices};
-ghost use Rattle.monitor.specs.Promises.{lent, placesIn, placesFor, Tree, Promises};
-ghost use Rattle.monitor.specs.Starting.{bufferTest, Loading, VariablesLoaded, Begun, Left};
+ghost use Rattle.monitor.specs.Promises.{lent, placesIn, placesFor, Tree, Promises, PromisesLines};
+ghost use Rattle.monitor.specs.Starting.{bufferTest, Loading, VariablesLoaded, AdmitsJob, Begun, Left};
 
 // What becomes of a job: turned back with a number and an index; or run, to its end or to a stop with its number and record.
 pub enum Outcome {
@@ -82,6 +83,31 @@ fn asked(places: usize, words: usize) -> usize
     }
 }
 
+// The checks 1 to 10, with so many places and room for so many variables; and the script's plan.
+fn admit(job: &[u8], budget: u64, places: usize, room: usize, plan: &mut [u32; WORDS]) -> Checked
+    ensures { λ r. ⌜ AdmitsJob (now (job .entry)) budget places room (now (plan .entry)) (now (plan .exit)) r ⌝ }
+{
+    let checked = prepare(job, plan);
+    match checked {
+        Checked::Refused { number, index } => Checked::Refused { number, index },
+        Checked::Accepted(l) => {
+            if !budget_ok(budget) {
+                return Checked::Refused {
+                    number: BAD_BUDGET,
+                    index: 0,
+                };
+            }
+            if !buffers_ok(l.nodes, l.variables, places, room) {
+                return Checked::Refused {
+                    number: BAD_BUFFERS,
+                    index: 0,
+                };
+            }
+            Checked::Accepted(l)
+        }
+    }
+}
+
 // An accepted job, with buffers that are large enough: loaded, and run from the root.
 fn run_accepted(
     job: &[u8],
@@ -137,37 +163,23 @@ pub fn run_places(
         (lent (now (words .exit)) (now (levels .exit)) (now (values .exit)) (now (lines .exit))) r
         × Behind (placesFor places (length (now (words .entry)))) (cells (now (words .entry))) (cells (now (words .exit))) ⌝ }
 {
+    let room = smaller(levels.len(), values.len());
+    let held = asked(places, words.len());
     let mut plan = [0u32; WORDS];
-    let checked = prepare(job, &mut plan);
+    let checked = admit(job, budget, held, room, &mut plan);
     match checked {
         Checked::Refused { number, index } => Outcome::Refused { number, index },
-        Checked::Accepted(l) => {
-            if !budget_ok(budget) {
-                return Outcome::Refused {
-                    number: BAD_BUDGET,
-                    index: 0,
-                };
-            }
-            let room = smaller(levels.len(), values.len());
-            let held = asked(places, words.len());
-            if !buffers_ok(l.nodes, l.variables, held, room) {
-                return Outcome::Refused {
-                    number: BAD_BUFFERS,
-                    index: 0,
-                };
-            }
-            run_accepted(
-                job,
-                l,
-                &plan,
-                budget as usize,
-                words,
-                held,
-                levels,
-                values,
-                lines,
-            )
-        }
+        Checked::Accepted(l) => run_accepted(
+            job,
+            l,
+            &plan,
+            budget as usize,
+            words,
+            held,
+            levels,
+            values,
+            lines,
+        ),
     }
 }
 
@@ -187,4 +199,32 @@ pub fn run_words(
 {
     let places = words.len() / table::CELL;
     run_places(job, budget, places, words, levels, values, lines)
+}
+
+// The same with the largest table and room for every variable, of its own. They are made after the checks: a job that is turned back does not pay for
+// clearing them.
+pub fn run_lines(job: &[u8], budget: u64, lines: &mut [u8]) -> Outcome
+    ensures { λ r. ⌜ PromisesLines (now (job .entry)) budget (now (lines .entry)) (now (lines .exit)) r ⌝ }
+{
+    let mut plan = [0u32; WORDS];
+    let checked = admit(job, budget, MAX_NODES, MAX_VARIABLES, &mut plan);
+    match checked {
+        Checked::Refused { number, index } => Outcome::Refused { number, index },
+        Checked::Accepted(l) => {
+            let mut words = [0u32; table::WORDS];
+            let mut levels = [0u8; MAX_VARIABLES];
+            let mut values = [0i32; MAX_VARIABLES];
+            run_accepted(
+                job,
+                l,
+                &plan,
+                budget as usize,
+                &mut words,
+                MAX_NODES,
+                &mut levels,
+                &mut values,
+                lines,
+            )
+        }
+    }
 }

@@ -6,6 +6,7 @@ mod start;
 mod step;
 
 pub use entry::Outcome;
+pub use entry::run_lines;
 pub use entry::run_places;
 pub use entry::run_words;
 pub use follow::follow_places;

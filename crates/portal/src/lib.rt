@@ -1,17 +1,14 @@
 // The calls that a portal in C makes: bytes, a budget and plain slices of numbers, and one number back.
 use monitor::Outcome;
 use monitor::follow_words;
+use monitor::run_lines;
 use monitor::run_words;
-use rules::limits::MAX_VARIABLES;
 ghost use mathlib.Core.Path.{_≡_};
 ghost use Prim.Native.Nat.{_+_, _*_, _≤_};
 ghost use Rattle.rules.specs.Limits.{maxBudget};
 ghost use Rattle.monitor.specs.Promises.{answerOf, lent};
 ghost use Rattle.portal.specs.Portal.{numberOf, handed, portal};
 ghost use Rattle.portal.specs.Standing.{Started, Followed};
-
-// Eight words for each of the 512 places.
-const WORDS: usize = 4096;
 
 // The ending in the upper half, the line count in the lower one.
 fn packed(ending: u8, lines: usize) -> u64
@@ -43,10 +40,7 @@ fn number(o: Outcome) -> u64
 pub extern "C" fn portal_run(job: &[u8], budget: u64, lines: &mut [u8]) -> u64
     ensures { λ r. ⌜ handed r (now (lines .exit)) ≡ portal (now (job .entry)) budget (now (lines .entry)) ⌝ }
 {
-    let mut words = [0u32; WORDS];
-    let mut levels = [0u8; MAX_VARIABLES];
-    let mut values = [0i32; MAX_VARIABLES];
-    number(run_words(job, budget, &mut words, &mut levels, &mut values, lines))
+    number(run_lines(job, budget, lines))
 }
 
 // The job is run over what the portal keeps: a node table of eight words to a place, the variables' levels and values. Its tree and variables stay there.
