@@ -1,12 +1,10 @@
 //! Links `libportal.a` from the folder that PORTAL_LIB_DIR names. Without it
 //! everything builds, and a program that is asked for the linked portal says
-//! that there is none; so it is with `portal_follow`, where the library has no
-//! such function.
+//! that there is none.
 
 fn main() {
     println!("cargo:rerun-if-env-changed=PORTAL_LIB_DIR");
     println!("cargo::rustc-check-cfg=cfg(portal_linked)");
-    println!("cargo::rustc-check-cfg=cfg(portal_follows)");
     let Ok(folder) = std::env::var("PORTAL_LIB_DIR") else {
         return;
     };
@@ -14,9 +12,4 @@ fn main() {
     println!("cargo:rustc-link-search=native={folder}");
     println!("cargo:rustc-link-lib=static=portal");
     println!("cargo:rustc-cfg=portal_linked");
-    let library = std::fs::read(format!("{folder}/libportal.a")).unwrap_or_default();
-    let name = b"portal_follow";
-    if library.windows(name.len()).any(|bytes| bytes == name) {
-        println!("cargo:rustc-cfg=portal_follows");
-    }
 }

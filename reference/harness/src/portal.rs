@@ -12,16 +12,13 @@ extern "C" {
         lines: *mut u8,
         lines_len: usize,
     ) -> u64;
-}
 
-#[cfg(portal_follows)]
-extern "C" {
     fn portal_follow(
-        section: *const u8,
-        section_len: usize,
+        script: *const u8,
+        script_len: usize,
         budget: u64,
-        words: *mut u32,
-        words_len: usize,
+        table: *mut u32,
+        table_len: usize,
         levels: *const u8,
         levels_len: usize,
         values: *mut i32,
@@ -102,7 +99,7 @@ pub struct Lending<'a> {
 impl Portal {
     /// Whether [`Portal::follow`] can be called.
     pub fn follows(self) -> bool {
-        cfg!(portal_follows) && self == Portal::Linked
+        self == Portal::Linked
     }
 
     /// A follow-on script; the answer is as that of a job.
@@ -114,7 +111,7 @@ impl Portal {
     }
 }
 
-#[cfg(portal_follows)]
+#[cfg(portal_linked)]
 fn follow_linked(section: &[u8], budget: u64, lent: Lending, area: &mut [u8]) -> u64 {
     let Lending {
         words,
@@ -140,9 +137,9 @@ fn follow_linked(section: &[u8], budget: u64, lent: Lending, area: &mut [u8]) ->
     }
 }
 
-#[cfg(not(portal_follows))]
+#[cfg(not(portal_linked))]
 fn follow_linked(_: &[u8], _: u64, _: Lending, _: &mut [u8]) -> u64 {
-    unreachable!("the linked portal has no portal_follow")
+    unreachable!("no portal is linked")
 }
 
 fn call_reference(job: &[u8], budget: u64, area: &mut [u8], mistake: Mistake) -> u64 {
