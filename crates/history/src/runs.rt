@@ -1,12 +1,12 @@
 // The run of a job, which leaves its tree and variables to stand, and the run of a script over them.
 use super::variables::Variables;
+use entry::follow_own;
 use entry::run_own;
 use frames::Header;
 use frames::outcome;
 use frames::outcome::PLACES;
 use frames::outcome::WORDS;
 use monitor::Outcome;
-use monitor::follow_words;
 use print::Out;
 use print::SIZE;
 use print::answer;
@@ -102,20 +102,20 @@ fn follow(
     places: usize,
     n: usize,
     words: &mut [u32],
-    levels: &[u8],
+    levels: &mut [u8],
     values: &mut [i32],
     lines: &mut [u8],
 ) -> Outcome
     requires { ⌜ (4104 ≤ length (now words)) × (n ≤ length (now levels)) × (n ≤ length (now values)) ⌝ }
 {
-    let long = table::CELL * lending(places);
-    follow_words(
+    follow_own(
         section,
         budget,
-        &mut words[..long],
-        &levels[..n],
+        places,
+        &mut levels[..n],
         &mut values[..n],
         lines,
+        words,
     )
 }
 
@@ -133,7 +133,7 @@ fn script(
     ensures { λ r. ⌜ (r .out .used ≤ 65536) × Room (r .variables) ⌝ }
 {
     let n = v.count;
-    let levels = v.levels;
+    let mut levels = v.levels;
     let mut values = v.values;
     let o = follow(
         section,
@@ -141,7 +141,7 @@ fn script(
         h.places,
         n,
         words,
-        &levels,
+        &mut levels,
         &mut values,
         lines,
     );
