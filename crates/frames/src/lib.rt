@@ -29,6 +29,15 @@ pub fn start() -> State
     }
 }
 
+// Puts what an answer begins with: a name, and the number of the frame.
+pub fn head(buf: &mut [u8; SIZE], out: Out, name: &[u8], k: u64) -> Out
+    requires { ⌜ out .used ≤ 65536 ⌝ }
+    ensures { λ r. ⌜ r .used ≤ 65536 ⌝ }
+{
+    let r = print::item(buf, out, name, k);
+    print::byte(buf, r, b'\n')
+}
+
 // The end of the input.
 fn finish(buf: &[u8; SIZE], out: Out) -> State
     requires { ⌜ out .used ≤ 65536 ⌝ }

@@ -21,12 +21,11 @@ fn wide(x: u8) -> u32 {
     x as u32
 }
 
-fn put_answer(buf: &mut [u8; SIZE], out: Out, head: &[u8], k: u64, a: Answer) -> Out
+fn put_answer(buf: &mut [u8; SIZE], out: Out, a: Answer) -> Out
     requires { ⌜ out .used ≤ 65536 ⌝ }
     ensures { λ r. ⌜ r .used ≤ 65536 ⌝ }
 {
-    let mut r = print::item(buf, out, head, k);
-    r = print::item(buf, r, b"\nending ", a.ending as u64);
+    let mut r = print::item(buf, out, b"ending ", a.ending as u64);
     r = print::item(buf, r, b" index ", a.index as u64);
     r = print::item(buf, r, b" steps ", a.steps as u64);
     r = print::item(buf, r, b" lines ", a.lines as u64);
@@ -103,12 +102,10 @@ fn put_lent_tree(buf: &mut [u8; SIZE], out: Out, words: &[u32; WORDS], places: u
     put_tree(buf, out, words, places)
 }
 
-// What became of the run number k, behind a word: n variables, places of a table and an area for lines were lent to it.
+// What became of a run: n variables, places of a table and an area for lines were lent to it.
 pub fn put(
     buf: &mut [u8; SIZE],
     out: Out,
-    head: &[u8],
-    k: u64,
     o: Outcome,
     n: usize,
     places: usize,
@@ -121,7 +118,7 @@ pub fn put(
     ensures { λ r. ⌜ r .used ≤ 65536 ⌝ }
 {
     let a = answer::of(o);
-    let mut r = put_answer(buf, out, head, k, a);
+    let mut r = put_answer(buf, out, a);
     if !answer::was_run(o) {
         return r;
     }

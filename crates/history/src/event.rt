@@ -22,23 +22,35 @@ pub struct After {
 }
 
 // Puts the name and the number of an event.
-fn name(buf: &mut [u8; SIZE], s: State, text: &[u8], k: u64) -> State
+fn head(buf: &mut [u8; SIZE], s: State, name: &[u8], k: u64) -> State
     requires { ⌜ Fits s ⌝ }
     ensures { λ r. ⌜ Fits r ⌝ }
 {
-    let out = print::item(buf, s.out, text, k);
     let span = s.span;
     State {
         span,
-        out: print::byte(buf, out, b'\n'),
+        out: frames::head(buf, s.out, name, k),
         over: false,
     }
 }
 
+// The name of a job (kind 0) or of a script.
+fn run_head(buf: &mut [u8; SIZE], s: State, kind: u32, k: u64) -> State
+    requires { ⌜ Fits s ⌝ }
+    ensures { λ r. ⌜ Fits r ⌝ }
+{
+    if kind == 0 {
+        return head(buf, s, b"job ", k);
+    }
+    head(buf, s, b"script ", k)
+}
+
+// One byte more than a job may have, so that a body that is too long is seen.
+const BODY: usize = 23049;
+
 // A job or a script.
 fn run(
     block: &mut [u8; SIZE],
-    body: &mut [u8],
     buf: &mut [u8; SIZE],
     words: &mut [u32; WORDS],
     lines: &mut [u8; AREA],
@@ -51,7 +63,8 @@ fn run(
     requires { ⌜ Fits s × Room v × (h .lines < 65536) ⌝ }
     ensures { λ r. ⌜ Fits (r .state) × Room (r .variables) ⌝ }
 {
-    let b = frames::read_body(block, body, buf, s, h.size);
+    let mut body = [0u8; BODY];
+    let b = frames::read_body(block, &mut body, buf, s, h.size);
     let read = b.state;
     if read.over {
         return After {
@@ -60,8 +73,9 @@ fn run(
         };
     }
     let count = b.count;
-    let r = runs::run(kind, &body[..count], h, k, buf, read.out, words, lines, v);
-    let span = read.span;
+    let t = run_head(buf, read, kind, k);
+    let r = runs::run(kind, &body[..count], h, buf, t.out, words, lines, v);
+    let span = t.span;
     let out = r.out;
     let variables = r.variables;
     After {
@@ -129,7 +143,7 @@ fn poke(
         };
     }
     After {
-        state: name(buf, t, b"poke ", k),
+        state: head(buf, t, b"poke ", k),
         variables: u,
     }
 }
@@ -153,9 +167,9 @@ fn show(
         return t;
     }
     if kind != 3 {
-        return name(buf, t, b"unknown ", k);
+        return head(buf, t, b"unknown ", k);
     }
-    let u = name(buf, t, b"table ", k);
+    let u = head(buf, t, b"table ", k);
     let span = u.span;
     State {
         span,
@@ -167,7 +181,6 @@ fn show(
 // The next event, which is number k.
 pub fn next(
     block: &mut [u8; SIZE],
-    body: &mut [u8],
     buf: &mut [u8; SIZE],
     words: &mut [u32; WORDS],
     lines: &mut [u8; AREA],
@@ -178,18 +191,18 @@ pub fn next(
     requires { ⌜ Fits s × Room v ⌝ }
     ensures { λ r. ⌜ Fits (r .state) × Room (r .variables) ⌝ }
 {
-    let mut head = [0u8; 16];
-    let t = frames::next(block, &mut head, buf, s);
+    let mut bytes = [0u8; 16];
+    let t = frames::next(block, &mut bytes, buf, s);
     if t.over {
         return After {
             state: t,
             variables: v,
         };
     }
-    let kind = full_at(&head, 0);
-    let h = frames::read_header(&head, 4);
+    let kind = full_at(&bytes, 0);
+    let h = frames::read_header(&bytes, 4);
     if kind < 2 {
-        return run(block, body, buf, words, lines, t, v, kind, h, k);
+        return run(block, buf, words, lines, t, v, kind, h, k);
     }
     if kind == 2 {
         return poke(block, buf, words, t, v, h, k);

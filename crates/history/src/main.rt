@@ -14,7 +14,6 @@ use print::SIZE;
 // A proved loop has to end, and nothing says that the input does: so this one ends too where the events can be counted no further.
 fn history(
     block: &mut [u8; SIZE],
-    body: &mut [u8],
     buf: &mut [u8; SIZE],
     words: &mut [u32; WORDS],
     lines: &mut [u8; AREA],
@@ -23,7 +22,7 @@ fn history(
     let mut v = variables::none();
     let mut k: u64 = 0;
     while k < u64::MAX {
-        let e = event::next(block, body, buf, words, lines, s, v, k);
+        let e = event::next(block, buf, words, lines, s, v, k);
         s = e.state;
         v = e.variables;
         if s.over {
@@ -33,12 +32,10 @@ fn history(
     }
 }
 
-// The body's buffer has one place more than a job may have bytes, so that a body that is too long is seen.
 fn main() {
     let mut block = io::large_buffer();
-    let mut body = [0u8; 23049];
     let mut buf = io::large_buffer();
     let mut words = [0u32; WORDS];
     let mut lines = [0u8; AREA];
-    history(&mut block, &mut body, &mut buf, &mut words, &mut lines);
+    history(&mut block, &mut buf, &mut words, &mut lines);
 }

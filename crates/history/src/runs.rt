@@ -15,10 +15,10 @@ ghost use Prim.Native.Nat.{_*_, _≤_};
 ghost use lib.ListN.{length};
 ghost use Rattle.history.specs.Room.{Room};
 
-// What waits to be written out, and the variables that stand now.
-pub struct Ran {
-    pub out: Out,
-    pub variables: Variables,
+// How a run has ended, and the variables that stand now.
+struct Ran {
+    outcome: Outcome,
+    variables: Variables,
 }
 
 // So many places, as far as there are.
@@ -39,18 +39,9 @@ fn keep(words: &mut [u32; WORDS], fresh: &[u32; WORDS], places: usize) {
 }
 
 // A job over the first places. What is turned back leaves all as it was.
-fn job(
-    bytes: &[u8],
-    h: Header,
-    k: u64,
-    buf: &mut [u8; SIZE],
-    out: Out,
-    words: &mut [u32; WORDS],
-    lines: &mut [u8],
-    v: Variables,
-) -> Ran
-    requires { ⌜ (out .used ≤ 65536) × Room v ⌝ }
-    ensures { λ r. ⌜ (r .out .used ≤ 65536) × Room (r .variables) ⌝ }
+fn job(bytes: &[u8], h: Header, words: &mut [u32; WORDS], lines: &mut [u8], v: Variables) -> Ran
+    requires { ⌜ Room v ⌝ }
+    ensures { λ r. ⌜ Room (r .variables) ⌝ }
 {
     let mut fresh = [0u32; WORDS];
     let mut levels = v.levels;
@@ -64,31 +55,17 @@ fn job(
         lines,
         &mut fresh,
     );
-    let n = variables_of(bytes);
-    let r = outcome::put(
-        buf,
-        out,
-        b"job ",
-        k,
-        o,
-        n,
-        h.places,
-        &fresh,
-        &levels,
-        &values,
-        lines,
-    );
     if !answer::was_run(o) {
         return Ran {
-            out: r,
+            outcome: o,
             variables: v,
         };
     }
     keep(words, &fresh, h.places);
     Ran {
-        out: r,
+        outcome: o,
         variables: Variables {
-            count: n,
+            count: variables_of(bytes),
             levels,
             values,
         },
@@ -122,15 +99,12 @@ fn follow(
 fn script(
     section: &[u8],
     h: Header,
-    k: u64,
-    buf: &mut [u8; SIZE],
-    out: Out,
     words: &mut [u32; WORDS],
     lines: &mut [u8],
     v: Variables,
 ) -> Ran
-    requires { ⌜ (out .used ≤ 65536) × Room v ⌝ }
-    ensures { λ r. ⌜ (r .out .used ≤ 65536) × Room (r .variables) ⌝ }
+    requires { ⌜ Room v ⌝ }
+    ensures { λ r. ⌜ Room (r .variables) ⌝ }
 {
     let n = v.count;
     let mut levels = v.levels;
@@ -145,21 +119,8 @@ fn script(
         &mut values,
         lines,
     );
-    let r = outcome::put(
-        buf,
-        out,
-        b"script ",
-        k,
-        o,
-        n,
-        h.places,
-        words,
-        &levels,
-        &values,
-        lines,
-    );
     Ran {
-        out: r,
+        outcome: o,
         variables: Variables {
             count: n,
             levels,
@@ -169,23 +130,79 @@ fn script(
 }
 
 // A job (kind 0) or a script.
-pub fn run(
+fn run_kind(
     kind: u32,
     body: &[u8],
     h: Header,
-    k: u64,
+    words: &mut [u32; WORDS],
+    lines: &mut [u8],
+    v: Variables,
+) -> Ran
+    requires { ⌜ Room v ⌝ }
+    ensures { λ r. ⌜ Room (r .variables) ⌝ }
+{
+    if kind == 0 {
+        return job(body, h, words, lines, v);
+    }
+    script(body, h, words, lines, v)
+}
+
+// What waits to be written out, and the variables that stand now.
+pub struct Told {
+    pub out: Out,
+    pub variables: Variables,
+}
+
+// Runs a job or a script, and puts what became of it.
+fn run_lent(
+    kind: u32,
+    body: &[u8],
+    h: Header,
     buf: &mut [u8; SIZE],
     out: Out,
     words: &mut [u32; WORDS],
     lines: &mut [u8],
     v: Variables,
-) -> Ran
+) -> Told
+    requires { ⌜ (out .used ≤ 65536) × Room v ⌝ }
+    ensures { λ r. ⌜ (r .out .used ≤ 65536) × Room (r .variables) ⌝ }
+{
+    let r = run_kind(kind, body, h, words, lines, v);
+    let o = r.outcome;
+    let u = r.variables;
+    let levels = u.levels;
+    let values = u.values;
+    let put = outcome::put(
+        buf,
+        out,
+        o,
+        u.count,
+        h.places,
+        words,
+        &levels,
+        &values,
+        lines,
+    );
+    Told {
+        out: put,
+        variables: u,
+    }
+}
+
+// The same, with as many lines as are asked for.
+pub fn run(
+    kind: u32,
+    body: &[u8],
+    h: Header,
+    buf: &mut [u8; SIZE],
+    out: Out,
+    words: &mut [u32; WORDS],
+    lines: &mut [u8],
+    v: Variables,
+) -> Told
     requires { ⌜ (out .used ≤ 65536) × Room v × (4 * h .lines ≤ length (now lines)) ⌝ }
     ensures { λ r. ⌜ (r .out .used ≤ 65536) × Room (r .variables) ⌝ }
 {
     let area = 4 * h.lines;
-    if kind == 0 {
-        return job(body, h, k, buf, out, words, &mut lines[..area], v);
-    }
-    script(body, h, k, buf, out, words, &mut lines[..area], v)
+    run_lent(kind, body, h, buf, out, words, &mut lines[..area], v)
 }

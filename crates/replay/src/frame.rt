@@ -28,19 +28,8 @@ fn run_lent(
 {
     let o = run_own(job, h.budget, h.places, levels, values, lines, words);
     let n = variables_of(job);
-    outcome::put(
-        buf,
-        out,
-        b"job ",
-        k,
-        o,
-        n,
-        h.places,
-        words,
-        levels,
-        values,
-        lines,
-    )
+    let r = frames::head(buf, out, b"job ", k);
+    outcome::put(buf, r, o, n, h.places, words, levels, values, lines)
 }
 
 // A line capacity above 1,024 counts as 1,024; of places the run has 513, one more than a table may have.

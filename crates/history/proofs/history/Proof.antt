@@ -1,7 +1,5 @@
 -- `history` meets its contract: each turn counts one event more. Assumes nothing.
-use mathlib.Core.Path.{_≡_}
 use Prim.Native.Nat.{_-_}
-use lib.ListN.{length}
 use Rattle.frames.specs.Bounds.{Fits}
 use Rattle.history.specs.Room.{Room}
 use borrow.Author.Needs.{needs}
@@ -9,13 +7,13 @@ use Rattle.history.proofs.history.Statement.{statement}
 use Rattle.history.proofs.history.Tie as tie
 
 abbrev Inv-loop : tie.InvT-loop
-Inv-loop block₀ body₀ buf₀ words₀ lines₀ s₀ v₀ k₀ block body buf words lines s v k = Fits s × Room v × (length body ≡ length body₀)
+Inv-loop block₀ buf₀ words₀ lines₀ s₀ v₀ k₀ block buf words lines s v k = Fits s × Room v
 
 abbrev μ-loop : tie.MeasureT-loop
-μ-loop block₀ body₀ buf₀ words₀ lines₀ s₀ v₀ k₀ block body buf words lines s v k = 18446744073709551615 - k
+μ-loop block₀ buf₀ words₀ lines₀ s₀ v₀ k₀ block buf words lines s v k = 18446744073709551615 - k
 
 pub history-spec : {M : Type 1} → statement M
 history-spec =
     tie.close (tie.spec
     Inv-loop μ-loop (λ c κs. search needs) (λ c κs. search needs) (λ c. search needs) (λ c κs. search needs) (λ c. search needs)
-    (λ c. search needs) (λ c. search needs) (λ c. search needs) (λ c. search needs) (λ c. search needs) (λ c. search needs))
+    (λ c. search needs) (λ c. search needs) (λ c. search needs) (λ c. search needs))

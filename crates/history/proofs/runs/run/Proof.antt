@@ -5,14 +5,10 @@ use borrow.Author.Needs.{needs}
 use Rattle.history.proofs.runs.run.Statement.{statement}
 use Rattle.history.proofs.runs.run.Tie as tie
 
-slice-aggregate-job : tie.Need-slice-aggregate-job
-slice-aggregate-job c = sym (length-take-le _ _ (search needs))
-
-slice-aggregate-script : tie.Need-slice-aggregate-script
-slice-aggregate-script c = sym (length-take-le _ _ (search needs))
+slice-aggregate-run-lent : tie.Need-slice-aggregate-run-lent
+slice-aggregate-run-lent c = sym (length-take-le _ _ (search needs))
 
 pub run-spec : {M : Type 1} → statement M
 run-spec =
     tie.close (tie.spec
-    (λ c. search needs) (λ c. search needs) slice-aggregate-job (λ c κs. search needs) (λ c. search needs) (λ c. search needs)
-    (λ c. search needs) slice-aggregate-script (λ c κs. search needs) (λ c. search needs) (λ c. search needs))
+    (λ c. search needs) (λ c. search needs) slice-aggregate-run-lent (λ c κs. search needs) (λ c. search needs) (λ c. search needs))
