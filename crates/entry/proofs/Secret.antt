@@ -1,10 +1,25 @@
--- Demand 3 of the run over lent node records: what every promise of a run gives, since records hold at most one tree. Assumes nothing.
+-- Demand 3 of the run over lent node records, and the secrecy rule for histories of calls over them: what every promise of a run gives, since in records
+-- there is at most one tree. Assumes nothing.
+use native.Mathlib.Omega.{arith}
 use lib.ListN.{length}
 use Rattle.rules.specs.Level.{Level}
+use Rattle.table.proofs.Resuming.{stands-one, held-one}
 use Rattle.table.proofs.Unique.{one-tree}
+use Rattle.monitor.specs.Histories.{SecretHistories, SecretJobHistories}
 use Rattle.monitor.specs.Secrecy.{SecretCalls}
+use Rattle.monitor.proofs.Histories.{secret-histories-of}
+use Rattle.monitor.proofs.JobHistories.{secret-job-histories-of}
 use Rattle.monitor.proofs.Secret.{secret-of}
 use Rattle.entry.specs.Promises.{Tree}
+use Rattle.entry.specs.Records.{StandsIn}
 
 pub secret-calls : (o : Level) → SecretCalls length Tree o
 secret-calls o = secret-of length Tree (λ w k m t u p q h g. one-tree (h .holds) (g .holds)) o
+
+pub secret-histories : (o : Level) → SecretHistories length Tree StandsIn o
+secret-histories o = secret-histories-of length Tree StandsIn (λ w t u h k. stands-one (omega arith) h k) o
+
+pub secret-job-histories : (o : Level) → SecretJobHistories length Tree StandsIn o
+secret-job-histories o =
+    secret-job-histories-of length Tree StandsIn (λ w k m t u p q h g. one-tree (h .holds) (g .holds)) (λ w t u h k. stands-one (omega arith) h k)
+    (λ w k t u p h s. held-one (omega arith) (h .holds) s) o
