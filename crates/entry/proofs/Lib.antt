@@ -4,6 +4,5 @@ mod Runs
 mod Following
 mod Owning
 mod Surveying
-mod Reshare
-mod Steps
+mod Callees
 mod Numbers

@@ -1,26 +1,44 @@
 -- The run with records of its own: they are two rows, the part that is lent and the rest. Assumes nothing.
 use mathlib.Core.Path.{_≡_, refl, sym, _∙_, ap, subst}
-use mathlib.Core.Bool.{Bool, true, false}
+use mathlib.Core.Bool.{Bool, true, false, not}
 use mathlib.Core.List.{List, _++_}
 use Prim.Native.Nat.{ℕ, _+_, _*_, _^_, _<_, _≤_, min}
 use native.Mathlib.Omega.{arith}
+use lib.Dec.{T}
+use lib.IntN.{ℤ}
 use lib.ListN.{length, replicate, take, drop, length-replicate, length-append, take-append-drop}
 use lib.Seq.{length-take-le}
 use Rattle.table.specs.declared.lent.Node.{Node}
 use Rattle.table.specs.Lent.{blank, loaded}
 use Rattle.table.proofs.Copies.{length-stored}
 use Rattle.monitor.specs.declared.entry.Outcome.{Outcome}
-use Rattle.monitor.specs.Promises.{Lent, lent}
-use Rattle.entry.specs.Promises.{ownPlaces, copiedOf, ownRecords, Kept, Owned}
+use Rattle.monitor.specs.Follow.{Follows}
+use Rattle.monitor.specs.Promises.{Lent, lent, Promises}
+use Rattle.entry.specs.Promises.{Tree, ownPlaces, copiedOf, ownRecords, Kept, Owned}
+use Rattle.entry.specs.Records.{StandsIn}
 
--- what `store` asks for
-pub copied-few : (follows : Bool) → copiedOf follows ≤ ownPlaces
+-- what `store` and `load` ask for
+copied-few : (follows : Bool) → copiedOf follows ≤ ownPlaces
 copied-few true = omega arith
 copied-few false = omega arith
 
 pub first-asks : (follows : Bool) (k : ℕ) → k ≡ copiedOf follows → (w : List ℕ) → 8 * ownPlaces ≤ length w
     → (k ≤ length (replicate ownPlaces blank)) × (8 * k ≤ length w)
 first-asks follows k e w long = let a = copied-few follows in (omega (arith, a, e, length-replicate ownPlaces blank), omega (arith, a, e, long))
+
+pub load-asks : (ns : List Node) (ws : List ℕ) → length ns ≡ ownPlaces → 8 * ownPlaces ≤ length ws → (ownPlaces ≤ length ns) × (8 * ownPlaces ≤ length ws)
+load-asks ns ws e long = (omega (arith, e), long)
+
+-- which of the two calls was made
+pub as-follow : (follows : Bool) → T follows → {b : List ℕ} {budget : ℕ} {ns ts : List Node} {l : List ℕ} {v v′ : List ℤ} {k k′ : List ℕ} {r : Outcome}
+    → Follows length Tree StandsIn b budget (lent ns l v k) (lent ts l v′ k′) r → Kept follows b budget (lent ns l v k) (lent ts l v′ k′) r
+as-follow true h p = (p, refl)
+as-follow false h p = absurd h
+
+pub as-run : (follows : Bool) → T (not follows) → {b : List ℕ} {budget : ℕ} {x x′ : Lent (List Node)} {r : Outcome}
+    → Promises length Tree b budget x x′ r → Kept follows b budget x x′ r
+as-run true h p = absurd h
+as-run false h p = p
 
 module _ (places m : ℕ) (em : m ≡ min places ownPlaces) (follows : Bool) (x : Lent (List ℕ)) where
   few : m ≤ ownPlaces

@@ -6,3 +6,4 @@ pub mod Locals
 pub mod Slots
 pub mod Big
 pub mod Calls
+pub mod Branch

@@ -1,23 +1,21 @@
 -- `entry::follow_job` meets its contract: a walk of its MIR, by hand. The lent records are lent on as `&` for a lifetime of two calls, which ask them for
 -- a tree and copy them into a local array of words. The marks and the words are lent to the run for lifetimes of that call, and then the words to
 -- `store`, which fills the records; the other slices are passed on as they came. What the calls come to is `Following`'s. Assumes nothing.
-use Rattle.walks.proofs.Walk.{_*_, _<_, _^_, _≤_, ℕ, Fml, GName, Lft, Share, fat, flft, ftrue, SProp, emp, ent, fst∗, id⊢, via, Fun, givenOf, tables}
-use Rattle.walks.proofs.Walk.{tablesOf, Array, array-lawful, each, i32, u32, u8, unit, usize, yes, row, Is, shows, mem, uint-lawful, uint-makes}
-use Rattle.walks.proofs.Walk.{uint-tells, uint-vals, owns, RefT, plain, MutSlice, Room, ShrSlice, finally, mut-slice-tells, shr-slice-copy}
-use Rattle.walks.proofs.Walk.{shr-slice-tells, slice-vals, sliceVal, nothing, only, owned, peeks, calls-at, lasts, onEntry, Meets, tripleOf, Contract}
-use Rattle.walks.proofs.Walk.{Triple, cited, entered, Stays, Walks, ends-at, gave-slice, goes-gave-slice, goes-none, goes-none-slice, says, stay-none}
-use Rattle.walks.proofs.Walk.{stay-none-slice, walk-meets, walkOf, walked, Atoms, fullShare, URA, lit<, ℤ, length, replicate, List, [], _∷_, _∙_, _≡_}
-use Rattle.walks.proofs.Walk.{ap, refl, subst, sym, named, tyArray, tyBool, tyInt, tyUnit, w32, w64, w8, Val, WT, hasTy, vint, Memory, Routine, Heap}
-use Rattle.walks.proofs.Walk.{Tables, WpFn, WpFn-mono, fmOf, !, Given, Item, _$_, _∵_, _⊛_, by, done, drop, feqL, fjoin, frame, fsplit, given, join}
-use Rattle.walks.proofs.Walk.{keep, learn, move, pick, qed, raw, rewrite, some, split, suffices, use0, use1, use2, ‵, ⋆, agg, look-in, sub, whole}
-use Rattle.walks.proofs.Walk.{addr, alloc0, alloc1, and-then, enter, fld, free0, from, hop, init, land, lit, load, look, no-more, of-opd, params1}
-use Rattle.walks.proofs.Walk.{pass0, pass1, returns, stop, store}
+use Rattle.walks.proofs.Walk.{_<_, _^_, _≤_, ℕ, Fml, GName, Lft, Share, fat, flft, ftrue, SProp, emp, ent, fst∗, id⊢, via, Fun, givenOf, tables}
+use Rattle.walks.proofs.Walk.{tablesOf, Array, each, i32, u32, u8, unit, usize, yes, Is, mem, uint-lawful, uint-makes, uint-tells, uint-vals, owns}
+use Rattle.walks.proofs.Walk.{RefT, plain, MutSlice, Room, ShrSlice, finally, mut-slice-tells, shr-slice-copy, shr-slice-tells, slice-vals, sliceVal}
+use Rattle.walks.proofs.Walk.{nothing, only, owned, calls-at, lasts, onEntry, Meets, tripleOf, Contract, Triple, cited, entered, Stays, Walks}
+use Rattle.walks.proofs.Walk.{ends-at, gave-slice, goes-gave-slice, goes-none, goes-none-slice, says, stay-none, stay-none-slice, walk-meets, walkOf}
+use Rattle.walks.proofs.Walk.{walked, Atoms, fullShare, URA, lit<, ℤ, length, replicate, List, [], _∷_, _∙_, _≡_, ap, refl, named, tyArray, tyBool}
+use Rattle.walks.proofs.Walk.{tyInt, w32, w64, w8, Val, vint, Memory, Routine, Heap, Tables, WpFn, WpFn-mono, fmOf, !, Given, Item, _$_, _∵_, _⊛_, by}
+use Rattle.walks.proofs.Walk.{done, drop, feqL, fjoin, frame, fsplit, join, keep, move, pick, qed, raw, rewrite, some, split, suffices, use0, use1, ‵}
+use Rattle.walks.proofs.Walk.{⋆, agg, look-in, sub, whole, addr, alloc0, alloc1, and-then, enter, fld, from, hop, init, land, lit, load, look}
+use Rattle.walks.proofs.Walk.{no-more, of-opd, params1, pass0, pass1, returns, stop, store}
 use Prim.Native.Nat.{min}
 use mathlib.Core.Bool.{Bool}
+use mathlib.Core.List.{_++_}
 use mir.Val.{vbool}
 use types.Kit.{group}
-use types.Part.{rep}
-use denote.Array.{arrayVal, array-repeat}
 use denote.Builtin.{u64, bool}
 use denote.Plain.{uint-copy, bool-lawful, bool-makes}
 use Rattle.rules.specs.Limits.{maxNodes}
@@ -30,12 +28,11 @@ use Rattle.entry.specs.Promises.{Tree, keptOf}
 use Rattle.entry.specs.Records.{StandsIn, Loads, Surveys}
 use Rattle.entry.proofs.Following.{unmarked, load-asks, run-asks, store-asks, followed}
 use Rattle.entry.proofs.Numbers.{span}
-use Rattle.entry.proofs.Reshare.{shares-on, comes-home}
-use Rattle.walks.proofs.Locals.{sized, var, sets, result, frees}
-use Rattle.walks.proofs.Slots.{spread, gather}
-use Rattle.walks.proofs.Calls.{under, lends-mut, lends-shr, ends-mut, ends-shr, answers}
+use Rattle.entry.proofs.Callees.{Kept, Store, Load, outcome-typed, unit-typed, to-kept, goes-kept, to-store, goes-store, to-load, goes-load}
+use Rattle.walks.proofs.Locals.{sized, var, sets, result, valued, frees-all}
+use Rattle.walks.proofs.Slots.{gather, repeats}
+use Rattle.walks.proofs.Calls.{under, lends-mut, lends-shr, ends-mut, ends-shr, shares-on, comes-home, answers}
 use Rattle.walks.proofs.Big.{big}
-use lib.Dec.{T as Holds}
 use denote.Enum.Laws as EL
 use Rattle.table.proofs.lent.Node as N
 use Rattle.monitor.proofs.entry.Outcome as O
@@ -85,14 +82,8 @@ stayed = (
 abbrev no-marks : List ℕ
 no-marks = replicate 512 0
 
-abbrev mark-vals : Val
-mark-vals = arrayVal (replicate 512 (vint w8 0))
-
 abbrev no-words : List ℕ
 no-words = replicate 4096 0
-
-abbrev word-vals : Val
-word-vals = arrayVal (replicate 4096 (vint w32 0))
 
 roomy : Room u32 4096
 roomy = (lit< tt, lit< tt)
@@ -119,17 +110,8 @@ module _ {M : Type 1} (𝓤 : URA M) (H : Heap 𝓤) (A : Atoms 𝓤) (mem : Mem
   abbrev Few : Contract 𝓤
   Few = tripleOf 𝓤 H A fe.signature (fe.spec 𝓤 H A mem run)
 
-  abbrev Load : Contract 𝓤
-  Load = tripleOf 𝓤 H A lo.signature (lo.spec 𝓤 H A mem run)
-
   abbrev Core : Contract 𝓤
   Core = tripleOf 𝓤 H A co.signature (co.spec 𝓤 H A mem run)
-
-  abbrev Kept : Contract 𝓤
-  Kept = tripleOf 𝓤 H A ke.signature (ke.spec 𝓤 H A mem run)
-
-  abbrev Store : Contract 𝓤
-  Store = tripleOf 𝓤 H A st-of.signature (st-of.spec 𝓤 H A mem run)
 
 module _ {M : Type 1} (𝓤 : URA M) (H : Heap 𝓤) (A : Atoms 𝓤) (W : Given 𝓤 H A) (mem : Memory → SProp 𝓤) (run : Routine → Fun 𝓤)
     (κ₀ κ₁ κ₂ κ₃ κ₄ : Lft) (q₀ q₁ q₂ q₃ q₄ : Share) (section : RefT (List ℕ)) (budget : ℕ) (budget-fits : budget < 2 ^ 64)
@@ -183,12 +165,6 @@ module _ {M : Type 1} (𝓤 : URA M) (H : Heap 𝓤) (A : Atoms 𝓤) (W : Given
   abbrev Post : Val → SProp 𝓤
   Post = walkOf 𝓤 H A run′.ended stayed (run′.clauses 𝓤 H A mem run) .post bound
 
-  typedO : (r : Outcome) (v : Val) → Is O.the-row r (v ∷ []) → Holds (hasTy O′.mir v) × WT v
-  typedO r v is = EL.lawful O.the-type O′.the-laws 𝓤 H A W tt .typed r (v ∷ []) is .0
-
-  typedU : {u : Unit {0}} (v : Val) → Is unit u (v ∷ []) → Holds (hasTy tyUnit v) × WT v
-  typedU v is = subst (λ (z : Val). Holds (hasTy tyUnit z) × WT z) (sym (ap only is)) (tt, tt)
-
   -- the records, lent on as `&` under δ
   abbrev Sh : ℕ → GName → Fml
   Sh ν δ = ShrSlice (named 0) (ν ∷ []) N.the-row .own (under b o ys δ) (st ∷ [])
@@ -205,27 +181,6 @@ module _ {M : Type 1} (𝓤 : URA M) (H : Heap 𝓤) (A : Atoms 𝓤) (W : Given
         ∷ ‵ (MutSlice (named 1) (ν′ ∷ []) u8 .own (under l 0 no-marks δ′) (sliceVal (l, 0) 512 ∷ [])) ∷ []) ∵
         says ! unmarked $ nothing ! $ move ! (2 ∷ 0 ∷ []) $ join ! $ move ! (1 ∷ 0 ∷ []) $ join ! $ frame ! $ nothing ! $ move ! (2 ∷ 0 ∷ []) $ fjoin ! $
         move ! (1 ∷ 0 ∷ []) $ fjoin ! $ done !
-
-    module _ (c : ℕ) where
-      abbrev to-load : Load 𝓤 H A mem run .Ghost
-      to-load = (
-        (
-          (ν ∷ [], (ν′ ∷ [], tt)),
-          (fullShare, (fullShare, tt)),
-          tt,
-          (under b o ys δ, (under l 0 no-words δ′, (c, tt))),
-          (st ∷ [], (sliceVal (l, 0) 4096 ∷ [], (vint w64 c ∷ [], tt))),
-        ),
-        tt,
-      )
-
-      goes-load : c < 2 ^ 64 → (c ≤ n) × (8 * c ≤ length no-words) → ent 𝓤 (⋆ 𝓤 H A (‵ (flft (ν ∷ []) fullShare) ∷ ‵ (flft (ν′ ∷ []) fullShare) ∷ ‵ (Sh ν δ)
-          ∷ ‵ (MutSlice (named 1) (ν′ ∷ []) u32 .own (under l 0 no-words δ′) (sliceVal (l, 0) 4096 ∷ [])) ∷ [])) (Load 𝓤 H A mem run .pre to-load)
-      goes-load fits asks =
-          qed W (‵ (flft (ν ∷ []) fullShare) ∷ ‵ (flft (ν′ ∷ []) fullShare) ∷ ‵ (Sh ν δ)
-          ∷ ‵ (MutSlice (named 1) (ν′ ∷ []) u32 .own (under l 0 no-words δ′) (sliceVal (l, 0) 4096 ∷ [])) ∷ []) ∵
-          says ! asks $ nothing ! $ move ! (2 ∷ 0 ∷ []) $ join ! $ move ! (1 ∷ 0 ∷ []) $ join ! $ frame ! $ nothing ! $
-          owned ! usize (Is usize) (uint-makes 𝓤 H A W w64) c _ (refl, fits) $ fjoin ! $ move ! (2 ∷ 0 ∷ []) $ fjoin ! $ move ! (1 ∷ 0 ∷ []) $ fjoin ! $ done !
 
   abbrev to-few : Few 𝓤 H A mem run .Ghost
   to-few = ((tt, tt, tt, (n, tt), (vint w64 n ∷ [], tt)), tt)
@@ -266,25 +221,6 @@ module _ {M : Type 1} (𝓤 : URA M) (H : Heap 𝓤) (A : Atoms 𝓤) (W : Given
         owned ! bool (Is bool) (bool-makes 𝓤 H A W) stands _ refl $ fjoin ! $ owned ! usize (Is usize) (uint-makes 𝓤 H A W w64) n _ (refl, fits) $ fjoin ! $
         owned ! u64 (Is u64) (uint-makes 𝓤 H A W w64) budget _ (refl, budget-fits) $ fjoin ! $ move ! (1 ∷ 0 ∷ []) $ fjoin ! $ done !
 
-  abbrev to-kept : Outcome → Val → Kept 𝓤 H A mem run .Ghost
-  to-kept r w = ((tt, tt, tt, (r, (n, tt)), (w ∷ [], (vint w64 n ∷ [], tt))), tt)
-
-  goes-kept : (r : Outcome) (w : Val) → Is O.the-row r (w ∷ []) → n < 2 ^ 64 → ent 𝓤 (emp 𝓤) (Kept 𝓤 H A mem run .pre (to-kept r w))
-  goes-kept r w isr fits =
-      qed W [] ∵ nothing ! $ owned ! usize (Is usize) (uint-makes 𝓤 H A W w64) n _ (refl, fits) $ fjoin ! $
-      owned ! O.the-row (Is O.the-row) (EL.makes O.the-type O′.the-plain 𝓤 H A) r _ isr $ fjoin ! $ nothing ! $ join ! $ frame ! $ done !
-
-  module _ (ν l : ℕ) (δ : GName) (ws : List ℕ) (k : ℕ) where
-    abbrev to-store : Store 𝓤 H A mem run .Ghost
-    to-store = (((κ₁, (ν ∷ [], tt)), (q₁, (fullShare, tt)), tt, (t, (under l 0 ws δ, (k, tt))), (st ∷ [], (sliceVal (l, 0) 4096 ∷ [], (vint w64 k ∷ [], tt)))), tt)
-
-    goes-store : k < 2 ^ 64 → (k ≤ n) × (8 * k ≤ length ws) → ent 𝓤 (⋆ 𝓤 H A (‵ (flft κ₁ q₁) ∷ ‵ (flft (ν ∷ []) fullShare) ∷ ‵ Tb
-        ∷ ‵ (ShrSlice (named 1) (ν ∷ []) u32 .own (under l 0 ws δ) (sliceVal (l, 0) 4096 ∷ [])) ∷ [])) (Store 𝓤 H A mem run .pre to-store)
-    goes-store fits asks =
-        qed W (‵ (flft κ₁ q₁) ∷ ‵ (flft (ν ∷ []) fullShare) ∷ ‵ Tb ∷ ‵ (ShrSlice (named 1) (ν ∷ []) u32 .own (under l 0 ws δ) (sliceVal (l, 0) 4096 ∷ [])) ∷ []) ∵
-        says ! asks $ nothing ! $ move ! (2 ∷ 0 ∷ []) $ join ! $ move ! (1 ∷ 0 ∷ []) $ join ! $ frame ! $ nothing ! $
-        owned ! usize (Is usize) (uint-makes 𝓤 H A W w64) k _ (refl, fits) $ fjoin ! $ move ! (2 ∷ 0 ∷ []) $ fjoin ! $ move ! (1 ∷ 0 ∷ []) $ fjoin ! $ done !
-
   -- the exit, with what was passed on at its last values
   module _ (ts : List Node) (vs : List ℤ) (bs : List ℕ) where
     abbrev Left : List (Item 𝓤)
@@ -316,118 +252,131 @@ module _ {M : Type 1} (𝓤 : URA M) (H : Heap 𝓤) (A : Atoms 𝓤) (W : Given
         ∷ ‵ (owns (ShrSlice (named 0) κ₀ u8 ∷ u64 ∷ MutSlice (named 1) κ₁ N.the-row ∷ ShrSlice (named 2) κ₂ u8 ∷ MutSlice (named 3) κ₃ i32
         ∷ MutSlice (named 4) κ₄ u8 ∷ []) a vals) ∷ []) ∵
         split ! $ move ! (1 ∷ []) $ split ! $ move ! (1 ∷ []) $ split ! $ move ! (1 ∷ []) $ split ! $ move ! (1 ∷ []) $ split ! $ move ! (6 ∷ []) $
-        fsplit ! $ move ! (1 ∷ []) $ fsplit ! $ move ! (1 ∷ []) $ fsplit ! $ move ! (1 ∷ []) $ fsplit ! $ move ! (1 ∷ []) $ fsplit ! $ move ! (1 ∷ [])
-        $ fsplit ! $ keep ! (12 ∷ 11 ∷ 10 ∷ 9 ∷ 7 ∷ 6 ∷ 4 ∷ 3 ∷ 2 ∷ 0 ∷ []) $ enter ! (𝓣 .C) (𝓣 .Λ) code.function (sj ∷ vint w64 budget ∷ st ∷ sl ∷ sv
-        ∷ sb ∷ []) _ $ alloc1 ! (λ l₀. alloc1 ! (λ l₁. alloc1 ! (λ l₂. alloc1 ! (λ l₃. alloc1 ! (λ l₄. alloc1 ! (λ l₅. alloc1 ! (λ l₆. alloc1 ! (λ l₇.
-        alloc1 ! (λ l₈. alloc1 ! (λ l₉. alloc1 ! (λ l₁₀. alloc1 ! (λ l₁₁. alloc1 ! (λ l₁₂. alloc1 ! (λ l₁₃. alloc1 ! (λ l₁₄. alloc1 ! (λ l₁₅. alloc1 !
-        (λ l₁₆. alloc1 ! (λ l₁₇. alloc1 ! (λ l₁₈. alloc1 ! (λ l₁₉. alloc1 ! (λ l₂₀. alloc1 ! (λ l₂₁. alloc1 ! (λ l₂₂. alloc1 ! (λ l₂₃. alloc1 ! (λ
-        l₂₄. alloc1 ! (λ l₂₅. alloc1 ! (λ l₂₆. alloc1 ! (λ l₂₇. alloc1 ! (λ l₂₈. alloc1 ! (λ l₂₉. alloc1 ! (λ l₃₀. alloc1 ! (λ l₃₁. alloc1 ! (λ l₃₂.
-        alloc1 ! (λ l₃₃. alloc1 ! (λ l₃₄. alloc0 ! $ params1 ! $ pass1 ! (init ! 66 refl (sized (rj .0))) $ pass1 ! (init ! 64 refl (
-          tt,
-          record {
-            fits
-                = budget-fits;
-          },
-        )) $ pass1 ! (init ! 62 refl (sized (rt .0))) $ pass1 ! (init ! 60 refl (sized (rl .0))) $ pass1 ! (init ! 58 refl (sized (rv
-        .0))) $ pass1 ! (init ! 56 refl (sized (rb .0))) $ pass0 ! $ move ! (70 ∷ 71 ∷ 72 ∷ 73 ∷ 74 ∷ 75 ∷ 76 ∷ 77 ∷ 78 ∷ 79 ∷ []) $ sets ! (of-opd !
-        (load ! (from ! (fld ! refl (stop !))) (look-in ! 72 (sub ! 1 refl (whole !))))) 64 refl (tt, record { fits = rt .0 }) $
+        fsplit ! $ move ! (1 ∷ []) $ fsplit ! $ move ! (1 ∷ []) $ fsplit ! $ move ! (1 ∷ []) $ fsplit ! $ move ! (1 ∷ []) $ fsplit ! $
+        move ! (1 ∷ []) $ fsplit ! $ keep ! (12 ∷ 11 ∷ 10 ∷ 9 ∷ 7 ∷ 6 ∷ 4 ∷ 3 ∷ 2 ∷ 0 ∷ []) $
+        enter ! (𝓣 .C) (𝓣 .Λ) code.function (sj ∷ vint w64 budget ∷ st ∷ sl ∷ sv ∷ sb ∷ []) _ $ alloc1 ! (λ l₀. alloc1 ! (λ l₁. alloc1 ! (λ l₂.
+        alloc1 ! (λ l₃. alloc1 ! (λ l₄. alloc1 ! (λ l₅. alloc1 ! (λ l₆. alloc1 ! (λ l₇. alloc1 ! (λ l₈. alloc1 ! (λ l₉. alloc1 ! (λ l₁₀.
+        alloc1 ! (λ l₁₁. alloc1 ! (λ l₁₂. alloc1 ! (λ l₁₃. alloc1 ! (λ l₁₄. alloc1 ! (λ l₁₅. alloc1 ! (λ l₁₆. alloc1 ! (λ l₁₇. alloc1 ! (λ l₁₈.
+        alloc1 ! (λ l₁₉. alloc1 ! (λ l₂₀. alloc1 ! (λ l₂₁. alloc1 ! (λ l₂₂. alloc1 ! (λ l₂₃. alloc1 ! (λ l₂₄. alloc1 ! (λ l₂₅. alloc1 ! (λ l₂₆.
+        alloc1 ! (λ l₂₇. alloc1 ! (λ l₂₈. alloc1 ! (λ l₂₉. alloc1 ! (λ l₃₀. alloc1 ! (λ l₃₁. alloc1 ! (λ l₃₂. alloc1 ! (λ l₃₃. alloc1 ! (λ l₃₄.
+        alloc0 ! $ params1 ! $ pass1 ! (init ! 66 refl (sized (rj .0))) $ pass1 ! (init ! 64 refl (tt, record { fits = budget-fits })) $
+        pass1 ! (init ! 62 refl (sized (rt .0))) $ pass1 ! (init ! 60 refl (sized (rl .0))) $ pass1 ! (init ! 58 refl (sized (rv .0))) $
+        pass1 ! (init ! 56 refl (sized (rb .0))) $ pass0 ! $ move ! (70 ∷ 71 ∷ 72 ∷ 73 ∷ 74 ∷ 75 ∷ 76 ∷ 77 ∷ 78 ∷ 79 ∷ []) $
+        sets ! (of-opd ! (load ! (from ! (fld ! refl (stop !))) (look-in ! 72 (sub ! 1 refl (whole !))))) 64 refl (tt, record { fits = rt .0 }) $
         -- the marks
-        owned ! u8 (Is u8) (uint-makes 𝓤 H A W w8) 0 (vint w8 0 ∷ []) (refl, lit< tt) $ use1 W (‵ (Array u8 512 .own no-marks (mark-vals ∷ [])))
-        (array-repeat 𝓤 H A W u8 (uint-copy 𝓤 H A W w8) 512 0 (vint w8 0)) $ peeks ! (Array u8 512) (Is (Array u8 512)) (shows 𝓤 H A (Array u8 512))
-        no-marks (mark-vals ∷ []) (λ isM. sets ! (rep ! 512 (lit ! tt)) 63 refl (array-lawful 𝓤 H A W u8 (uint-lawful 𝓤 H A W w8) 512 .typed no-marks
-        (mark-vals ∷ []) isM .0) $ move ! (63 ∷ 0 ∷ []) $ use2 W (given (length no-marks ≡ 512) (‵ (row u8 fullShare no-marks l₈ 0))) (spread 𝓤 H A W
-        u8 tt 512 no-marks l₈ mark-vals) $ learn ! (λ lenM. sets ! (addr ! (from ! (fld ! refl (hop ! (look-in ! 72 (sub ! 0 refl (whole !))) (stop
-        !))))) 51 refl (tt, tt) $ sets ! (agg ! (and-then ! (var ! 51 refl) (and-then ! (load ! (from ! (fld ! refl (stop !))) (look-in ! 72 (sub ! 1
-        refl (whole !)))) (no-more !)))) 49 refl (sized (rt .0)) $ sets ! (addr ! (from ! (stop !))) 47 refl (tt, tt) $ sets ! (agg ! (and-then ! (var
-        ! 47 refl) (and-then ! (lit ! tt) (no-more !)))) 45 refl (sized (lit< tt)) $
+        owned ! u8 (Is u8) (uint-makes 𝓤 H A W w8) 0 (vint w8 0 ∷ []) (refl, lit< tt) $
+        repeats ! u8 tt (uint-copy 𝓤 H A W w8) (uint-lawful 𝓤 H A W w8) 512 0 (vint w8 0) (lit ! tt) refl 62 refl (λ lenM.
+        sets ! (addr ! (from ! (fld ! refl (hop ! (look-in ! 72 (sub ! 0 refl (whole !))) (stop !))))) 51 refl (tt, tt) $
+        sets ! (agg ! (and-then ! (var ! 51 refl) (and-then ! (load ! (from ! (fld ! refl (stop !))) (look-in ! 72 (sub ! 1 refl (whole !)))) (no-more
+        !)))) 49 refl (sized (rt .0)) $ sets ! (addr ! (from ! (stop !))) 47 refl (tt, tt) $
+        sets ! (agg ! (and-then ! (var ! 47 refl) (and-then ! (lit ! tt) (no-more !)))) 45 refl (sized (lit< tt)) $
         -- the records are lent for a lifetime of two calls, the marks for one of the first
-        move ! (7 ∷ 2 ∷ []) $ shares-on ! tt N.the-row ys b o (named 1) (named 0) rt (λ ν₀ δ₀. use1 W (‵ (Sh ν₀ δ₀) ⊛ ‵ (Sh ν₀ δ₀)) (shr-slice-copy 𝓤
-        H A W (named 0) (ν₀ ∷ []) N.the-row .twice (under b o ys δ₀) (st ∷ [])) $ split ! $ move ! (4 ∷ []) $ lends-mut ! tt u8 (named 1) no-marks l₈
-        0 512 lenM (lit< tt, lit< tt) (λ ν₁ δ₁. let gh = to-held ν₀ ν₁ δ₀ l₈ δ₁ in move ! (6 ∷ 2 ∷ 3 ∷ 0 ∷ []) $ group ! 4 $ use1 W (raw (Held′ 𝓤 H A
-        mem run .pre gh)) (goes-held ν₀ ν₁ δ₀ l₈ δ₁) $ calls-at ! (fmOf 𝓤 H (W .laws) 𝓣) (Held′ 𝓤 H A mem run) known-held gh (and-then ! (var ! 50
-        refl) (and-then ! (var ! 46 refl) (no-more !))) (λ v₉. answers ! tt bool v₉ (‵ (flft (ν₀ ∷ []) fullShare) ⊛ ‵ (flft (ν₁ ∷ []) fullShare) ⊛ ‵
-        ftrue) (λ (zs : Unit {0} × (List ℕ × Unit {0})). lasts he.ended (gh .0 .0) (gh .0 .3) zs) (λ r zs. Surveys ys (zs .1 .0) r) (id⊢ 𝓤 _) (λ
-        stands zs iss known. let marks = zs .1 .0 in result ! 63 refl (bool-lawful 𝓤 H A W .typed stands _ iss .0) $ rewrite ! 63 (λ (z : Val). ‵ (fat
-        fullShare tyBool l₉ 0 z)) (ap only iss) refl $ split ! $ move ! (1 ∷ []) $ split ! $ move ! (3 ∷ []) $ fsplit ! $ move ! (1 ∷ []) $ fsplit ! $
-        fsplit ! $ move ! (1 ∷ []) $ feqL ! (λ kM. move ! (3 ∷ 6 ∷ 0 ∷ []) $ ends-mut ! tt u8 marks l₈ 0 $
+        move ! (7 ∷ 2 ∷ []) $ shares-on ! tt N.the-row ys b o (named 1) (named 0) rt (λ ν₀ δ₀.
+        use1 W (‵ (Sh ν₀ δ₀) ⊛ ‵ (Sh ν₀ δ₀)) (shr-slice-copy 𝓤 H A W (named 0) (ν₀ ∷ []) N.the-row .twice (under b o ys δ₀) (st ∷ [])) $ split ! $
+        move ! (4 ∷ []) $ lends-mut ! tt u8 (named 1) no-marks l₈ 0 512 lenM (lit< tt, lit< tt) (λ ν₁ δ₁.
+        let gh = to-held ν₀ ν₁ δ₀ l₈ δ₁ in move ! (6 ∷ 2 ∷ 3 ∷ 0 ∷ []) $ group ! 4 $
+        use1 W (raw (Held′ 𝓤 H A mem run .pre gh)) (goes-held ν₀ ν₁ δ₀ l₈ δ₁) $
+        calls-at ! (fmOf 𝓤 H (W .laws) 𝓣) (Held′ 𝓤 H A mem run) known-held gh (and-then ! (var ! 50 refl) (and-then ! (var ! 46 refl) (no-more !))) (λ
+        v₉.
+        answers ! tt bool v₉ (‵ (flft (ν₀ ∷ []) fullShare) ⊛ ‵ (flft (ν₁ ∷ []) fullShare) ⊛ ‵ ftrue) (λ (zs : Unit {0} × (List ℕ × Unit {0})). lasts
+        he.ended (gh .0 .0) (gh .0 .3) zs) (λ r zs. Surveys ys (zs .1 .0) r) (id⊢ 𝓤 _) (λ stands zs iss known.
+        let marks = zs .1 .0 in result ! 63 refl (bool-lawful 𝓤 H A W .typed stands _ iss .0) $
+        rewrite ! 63 (λ (z : Val). ‵ (fat fullShare tyBool l₉ 0 z)) (ap only iss) refl $ split ! $ move ! (1 ∷ []) $ split ! $ move ! (3 ∷ []) $
+        fsplit ! $ move ! (1 ∷ []) $ fsplit ! $ fsplit ! $ move ! (1 ∷ []) $ feqL ! (λ kM. move ! (3 ∷ 6 ∷ 0 ∷ []) $
+        ends-mut ! tt u8 marks l₈ 0 $
         -- the words, into which the first records are copied
-        owned ! u32 (Is u32) (uint-makes 𝓤 H A W w32) 0 (vint w32 0 ∷ []) (refl, lit< tt) $ use1 W (‵ (Array u32 4096 .own no-words (word-vals ∷ [])))
-        (array-repeat 𝓤 H A W u32 (uint-copy 𝓤 H A W w32) 4096 0 (vint w32 0)) $ peeks ! (Array u32 4096) (Is (Array u32 4096)) (shows 𝓤 H A (Array
-        u32 4096)) no-words (word-vals ∷ []) (λ isW. sets ! (rep ! 4096 (lit ! tt)) 64 refl (array-lawful 𝓤 H A W u32 (uint-lawful 𝓤 H A W w32) 4096
-        .typed no-words (word-vals ∷ []) isW .0) $ move ! (64 ∷ 0 ∷ []) $ use2 W (given (length no-words ≡ 4096) (‵ (row u32 fullShare no-words l₁₀
-        0))) (spread 𝓤 H A W u32 tt 4096 no-words l₁₀ word-vals) $ learn ! (λ lenW. use0 W (raw (Few 𝓤 H A mem run .pre to-few)) (goes-few (rt .0)) $
-        calls-at ! (fmOf 𝓤 H (W .laws) 𝓣) (Few 𝓤 H A mem run) known-few to-few (and-then ! (var ! 69 refl) (no-more !)) (λ v₁₁. answers ! tt usize v₁₁
-        (‵ ftrue) (λ (zs : Unit {0} × Unit {0}). lasts fe.ended tt (n, tt) zs) (λ r zs. r ≡ min n maxNodes) (id⊢ 𝓤 _) (λ c zsf isc ec. drop ! $ drop !
-        $ result ! 62 refl (uint-lawful 𝓤 H A W w64 .typed c _ isc .0) $ rewrite ! 62 (λ (z : Val). ‵ (fat fullShare (tyInt w64) l₁₁ 0 z)) (ap only
-        (isc .0)) refl $ sets ! (addr ! (from ! (fld ! refl (hop ! (look-in ! 76 (sub ! 0 refl (whole !))) (stop !))))) 46 refl (tt, tt) $ sets ! (agg
-        ! (and-then ! (var ! 46 refl) (and-then ! (load ! (from ! (fld ! refl (stop !))) (look-in ! 76 (sub ! 1 refl (whole !)))) (no-more !)))) 44
-        refl (sized (rt .0)) $ sets ! (addr ! (from ! (stop !))) 42 refl (tt, tt) $ sets ! (agg ! (and-then ! (var ! 42 refl) (and-then ! (big !
-        (record { fits = lit< tt })) (no-more !)))) 40 refl (sized (lit< tt)) $ lends-mut ! tt u32 (named 1) no-words l₁₀ 0 4096 lenW roomy (λ ν₂ δ₂.
-        let gh = to-load ν₀ ν₂ δ₀ l₁₀ δ₂ c in move ! (7 ∷ 2 ∷ 8 ∷ 0 ∷ []) $ group ! 4 $ use1 W (raw (Load 𝓤 H A mem run .pre gh)) (goes-load ν₀ ν₂ δ₀
-        l₁₀ δ₂ c (isc .1) (load-asks ys c ec no-words lenW)) $ calls-at ! (fmOf 𝓤 H (W .laws) 𝓣) (Load 𝓤 H A mem run) known-load gh (and-then ! (var !
-        43 refl) (and-then ! (var ! 39 refl) (and-then ! (var ! 61 refl) (no-more !)))) (λ w₁₈. answers ! tt unit w₁₈ (‵ (flft (ν₀ ∷ []) fullShare) ⊛
-        ‵ (flft (ν₂ ∷ []) fullShare) ⊛ ‵ ftrue) (λ (zs : Unit {0} × (List ℕ × (Unit {0} × Unit {0}))). lasts lo.ended (gh .0 .0) (gh .0 .3) zs) (λ r
-        zs. Loads ys c no-words (zs .1 .0)) (id⊢ 𝓤 _) (λ u₁ zs isu loads. let ws = zs .1 .0 in result ! 48 refl (typedU w₁₈ isu) $ split ! $ move ! (1
-        ∷ []) $ split ! $ move ! (3 ∷ []) $ fsplit ! $ move ! (1 ∷ []) $ fsplit ! $ move ! (1 ∷ []) $ fsplit ! $ move ! (2 ∷ []) $ fsplit ! $ move !
-        (1 ∷ []) $ feqL ! (λ kW. move ! (4 ∷ 7 ∷ 0 ∷ []) $ ends-mut ! tt u32 ws l₁₀ 0 $ move ! (5 ∷ 10 ∷ []) $ comes-home ! tt N.the-row ys b o (named
-        1) rt $
+        owned ! u32 (Is u32) (uint-makes 𝓤 H A W w32) 0 (vint w32 0 ∷ []) (refl, lit< tt) $
+        repeats ! u32 tt (uint-copy 𝓤 H A W w32) (uint-lawful 𝓤 H A W w32) 4096 0 (vint w32 0) (lit ! tt) refl 63 refl (λ lenW.
+        use0 W (raw (Few 𝓤 H A mem run .pre to-few)) (goes-few (rt .0)) $
+        calls-at ! (fmOf 𝓤 H (W .laws) 𝓣) (Few 𝓤 H A mem run) known-few to-few (and-then ! (var ! 69 refl) (no-more !)) (λ v₁₁.
+        answers ! tt usize v₁₁ (‵ ftrue) (λ (zs : Unit {0} × Unit {0}). lasts fe.ended tt (n, tt) zs) (λ r zs. r ≡ min n maxNodes) (id⊢ 𝓤 _) (λ c zsf
+        isc ec. drop ! $ drop ! $ result ! 62 refl (uint-lawful 𝓤 H A W w64 .typed c _ isc .0) $
+        rewrite ! 62 (λ (z : Val). ‵ (fat fullShare (tyInt w64) l₁₁ 0 z)) (ap only (isc .0)) refl $
+        sets ! (addr ! (from ! (fld ! refl (hop ! (look-in ! 76 (sub ! 0 refl (whole !))) (stop !))))) 46 refl (tt, tt) $
+        sets ! (agg ! (and-then ! (var ! 46 refl) (and-then ! (load ! (from ! (fld ! refl (stop !))) (look-in ! 76 (sub ! 1 refl (whole !)))) (no-more
+        !)))) 44 refl (sized (rt .0)) $ sets ! (addr ! (from ! (stop !))) 42 refl (tt, tt) $
+        sets ! (agg ! (and-then ! (var ! 42 refl) (and-then ! (big ! (record { fits = lit< tt })) (no-more !)))) 40 refl (sized (lit< tt)) $
+        lends-mut ! tt u32 (named 1) no-words l₁₀ 0 4096 lenW roomy (λ ν₂ δ₂.
+        let gh = to-load 𝓤 H A W mem run (ν₀ ∷ []) (ν₂ ∷ []) fullShare fullShare (under b o ys δ₀) (under l₁₀ 0 no-words δ₂) st (sliceVal (l₁₀, 0)
+        4096) c in move ! (7 ∷ 2 ∷ 8 ∷ 0 ∷ []) $ group ! 4 $
+        use1 W (raw (Load 𝓤 H A mem run .pre gh)) (goes-load 𝓤 H A W mem run (ν₀ ∷ []) (ν₂ ∷ []) fullShare fullShare (under b o ys δ₀) (under l₁₀ 0
+        no-words δ₂) st (sliceVal (l₁₀, 0) 4096) c (isc .1) (load-asks ys c ec no-words lenW)) $
+        calls-at ! (fmOf 𝓤 H (W .laws) 𝓣) (Load 𝓤 H A mem run) known-load gh (and-then ! (var ! 43 refl) (and-then ! (var ! 39 refl) (and-then ! (var
+        ! 61 refl) (no-more !)))) (λ w₁₈.
+        answers ! tt unit w₁₈ (‵ (flft (ν₀ ∷ []) fullShare) ⊛ ‵ (flft (ν₂ ∷ []) fullShare) ⊛ ‵ ftrue) (λ (zs : Unit {0} × (List ℕ × (Unit {0} × Unit
+        {0}))). lasts lo.ended (gh .0 .0) (gh .0 .3) zs) (λ r zs. Loads ys c no-words (zs .1 .0)) (id⊢ 𝓤 _) (λ u₁ zs isu loads.
+        let ws = zs .1 .0 in result ! 48 refl (unit-typed 𝓤 H A W u₁ w₁₈ isu) $ split ! $ move ! (1 ∷ []) $ split ! $ move ! (3 ∷ []) $ fsplit ! $
+        move ! (1 ∷ []) $ fsplit ! $ move ! (1 ∷ []) $ fsplit ! $ move ! (2 ∷ []) $ fsplit ! $ move ! (1 ∷ []) $ feqL ! (λ kW.
+        move ! (4 ∷ 7 ∷ 0 ∷ []) $ ends-mut ! tt u32 ws l₁₀ 0 $ move ! (5 ∷ 10 ∷ []) $
+        comes-home ! tt N.the-row ys b o (named 1) rt $
         -- the run
-        sets ! (addr ! (from ! (stop !))) 41 refl (tt, tt) $ sets ! (agg ! (and-then ! (var ! 41 refl) (and-then ! (lit ! tt) (no-more !)))) 39 refl
-        (sized (lit< tt)) $ sets ! (addr ! (from ! (stop !))) 37 refl (tt, tt) $ sets ! (agg ! (and-then ! (var ! 37 refl) (and-then ! (big ! (record
-        { fits = lit< tt })) (no-more !)))) 35 refl (sized (lit< tt)) $ sets ! (addr ! (from ! (fld ! refl (hop ! (look-in ! 75 (sub ! 0 refl (whole
-        !))) (stop !))))) 33 refl (tt, tt) $ sets ! (agg ! (and-then ! (var ! 33 refl) (and-then ! (load ! (from ! (fld ! refl (stop !))) (look-in !
-        75 (sub ! 1 refl (whole !)))) (no-more !)))) 31 refl (sized (rv .0)) $ sets ! (addr ! (from ! (fld ! refl (hop ! (look-in ! 73 (sub ! 0 refl
-        (whole !))) (stop !))))) 29 refl (tt, tt) $ sets ! (agg ! (and-then ! (var ! 29 refl) (and-then ! (load ! (from ! (fld ! refl (stop !)))
-        (look-in ! 73 (sub ! 1 refl (whole !)))) (no-more !)))) 27 refl (sized (rb .0)) $ let long = kM ∙ lenM in let len = kW ∙ lenW in move ! (7 ∷
-        []) $ lends-shr ! tt u8 (named 1) marks l₈ 0 512 long (lit< tt, lit< tt) (λ ν₃ δ₃. move ! (5 ∷ []) $ lends-mut ! tt u32 (named 2) ws l₁₀ 0
-        4096 len roomy (λ ν₄ δ₄. move ! (19 ∷ []) $ use1 W (‵ J ⊛ ‵ J) (shr-slice-copy 𝓤 H A W (named 0) κ₀ u8 .twice section (sj ∷ [])) $ split ! $
-        move ! (21 ∷ []) $ use1 W (‵ Le ⊛ ‵ Le) (shr-slice-copy 𝓤 H A W (named 2) κ₂ u8 .twice le (sl ∷ [])) $ split ! $ let gh = to-run ν₃ ν₄ l₈ l₁₀
-        δ₃ δ₄ stands marks ws in move ! (19 ∷ 9 ∷ 6 ∷ 20 ∷ 21 ∷ 22 ∷ 3 ∷ 7 ∷ 4 ∷ 1 ∷ 23 ∷ 24 ∷ []) $ group ! 12 $ use1 W (raw (Core 𝓤 H A mem run .pre
-        gh)) (goes-run ν₃ ν₄ l₈ l₁₀ δ₃ δ₄ stands marks ws (rt .0) (run-asks ys c ec no-words ws lenW loads known long)) $ calls-at ! (fmOf 𝓤 H (W
-        .laws) 𝓣) (Core 𝓤 H A mem run) known-core gh (and-then ! (var ! 78 refl) (and-then ! (var ! 76 refl) (and-then ! (var ! 66 refl) (and-then !
-        (var ! 63 refl) (and-then ! (var ! 34 refl) (and-then ! (var ! 30 refl) (and-then ! (var ! 72 refl) (and-then ! (var ! 26 refl) (and-then !
-        (var ! 22 refl) (no-more !)))))))))) (λ v₁₂. answers ! tt O.the-row v₁₂ (‵ (flft κ₀ q₀) ⊛ ‵ (flft (ν₃ ∷ []) fullShare) ⊛ ‵ (flft (ν₄ ∷ [])
-        fullShare) ⊛ ‵ (flft κ₂ q₂) ⊛ ‵ (flft κ₃ q₃) ⊛ ‵ (flft κ₄ q₄) ⊛ ‵ ftrue) (λ (zs : Lasts). lasts co.ended (gh .0 .0) (gh .0 .3) zs) (λ r zs.
-        FollowsOver (section .now) budget n stands (lent ws (le .now) (va .now) (li .now)) (lent (last-words zs) (le .now) (last-values zs)
-        (last-lines zs)) r) (id⊢ 𝓤 _) (λ r zs isr said. result ! 59 refl (typedO r v₁₂ isr) $ split ! $ move ! (1 ∷ []) $ split ! $ move ! (1 ∷ []) $
-        split ! $ move ! (1 ∷ []) $ split ! $ move ! (1 ∷ []) $ split ! $ move ! (1 ∷ []) $ split ! $ move ! (7 ∷ []) $ fsplit ! $ move ! (1 ∷ []) $
-        fsplit ! $ move ! (1 ∷ []) $ fsplit ! $ move ! (1 ∷ []) $ fsplit ! $ move ! (1 ∷ []) $ fsplit ! $ move ! (1 ∷ []) $ fsplit ! $ move ! (1 ∷ [])
-        $ fsplit ! $ move ! (1 ∷ []) $ fsplit ! $ move ! (1 ∷ []) $ fsplit ! $ move ! (4 ∷ []) $ fsplit ! $ move ! (1 ∷ []) $ feqL ! (λ kW′. move ! (3
-        ∷ []) $ fsplit ! $ move ! (1 ∷ []) $ feqL ! (λ kV′. move ! (2 ∷ []) $ fsplit ! $ move ! (1 ∷ []) $ feqL ! (λ kL′. move ! (15 ∷ 20 ∷ []) $
-        ends-shr ! tt u8 marks l₈ 0 $ move ! (15 ∷ 19 ∷ 3 ∷ []) $ ends-mut ! tt u32 (last-words zs) l₁₀ 0 $ use0 W (raw (Kept 𝓤 H A mem run .pre
-        (to-kept r v₁₂))) (goes-kept r v₁₂ isr (rt .0)) $ calls-at ! (fmOf 𝓤 H (W .laws) 𝓣) (Kept 𝓤 H A mem run) known-kept (to-kept r v₁₂) (and-then
-        ! (var ! 72 refl) (and-then ! (var ! 80 refl) (no-more !))) (λ v₁₃. answers ! tt usize v₁₃ (‵ ftrue) (λ (zs : Unit {0} × (Unit {0} × Unit
-        {0})). lasts ke.ended tt (r, (n, tt)) zs) (λ k zs. k ≡ keptOf r n) (id⊢ 𝓤 _) (λ k zsk isk ek. drop ! $ drop ! $ result ! 69 refl (uint-lawful
-        𝓤 H A W w64 .typed k _ isk .0) $ rewrite ! 69 (λ (z : Val). ‵ (fat fullShare (tyInt w64) l₁₃ 0 z)) (ap only (isk .0)) refl $
+        sets ! (addr ! (from ! (stop !))) 41 refl (tt, tt) $
+        sets ! (agg ! (and-then ! (var ! 41 refl) (and-then ! (lit ! tt) (no-more !)))) 39 refl (sized (lit< tt)) $
+        sets ! (addr ! (from ! (stop !))) 37 refl (tt, tt) $
+        sets ! (agg ! (and-then ! (var ! 37 refl) (and-then ! (big ! (record { fits = lit< tt })) (no-more !)))) 35 refl (sized (lit< tt)) $
+        sets ! (addr ! (from ! (fld ! refl (hop ! (look-in ! 75 (sub ! 0 refl (whole !))) (stop !))))) 33 refl (tt, tt) $
+        sets ! (agg ! (and-then ! (var ! 33 refl) (and-then ! (load ! (from ! (fld ! refl (stop !))) (look-in ! 75 (sub ! 1 refl (whole !)))) (no-more
+        !)))) 31 refl (sized (rv .0)) $
+        sets ! (addr ! (from ! (fld ! refl (hop ! (look-in ! 73 (sub ! 0 refl (whole !))) (stop !))))) 29 refl (tt, tt) $
+        sets ! (agg ! (and-then ! (var ! 29 refl) (and-then ! (load ! (from ! (fld ! refl (stop !))) (look-in ! 73 (sub ! 1 refl (whole !)))) (no-more
+        !)))) 27 refl (sized (rb .0)) $ let long = kM ∙ lenM in let len = kW ∙ lenW in move ! (7 ∷ []) $
+        lends-shr ! tt u8 (named 1) marks l₈ 0 512 long (lit< tt, lit< tt) (λ ν₃ δ₃. move ! (5 ∷ []) $
+        lends-mut ! tt u32 (named 2) ws l₁₀ 0 4096 len roomy (λ ν₄ δ₄. move ! (19 ∷ []) $
+        use1 W (‵ J ⊛ ‵ J) (shr-slice-copy 𝓤 H A W (named 0) κ₀ u8 .twice section (sj ∷ [])) $ split ! $ move ! (21 ∷ []) $
+        use1 W (‵ Le ⊛ ‵ Le) (shr-slice-copy 𝓤 H A W (named 2) κ₂ u8 .twice le (sl ∷ [])) $ split ! $
+        let gh = to-run ν₃ ν₄ l₈ l₁₀ δ₃ δ₄ stands marks ws in move ! (19 ∷ 9 ∷ 6 ∷ 20 ∷ 21 ∷ 22 ∷ 3 ∷ 7 ∷ 4 ∷ 1 ∷ 23 ∷ 24 ∷ []) $ group ! 12 $
+        use1 W (raw (Core 𝓤 H A mem run .pre gh)) (goes-run ν₃ ν₄ l₈ l₁₀ δ₃ δ₄ stands marks ws (rt .0) (run-asks ys c ec no-words ws lenW loads known
+        long)) $
+        calls-at ! (fmOf 𝓤 H (W .laws) 𝓣) (Core 𝓤 H A mem run) known-core gh (and-then ! (var ! 78 refl) (and-then ! (var ! 76 refl) (and-then ! (var
+        ! 66 refl) (and-then ! (var ! 63 refl) (and-then ! (var ! 34 refl) (and-then ! (var ! 30 refl) (and-then ! (var ! 72 refl) (and-then ! (var !
+        26 refl) (and-then ! (var ! 22 refl) (no-more !)))))))))) (λ v₁₂.
+        answers ! tt O.the-row v₁₂ (‵ (flft κ₀ q₀) ⊛ ‵ (flft (ν₃ ∷ []) fullShare) ⊛ ‵ (flft (ν₄ ∷ []) fullShare) ⊛ ‵ (flft κ₂ q₂) ⊛ ‵ (flft κ₃ q₃) ⊛ ‵
+        (flft κ₄ q₄) ⊛ ‵ ftrue) (λ (zs : Lasts). lasts co.ended (gh .0 .0) (gh .0 .3) zs) (λ r zs. FollowsOver (section .now) budget n stands (lent ws
+        (le .now) (va .now) (li .now)) (lent (last-words zs) (le .now) (last-values zs) (last-lines zs)) r) (id⊢ 𝓤 _) (λ r zs isr said.
+        result ! 59 refl (outcome-typed 𝓤 H A W r v₁₂ isr) $ split ! $ move ! (1 ∷ []) $ split ! $ move ! (1 ∷ []) $ split ! $ move ! (1 ∷ []) $
+        split ! $ move ! (1 ∷ []) $ split ! $ move ! (1 ∷ []) $ split ! $ move ! (7 ∷ []) $ fsplit ! $ move ! (1 ∷ []) $ fsplit ! $ move ! (1 ∷ []) $
+        fsplit ! $ move ! (1 ∷ []) $ fsplit ! $ move ! (1 ∷ []) $ fsplit ! $ move ! (1 ∷ []) $ fsplit ! $ move ! (1 ∷ []) $ fsplit ! $
+        move ! (1 ∷ []) $ fsplit ! $ move ! (1 ∷ []) $ fsplit ! $ move ! (4 ∷ []) $ fsplit ! $ move ! (1 ∷ []) $ feqL ! (λ kW′. move ! (3 ∷ []) $
+        fsplit ! $ move ! (1 ∷ []) $ feqL ! (λ kV′. move ! (2 ∷ []) $ fsplit ! $ move ! (1 ∷ []) $ feqL ! (λ kL′. move ! (15 ∷ 20 ∷ []) $
+        ends-shr ! tt u8 marks l₈ 0 $ move ! (15 ∷ 19 ∷ 3 ∷ []) $
+        ends-mut ! tt u32 (last-words zs) l₁₀ 0 $
+        use0 W (raw (Kept 𝓤 H A mem run .pre (to-kept 𝓤 H A W mem run r v₁₂ n))) (goes-kept 𝓤 H A W mem run r v₁₂ n isr (rt .0)) $
+        calls-at ! (fmOf 𝓤 H (W .laws) 𝓣) (Kept 𝓤 H A mem run) known-kept (to-kept 𝓤 H A W mem run r v₁₂ n) (and-then ! (var ! 72 refl) (and-then !
+        (var ! 80 refl) (no-more !))) (λ v₁₃.
+        answers ! tt usize v₁₃ (‵ ftrue) (λ (zs : Unit {0} × (Unit {0} × Unit {0})). lasts ke.ended tt (r, (n, tt)) zs) (λ k zs. k ≡ keptOf r n) (id⊢
+        𝓤 _) (λ k zsk isk ek. drop ! $ drop ! $ result ! 69 refl (uint-lawful 𝓤 H A W w64 .typed k _ isk .0) $
+        rewrite ! 69 (λ (z : Val). ‵ (fat fullShare (tyInt w64) l₁₃ 0 z)) (ap only (isk .0)) refl $
         -- the records are filled
-        sets ! (addr ! (from ! (fld ! refl (hop ! (look-in ! 87 (sub ! 0 refl (whole !))) (stop !))))) 33 refl (tt, tt) $ sets ! (agg ! (and-then !
-        (var ! 33 refl) (and-then ! (load ! (from ! (fld ! refl (stop !))) (look-in ! 87 (sub ! 1 refl (whole !)))) (no-more !)))) 31 refl (sized (rt
-        .0)) $ sets ! (addr ! (from ! (stop !))) 29 refl (tt, tt) $ sets ! (agg ! (and-then ! (var ! 29 refl) (and-then ! (big ! (record {
-          fits = lit<
-              tt;
-        })) (no-more !)))) 27 refl (sized (lit< tt)) $ let len′ = kW′ ∙ len in lends-shr ! tt u32 (named 1) (last-words zs) l₁₀ 0 4096 len′ roomy
-        (λ ν₅ δ₅. let gh = to-store ν₅ l₁₀ δ₅ (last-words zs) k in let asks = store-asks ys c ec no-words ws lenW loads known (section .now) budget
-        (le .now) (va .now) _ (li .now) _ (last-words zs) r k ek said len′ in move ! (21 ∷ 2 ∷ 20 ∷ 0 ∷ []) $ group ! 4 $ use1 W (raw (Store 𝓤 H A mem
-        run .pre gh)) (goes-store ν₅ l₁₀ δ₅ (last-words zs) k (isk .1) asks) $ calls-at ! (fmOf 𝓤 H (W .laws) 𝓣) (Store 𝓤 H A mem run) known-store gh
-        (and-then ! (var ! 30 refl) (and-then ! (var ! 26 refl) (and-then ! (var ! 68 refl) (no-more !)))) (λ w₁₈′. answers ! tt unit w₁₈′ (‵ (flft κ₁
-        q₁) ⊛ ‵ (flft (ν₅ ∷ []) fullShare) ⊛ ‵ ftrue) (λ (us : List Node × (Unit {0} × (Unit {0} × Unit {0}))). lasts st-of.ended (gh .0 .0) (gh .0
-        .3) us) (λ u us. us .0 ≡ stored (last-words zs) k ys) (id⊢ 𝓤 _) (λ u₂ us isu′ filled. land ! (from ! (stop !)) (store ! 59 refl (typedU w₁₈′
-        isu′)) $ split ! $ move ! (1 ∷ []) $ split ! $ move ! (3 ∷ []) $ fsplit ! $ move ! (1 ∷ []) $ fsplit ! $ move ! (1 ∷ []) $ fsplit ! $ move !
-        (3 ∷ []) $ fsplit ! $ move ! (1 ∷ []) $ feqL ! (λ kT. move ! (4 ∷ 7 ∷ []) $ ends-shr ! tt u32 (last-words zs) l₁₀ 0 $ move ! (7 ∷ []) $ use1 W
-        (some (λ (z : Val). ‵ (fat fullShare (tyArray (tyInt w8) 512) l₈ 0 z) ⊛ ‵ (Array u8 512 .own marks (z ∷ [])))) (gather 𝓤 H A W u8 tt 512 marks
-        l₈ long) $ pick ! (λ zM. split ! $ move ! (2 ∷ []) $ use1 W (some (λ (z : Val). ‵ (fat fullShare (tyArray (tyInt w32) 4096) l₁₀ 0 z) ⊛ ‵
-        (Array u32 4096 .own (last-words zs) (z ∷ [])))) (gather 𝓤 H A W u32 tt 4096 (last-words zs) l₁₀ len′) $ pick ! (λ zW. split ! $ keep ! (23 ∷
-        9 ∷ 22 ∷ 21 ∷ 19 ∷ 25 ∷ 4 ∷ 24 ∷ 11 ∷ 10 ∷ 33 ∷ 34 ∷ 35 ∷ 36 ∷ 37 ∷ 38 ∷ 39 ∷ 40 ∷ 41 ∷ 42 ∷ 43 ∷ 44 ∷ 45 ∷ 46 ∷ 47 ∷ 48 ∷ 49 ∷ 50 ∷ 51 ∷ 52 ∷
-        53 ∷ 54 ∷ 55 ∷ 56 ∷ 57 ∷ 58 ∷ 59 ∷ 60 ∷ 61 ∷ 62 ∷ 63 ∷ 64 ∷ 65 ∷ 66 ∷ 67 ∷ 68 ∷ 69 ∷ 70 ∷ 71 ∷ 72 ∷ 73 ∷ 74 ∷ 75 ∷ 76 ∷ 77 ∷ 78 ∷ 79 ∷ 80 ∷ 0
-        ∷ 81 ∷ 82 ∷ 83 ∷ 2 ∷ span 84 17) $ sets ! (of-opd ! (var ! 54 refl)) 78 refl (typedO r v₁₂ isr) $ returns ! (look ! 78 refl) $ frees ! 78 refl
-        refl $ frees ! 76 refl refl $ frees ! 74 refl refl $ frees ! 72 refl refl $ frees ! 70 refl refl $ frees ! 68 refl refl $ frees ! 66 refl refl
-        $ frees ! 64 refl refl $ frees ! 62 refl refl $ frees ! 60 refl refl $ frees ! 58 refl refl $ frees ! 56 refl refl $ frees ! 54 refl refl $
-        frees ! 52 refl refl $ frees ! 50 refl refl $ frees ! 48 refl refl $ frees ! 46 refl refl $ frees ! 44 refl refl $ frees ! 42 refl refl $
-        frees ! 40 refl refl $ frees ! 38 refl refl $ frees ! 36 refl refl $ frees ! 34 refl refl $ frees ! 32 refl refl $ frees ! 30 refl refl $
-        frees ! 28 refl refl $ frees ! 26 refl refl $ frees ! 24 refl refl $ frees ! 22 refl refl $ frees ! 20 refl refl $ frees ! 18 refl refl $
-        frees ! 16 refl refl $ frees ! 14 refl refl $ frees ! 12 refl refl $ frees ! 10 refl refl $ free0 ! $ by ! (exits (us .0) (last-values zs)
-        (last-lines zs) r v₁₂ (followed ys c ec no-words ws lenW loads known (section .now) budget (le .now) (va .now) _ (li .now) _ (last-words zs) r
-        k ek said (us .0) filled) kT kV′ kL′ isr))))))))))))))))))))))))))))))))))))))))))))))))))))))))))))))))))
+        sets ! (addr ! (from ! (fld ! refl (hop ! (look-in ! 87 (sub ! 0 refl (whole !))) (stop !))))) 33 refl (tt, tt) $
+        sets ! (agg ! (and-then ! (var ! 33 refl) (and-then ! (load ! (from ! (fld ! refl (stop !))) (look-in ! 87 (sub ! 1 refl (whole !)))) (no-more
+        !)))) 31 refl (sized (rt .0)) $ sets ! (addr ! (from ! (stop !))) 29 refl (tt, tt) $
+        sets ! (agg ! (and-then ! (var ! 29 refl) (and-then ! (big ! (record { fits = lit< tt })) (no-more !)))) 27 refl (sized (lit< tt)) $
+        let len′ = kW′ ∙ len in lends-shr ! tt u32 (named 1) (last-words zs) l₁₀ 0 4096 len′ roomy (λ ν₅ δ₅.
+        let gh = to-store 𝓤 H A W mem run κ₁ (ν₅ ∷ []) q₁ fullShare t (under l₁₀ 0 (last-words zs) δ₅) st (sliceVal (l₁₀, 0) 4096) k in
+        let asks = store-asks ys c ec no-words ws lenW loads known (section .now) budget (le .now) (va .now) _ (li .now) _ (last-words zs) r k ek said
+        len′ in move ! (21 ∷ 2 ∷ 20 ∷ 0 ∷ []) $ group ! 4 $
+        use1 W (raw (Store 𝓤 H A mem run .pre gh)) (goes-store 𝓤 H A W mem run κ₁ (ν₅ ∷ []) q₁ fullShare t (under l₁₀ 0 (last-words zs) δ₅) st
+        (sliceVal (l₁₀, 0) 4096) k (isk .1) asks) $
+        calls-at ! (fmOf 𝓤 H (W .laws) 𝓣) (Store 𝓤 H A mem run) known-store gh (and-then ! (var ! 30 refl) (and-then ! (var ! 26 refl) (and-then !
+        (var ! 68 refl) (no-more !)))) (λ w₁₈′.
+        answers ! tt unit w₁₈′ (‵ (flft κ₁ q₁) ⊛ ‵ (flft (ν₅ ∷ []) fullShare) ⊛ ‵ ftrue) (λ (us : List Node × (Unit {0} × (Unit {0} × Unit {0}))).
+        lasts st-of.ended (gh .0 .0) (gh .0 .3) us) (λ u us. us .0 ≡ stored (last-words zs) k ys) (id⊢ 𝓤 _) (λ u₂ us isu′ filled.
+        land ! (from ! (stop !)) (store ! 59 refl (unit-typed 𝓤 H A W u₂ w₁₈′ isu′)) $ split ! $ move ! (1 ∷ []) $ split ! $ move ! (3 ∷ []) $
+        fsplit ! $ move ! (1 ∷ []) $ fsplit ! $ move ! (1 ∷ []) $ fsplit ! $ move ! (3 ∷ []) $ fsplit ! $ move ! (1 ∷ []) $ feqL ! (λ kT.
+        move ! (4 ∷ 7 ∷ []) $ ends-shr ! tt u32 (last-words zs) l₁₀ 0 $ move ! (7 ∷ []) $
+        use1 W (some (λ (z : Val). ‵ (fat fullShare (tyArray (tyInt w8) 512) l₈ 0 z) ⊛ ‵ (Array u8 512 .own marks (z ∷ [])))) (gather 𝓤 H A W u8 tt
+        512 marks l₈ long) $ pick ! (λ zM. split ! $ move ! (2 ∷ []) $
+        use1 W (some (λ (z : Val). ‵ (fat fullShare (tyArray (tyInt w32) 4096) l₁₀ 0 z) ⊛ ‵ (Array u32 4096 .own (last-words zs) (z ∷ [])))) (gather 𝓤
+        H A W u32 tt 4096 (last-words zs) l₁₀ len′) $ pick ! (λ zW. split ! $
+        keep ! (span 33 48 ++ (0 ∷ 81 ∷ 82 ∷ 83 ∷ 2 ∷ span 84 17 ++ (23 ∷ 9 ∷ 22 ∷ 21 ∷ 19 ∷ 25 ∷ 4 ∷ 24 ∷ 11 ∷ 10 ∷ []))) $
+        sets ! (of-opd ! (var ! 44 refl)) 68 refl (outcome-typed 𝓤 H A W r v₁₂ isr) $
+        returns ! (look ! 68 refl) $
+        frees-all ! (valued _ _ _ ∷ valued _ _ _ ∷ valued _ _ _ ∷ valued _ _ _ ∷ valued _ _ _ ∷ valued _ _ _ ∷ valued _ _ _ ∷ valued _ _ _ ∷ valued _
+        _ _ ∷ valued _ _ _ ∷ valued _ _ _ ∷ valued _ _ _ ∷ valued _ _ _ ∷ valued _ _ _ ∷ valued _ _ _ ∷ valued _ _ _ ∷ valued _ _ _ ∷ valued _ _ _ ∷
+        valued _ _ _ ∷ valued _ _ _ ∷ valued _ _ _ ∷ valued _ _ _ ∷ valued _ _ _ ∷ valued _ _ _ ∷ valued _ _ _ ∷ valued _ _ _ ∷ valued _ _ _ ∷ valued
+        _ _ _ ∷ valued _ _ _ ∷ valued _ _ _ ∷ valued _ _ _ ∷ valued _ _ _ ∷ valued _ _ _ ∷ valued _ _ _ ∷ valued _ _ _ ∷ []) $
+        by ! (exits (us .0) (last-values zs) (last-lines zs) r v₁₂ (followed ys c ec no-words ws lenW loads known (section .now) budget (le .now) (va
+        .now) _ (li .now) _ (last-words zs) r k ek said (us .0) filled) kT kV′ kL′ isr))))))))))))))))))))))))))))))))))))))))))))))))))))))))))))))))
 
 module _ {M : Type 1} (𝓤 : URA M) (H : Heap 𝓤) (A : Atoms 𝓤) (W : Given 𝓤 H A) (mem : Memory → SProp 𝓤) (run : Routine → Fun 𝓤) (𝓣 : Tables 𝓤 H)
     (k₁ : Triple 𝓤 (𝓣 .C #held) (Held′ 𝓤 H A mem run)) (k₂ : Triple 𝓤 (𝓣 .C #few) (Few 𝓤 H A mem run)) (k₃ : Triple 𝓤 (𝓣 .C #load) (Load 𝓤 H A mem run))

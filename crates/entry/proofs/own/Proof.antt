@@ -1,41 +1,40 @@
 -- `entry::own` meets its contract: a walk of its MIR, by hand. A local array of records is lent to `store` for a lifetime of that call, with the words
 -- as `&`; then its first part to `run_job` or `follow_job`, whose two ways meet again; and then the whole array to `load`. Assumes nothing.
 use Rattle.walks.proofs.Walk.{_*_, _<_, _^_, _≤_, ℕ, Fml, GName, Lft, Share, fat, fdies, flft, froom, ftrue, SProp, emp, ent, id⊢, Fun, givenOf}
-use Rattle.walks.proofs.Walk.{tables, tablesOf, Array, array-lawful, each, i32, u32, u8, unit, usize, yes, row, Is, shows, pointee, uint-lawful}
-use Rattle.walks.proofs.Walk.{uint-makes, uint-tells, uint-vals, owns, RefT, plain, MutSlice, Room, ShrSlice, finally, mut-slice-tells}
-use Rattle.walks.proofs.Walk.{shr-slice-copy, shr-slice-tells, slice-vals, sliceTy, sliceVal, nothing, only, peeks, calls-at, calls-at-last}
-use Rattle.walks.proofs.Walk.{lasts, onEntry, Meets, tripleOf, Contract, Triple, cited, entered, Stays, Walks, ends-at, gave-slice, goes-gave-slice}
-use Rattle.walks.proofs.Walk.{goes-none, goes-none-slice, needs, says, stay-none, stay-none-slice, walk-meets, walkOf, walked, Atoms, fullShare, URA}
-use Rattle.walks.proofs.Walk.{lit<, ℤ, length, replicate, List, [], _∷_, _∙_, _≡_, ap, refl, subst, sym, Ty, erased, imm, mut, named, tyArray, tyBool}
-use Rattle.walks.proofs.Walk.{tyInt, tyRef, tyUnit, w32, w64, w8, Val, WT, hasTy, vint, arith, Memory, Routine, Heap, Tables, WpFn, WpFn-mono, fmOf}
-use Rattle.walks.proofs.Walk.{ !, Given, Item, _$_, _∵_, _⊛_, by, done, drop, feqL, fjoin, frame, fsplit, given, join, keep, learn, move, pick, qed}
-use Rattle.walks.proofs.Walk.{raw, rewrite, some, split, suffices, use0, use1, use2, ‵, ⋆, agg, look-in, sub, whole, addr, alloc0, alloc1, and-then}
-use Rattle.walks.proofs.Walk.{enter, fld, forget, from, hop, init, land-last, lit, load, look, no-more, of-opd, params1, pass0, pass1, returns, stop}
+use Rattle.walks.proofs.Walk.{tables, tablesOf, Array, each, i32, u32, u8, unit, usize, yes, row, Is, pointee, uint-lawful, uint-makes}
+use Rattle.walks.proofs.Walk.{uint-tells, uint-vals, owns, RefT, plain, MutSlice, Room, ShrSlice, finally, mut-slice-tells, shr-slice-copy}
+use Rattle.walks.proofs.Walk.{shr-slice-tells, slice-vals, sliceTy, sliceVal, nothing, only, calls-at, calls-at-last, lasts, onEntry, Meets}
+use Rattle.walks.proofs.Walk.{tripleOf, Contract, Triple, cited, entered, Stays, Walks, ends-at, gave-slice, goes-gave-slice, goes-none}
+use Rattle.walks.proofs.Walk.{goes-none-slice, needs, says, stay-none, stay-none-slice, walk-meets, walkOf, walked, Atoms, fullShare, URA, lit<, ℤ}
+use Rattle.walks.proofs.Walk.{getD, length, replicate, List, [], _∷_, map, _∙_, _≡_, ap, refl, sym, Ty, erased, imm, mut, named, tyArray, tyBool}
+use Rattle.walks.proofs.Walk.{tyInt, tyRef, tyUnit, w32, w64, w8, Val, vint, Memory, Routine, Heap, Tables, WpFn, WpFn-mono, fmOf, !, Given, Item}
+use Rattle.walks.proofs.Walk.{_$_, _∵_, _⊛_, by, done, drop, feqL, fjoin, frame, fsplit, join, keep, move, pick, qed, raw, rewrite, some, split}
+use Rattle.walks.proofs.Walk.{suffices, use0, use1, use2, ‵, ⋆, agg, look-in, sub, whole, addr, alloc0, alloc1, and-then, enter, fld, forget, from}
+use Rattle.walks.proofs.Walk.{hop, init, land-last, lit, load, look, no-more, of-opd, params1, pass0, pass1, returns, stop}
 use Prim.Native.Nat.{min}
-use mathlib.Core.Bool.{Bool, true, false, not}
+use mathlib.Core.Bool.{Bool}
 use mathlib.Core.List.{_++_}
 use lib.ListN.{take, length-replicate}
 use mir.Val.{vbool}
-use types.Kit.{group}
-use types.Part.{rep}
-use denote.Array.{arrayVal, array-repeat}
+use mir.Syntax.{Local, local}
+use types.Kit.{group, Go, Seq, runs, atRet}
 use denote.Builtin.{u64, bool}
 use denote.Index.{place}
 use denote.Plain.{bool-makes, bool-vals, bool-tells}
 use Rattle.table.specs.declared.lent.Node.{Node}
 use Rattle.table.specs.Lent.{blank, stored}
 use Rattle.monitor.specs.declared.entry.Outcome.{Outcome}
-use Rattle.monitor.specs.Promises.{Lent, lent, Promises}
+use Rattle.monitor.specs.Promises.{lent, Promises}
 use Rattle.monitor.specs.Follow.{Follows}
 use Rattle.entry.specs.Promises.{Tree, ownPlaces, copiedOf, ownRecords, Kept, Owned}
 use Rattle.entry.specs.Records.{StandsIn, Loads}
-use Rattle.entry.proofs.Owning.{first-asks, two-parts, lent-length, lent-fits, all-length, owned}
+use Rattle.entry.proofs.Owning.{first-asks, load-asks, as-follow, as-run, two-parts, lent-length, lent-fits, all-length, owned}
 use Rattle.entry.proofs.Numbers.{span}
-use Rattle.entry.proofs.Reshare.{shares-on, comes-home}
-use Rattle.entry.proofs.Steps.{meets-after, gives-up, cell, room, frees-all}
-use Rattle.walks.proofs.Locals.{sized, var, sets, result}
-use Rattle.walks.proofs.Slots.{spread, gather, apart, together}
-use Rattle.walks.proofs.Calls.{under, lends-mut, lends-shr, ends-mut, ends-shr, answers}
+use Rattle.entry.proofs.Callees.{Store, Load, outcome-typed, unit-typed, to-store, goes-store, to-load, goes-load}
+use Rattle.walks.proofs.Locals.{sized, var, sets, result, valued, vacant, frees-all}
+use Rattle.walks.proofs.Slots.{gather, apart, together, repeats}
+use Rattle.walks.proofs.Calls.{under, lends-mut, lends-shr, ends-mut, ends-shr, shares-on, comes-home, gives-up, answers}
+use Rattle.walks.proofs.Branch.{meets-after}
 use Rattle.walks.proofs.Walk.{owned as owns-plain}
 use lib.Dec.{T as Holds}
 use lib.ListN.{drop as beyond}
@@ -78,6 +77,7 @@ use Rattle.entry.proofs.own.Key.{name as #own}
 use Rattle.entry.proofs.own as own′
 use Rattle.entry.proofs.own.Statement as stated
 use Rattle.entry.proofs.own.Code as code
+use Rattle.entry.proofs.own.Code.Mir as body
 
 abbrev stayed : Stays (own′.ended .signature .params) (own′.ended .kept)
 stayed = (
@@ -104,6 +104,12 @@ roomy = (lit< tt, lit< tt)
 abbrev blanks : List Node
 blanks = replicate 513 blank
 
+-- the locals of a function that lie at so many places
+abbrev placed : List Local → List ℕ → List (Ty × ℕ)
+placed [] bs = []
+placed (local τ h ∷ ls) [] = []
+placed (local τ h ∷ ls) (b ∷ bs) = (τ, b) ∷ placed ls bs
+
 -- references that are lent on, and what they lead to
 abbrev lent-mut : Ty → Ty
 lent-mut t = tyRef erased mut t
@@ -124,17 +130,6 @@ RunLasts = Unit {0} × (Unit {0} × (List Node × (List ℕ × (List ℤ × (Lis
 abbrev FollowLasts : Type 0
 FollowLasts = Unit {0} × (Unit {0} × (List Node × (Unit {0} × (List ℤ × (List ℕ × Unit {0})))))
 
--- which of the two was called
-as-follow : (follows : Bool) → Holds follows → {b : List ℕ} {budget : ℕ} {ns ts : List Node} {l : List ℕ} {v v′ : List ℤ} {k k′ : List ℕ} {r : Outcome}
-    → Follows length Tree StandsIn b budget (lent ns l v k) (lent ts l v′ k′) r → Kept follows b budget (lent ns l v k) (lent ts l v′ k′) r
-as-follow true h p = (p, refl)
-as-follow false h p = absurd h
-
-as-run : (follows : Bool) → Holds (not follows) → {b : List ℕ} {budget : ℕ} {x x′ : Lent (List Node)} {r : Outcome}
-    → Promises length Tree b budget x x′ r → Kept follows b budget x x′ r
-as-run true h p = absurd h
-as-run false h p = p
-
 -- what the call has left in the records ns, the levels, the values and the lines
 record Ended (follows : Bool) (b : List ℕ) (budget : ℕ) (ns : List Node) (l : List ℕ) (v : List ℤ) (k : List ℕ) : Type 0 where
   r : Outcome
@@ -150,10 +145,6 @@ record Ended (follows : Bool) (b : List ℕ) (budget : ℕ) (ns : List Node) (l 
   kB : length bs ≡ length k
   kept : Kept follows b budget (lent ns l v k) (lent ts ls vs bs) r
 
--- what `load` asks for
-load-asks : (ns : List Node) (ws : List ℕ) → length ns ≡ 513 → 8 * ownPlaces ≤ length ws → (513 ≤ length ns) × (8 * 513 ≤ length ws)
-load-asks ns ws e long = (omega (arith, e), long)
-
 module _ {M : Type 1} (𝓤 : URA M) (H : Heap 𝓤) (A : Atoms 𝓤) (mem : Memory → SProp 𝓤) (run : Routine → Fun 𝓤) where
   -- the contracts that the proof cites
   abbrev Lending : Contract 𝓤
@@ -165,17 +156,11 @@ module _ {M : Type 1} (𝓤 : URA M) (H : Heap 𝓤) (A : Atoms 𝓤) (mem : Mem
   abbrev Copied : Contract 𝓤
   Copied = tripleOf 𝓤 H A cp.signature (cp.spec 𝓤 H A mem run)
 
-  abbrev Store : Contract 𝓤
-  Store = tripleOf 𝓤 H A st.signature (st.spec 𝓤 H A mem run)
-
   abbrev Run : Contract 𝓤
   Run = tripleOf 𝓤 H A rj′.signature (rj′.spec 𝓤 H A mem run)
 
   abbrev Follow : Contract 𝓤
   Follow = tripleOf 𝓤 H A fj.signature (fj.spec 𝓤 H A mem run)
-
-  abbrev Load : Contract 𝓤
-  Load = tripleOf 𝓤 H A lo.signature (lo.spec 𝓤 H A mem run)
 
   abbrev to-blank : Blank .Ghost
   to-blank = ((tt, tt, tt, tt, tt), tt)
@@ -237,12 +222,6 @@ module _ {M : Type 1} (𝓤 : URA M) (H : Heap 𝓤) (A : Atoms 𝓤) (W : Given
   abbrev Post : Val → SProp 𝓤
   Post = walkOf 𝓤 H A own′.ended stayed (own′.clauses 𝓤 H A mem run) .post bound
 
-  typedO : (r : Outcome) (v : Val) → Is O.the-row r (v ∷ []) → Holds (hasTy O′.mir v) × WT v
-  typedO r v is = EL.lawful O.the-type O′.the-laws 𝓤 H A W tt .typed r (v ∷ []) is .0
-
-  typedU : {u : Unit {0}} (v : Val) → Is unit u (v ∷ []) → Holds (hasTy tyUnit v) × WT v
-  typedU v is = subst (λ (z : Val). Holds (hasTy tyUnit z) × WT z) (sym (ap only is)) (tt, tt)
-
   -- the calls: what each callee's triple binds, and what it asks for
   abbrev to-lending : Lending 𝓤 H A mem run .Ghost
   to-lending = ((tt, tt, tt, (places, tt), (vint w64 places ∷ [], tt)), tt)
@@ -256,31 +235,6 @@ module _ {M : Type 1} (𝓤 : URA M) (H : Heap 𝓤) (A : Atoms 𝓤) (W : Given
 
   goes-copied : ent 𝓤 (emp 𝓤) (Copied 𝓤 H A mem run .pre to-copied)
   goes-copied = qed W [] ∵ nothing ! $ owns-plain ! bool (Is bool) (bool-makes 𝓤 H A W) follows _ refl $ fjoin ! $ nothing ! $ join ! $ frame ! $ done !
-
-  -- the records at l are lent for ν, the words for μ
-  module _ (ν μ l : ℕ) (δ ε : GName) (k : ℕ) where
-    abbrev to-store : Store 𝓤 H A mem run .Ghost
-    to-store = (
-      (
-        (ν ∷ [], (μ ∷ [], tt)),
-        (fullShare, (fullShare, tt)),
-        tt,
-        (under l 0 blanks δ, (under b′ o′ ws ε, (k, tt))),
-        (sliceVal (l, 0) 513 ∷ [], (sw ∷ [], (vint w64 k ∷ [], tt))),
-      ),
-      tt,
-    )
-
-    abbrev ToStore : List (Item 𝓤)
-    ToStore =
-        ‵ (flft (ν ∷ []) fullShare) ∷ ‵ (flft (μ ∷ []) fullShare) ∷ ‵ (MutSlice (named 0) (ν ∷ []) N.the-row .own (under l 0 blanks δ) (sliceVal (l, 0) 513 ∷ []))
-        ∷ ‵ (ShrSlice (named 1) (μ ∷ []) u32 .own (under b′ o′ ws ε) (sw ∷ [])) ∷ []
-
-    goes-store : k < 2 ^ 64 → (k ≤ length blanks) × (8 * k ≤ length ws) → ent 𝓤 (⋆ 𝓤 H A ToStore) (Store 𝓤 H A mem run .pre to-store)
-    goes-store fits asks =
-        qed W ToStore ∵
-        says ! asks $ nothing ! $ move ! (2 ∷ 0 ∷ []) $ join ! $ move ! (1 ∷ 0 ∷ []) $ join ! $ frame ! $ nothing ! $
-        owns-plain ! usize (Is usize) (uint-makes 𝓤 H A W w64) k _ (refl, fits) $ fjoin ! $ move ! (2 ∷ 0 ∷ []) $ fjoin ! $ move ! (1 ∷ 0 ∷ []) $ fjoin ! $ done !
 
   -- the first m records at l are lent for ν, the levels for μ
   module _ (ν μ l : ℕ) (δ ε : GName) (m : ℕ) (ns : List Node) where
@@ -338,20 +292,6 @@ module _ {M : Type 1} (𝓤 : URA M) (H : Heap 𝓤) (A : Atoms 𝓤) (W : Given
         owns-plain ! u64 (Is u64) (uint-makes 𝓤 H A W w64) budget _ (refl, budget-fits) $ fjoin ! $ move ! (2 ∷ 0 ∷ []) $ fjoin ! $
         move ! (1 ∷ 0 ∷ []) $ join ! $ frame ! $ done !
 
-  module _ (ν l : ℕ) (δ : GName) (ns : List Node) where
-    abbrev to-load : Load 𝓤 H A mem run .Ghost
-    to-load = (((ν ∷ [], (κ₄, tt)), (fullShare, (q₄, tt)), tt, (under l 0 ns δ, (wo, (513, tt))), (sliceVal (l, 0) 513 ∷ [], (sw ∷ [], (vint w64 513 ∷ [], tt)))), tt)
-
-    abbrev ToLoad : List (Item 𝓤)
-    ToLoad =
-        ‵ (flft (ν ∷ []) fullShare) ∷ ‵ (flft κ₄ q₄) ∷ ‵ (ShrSlice (named 0) (ν ∷ []) N.the-row .own (under l 0 ns δ) (sliceVal (l, 0) 513 ∷ [])) ∷ ‵ Wo ∷ []
-
-    goes-load : (513 ≤ length ns) × (8 * 513 ≤ length ws) → ent 𝓤 (⋆ 𝓤 H A ToLoad) (Load 𝓤 H A mem run .pre to-load)
-    goes-load asks =
-        qed W ToLoad ∵
-        says ! asks $ nothing ! $ move ! (2 ∷ 0 ∷ []) $ join ! $ move ! (1 ∷ 0 ∷ []) $ join ! $ frame ! $ nothing ! $
-        owns-plain ! usize (Is usize) (uint-makes 𝓤 H A W w64) 513 _ (refl, lit< tt) $ fjoin ! $ move ! (2 ∷ 0 ∷ []) $ fjoin ! $ move ! (1 ∷ 0 ∷ []) $ fjoin ! $ done !
-
   -- the exit, with what was passed on at its last values
   module _ (ls : List ℕ) (vs : List ℤ) (bs us : List ℕ) where
     abbrev Left : List (Item 𝓤)
@@ -379,41 +319,80 @@ module _ {M : Type 1} (𝓤 : URA M) (H : Heap 𝓤) (A : Atoms 𝓤) (W : Given
       (known-run : Triple 𝓤 (𝓣 .C #run-job) (Run 𝓤 H A mem run)) (known-follow : Triple 𝓤 (𝓣 .C #follow-job) (Follow 𝓤 H A mem run))
       (known-load : Triple 𝓤 (𝓣 .C #load) (Load 𝓤 H A mem run)) where
     -- where the two calls meet, with m records lent
-    abbrev Met : (l₀ l₁ l₂ l₃ l₄ l₅ l₆ l₇ l₈ l₉ l₁₀ l₁₁ l₁₂ l₁₃ l₁₄ l₁₅ l₁₆ l₁₇ l₁₈ l₁₉ l₂₀ l₂₁ l₂₂ l₂₃ l₂₄ l₂₅ l₂₆ l₂₇ l₂₈ l₂₉ l₃₀ l₃₁ l₃₂ l₃₃ l₃₄ l₃₅ l₃₆ l₃₇ l₃₈ l₃₉ l₄₀ m : ℕ) → Ended follows (bytes .now) budget (take m (ownRecords follows ws)) ls₀ (va .now) (li .now)
-        → List (Item 𝓤)
-    Met l₀ l₁ l₂ l₃ l₄ l₅ l₆ l₇ l₈ l₉ l₁₀ l₁₁ l₁₂ l₁₃ l₁₄ l₁₅ l₁₆ l₁₇ l₁₈ l₁₉ l₂₀ l₂₁ l₂₂ l₂₃ l₂₄ l₂₅ l₂₆ l₂₇ l₂₈ l₂₉ l₃₀ l₃₁ l₃₂ l₃₃ l₃₄ l₃₅ l₃₆ l₃₇ l₃₈ l₃₉ l₄₀ m x =
+    abbrev Met : (ℕ → ℕ) → (m : ℕ) → Ended follows (bytes .now) budget (take m (ownRecords follows ws)) ls₀ (va .now) (li .now) → List (Item 𝓤)
+    Met l m x =
         ‵ (flft κ₀ q₀) ∷ ‵ (flft κ₁ q₁) ∷ ‵ (flft κ₂ q₂) ∷ ‵ (flft κ₃ q₃) ∷ ‵ (flft κ₄ q₄) ∷ ‵ J ∷ ‵ (finally u8 γ (x .ls))
         ∷ ‵ (finally i32 (va .name) (x .vs)) ∷ ‵ (finally u8 (li .name) (x .bs)) ∷ ‵ Wo
-        ∷ ‵ (row N.the-row fullShare (x .ts ++ beyond m (ownRecords follows ws)) l₁₁ 0)
-        ∷ ‵ (froom (sliceTy (lent-mut (tyInt w32))) l₄₀ 0) ∷ ‵ (fdies (sliceTy (lent-mut (tyInt w32))) l₄₀)
-        ∷ ‵ (froom (lent-mut (tyInt w32)) l₃₉ 0) ∷ ‵ (fdies (lent-mut (tyInt w32)) l₃₉) ∷ ‵ (froom (sliceTy (lent-shr node-ty)) l₃₈ 0)
-        ∷ ‵ (fdies (sliceTy (lent-shr node-ty)) l₃₈) ∷ ‵ (froom (lent-shr records-ty) l₃₇ 0) ∷ ‵ (fdies (lent-shr records-ty) l₃₇)
-        ∷ ‵ (froom (sliceTy (lent-mut (tyInt w8))) l₃₆ 0) ∷ ‵ (fdies (sliceTy (lent-mut (tyInt w8))) l₃₆)
-        ∷ ‵ (froom (lent-mut (tyInt w8)) l₃₅ 0) ∷ ‵ (fdies (lent-mut (tyInt w8)) l₃₅) ∷ ‵ (froom (sliceTy (lent-mut (tyInt w32))) l₃₄ 0)
-        ∷ ‵ (fdies (sliceTy (lent-mut (tyInt w32))) l₃₄) ∷ ‵ (froom (lent-mut (tyInt w32)) l₃₃ 0) ∷ ‵ (fdies (lent-mut (tyInt w32)) l₃₃)
-        ∷ ‵ (froom (sliceTy (lent-mut (tyInt w8))) l₃₂ 0) ∷ ‵ (fdies (sliceTy (lent-mut (tyInt w8))) l₃₂)
-        ∷ ‵ (froom (lent-mut (tyInt w8)) l₃₁ 0) ∷ ‵ (fdies (lent-mut (tyInt w8)) l₃₁) ∷ ‵ (froom (sliceTy (lent-mut node-ty)) l₃₀ 0)
-        ∷ ‵ (fdies (sliceTy (lent-mut node-ty)) l₃₀) ∷ ‵ (froom (lent-mut records-ty) l₂₉ 0) ∷ ‵ (fdies (lent-mut records-ty) l₂₉)
-        ∷ ‵ (froom (sliceTy (lent-mut (tyInt w8))) l₂₈ 0) ∷ ‵ (fdies (sliceTy (lent-mut (tyInt w8))) l₂₈)
-        ∷ ‵ (froom (lent-mut (tyInt w8)) l₂₇ 0) ∷ ‵ (fdies (lent-mut (tyInt w8)) l₂₇) ∷ ‵ (froom (sliceTy (lent-mut (tyInt w32))) l₂₆ 0)
-        ∷ ‵ (fdies (sliceTy (lent-mut (tyInt w32))) l₂₆) ∷ ‵ (froom (lent-mut (tyInt w32)) l₂₅ 0) ∷ ‵ (fdies (lent-mut (tyInt w32)) l₂₅)
-        ∷ ‵ (froom (sliceTy (lent-shr (tyInt w8))) l₂₄ 0) ∷ ‵ (fdies (sliceTy (lent-shr (tyInt w8))) l₂₄)
-        ∷ ‵ (froom (lent-shr (tyInt w8)) l₂₃ 0) ∷ ‵ (fdies (lent-shr (tyInt w8)) l₂₃) ∷ ‵ (froom (sliceTy (lent-mut node-ty)) l₂₂ 0)
-        ∷ ‵ (fdies (sliceTy (lent-mut node-ty)) l₂₂) ∷ ‵ (froom (lent-mut records-ty) l₂₁ 0) ∷ ‵ (fdies (lent-mut records-ty) l₂₁)
-        ∷ ‵ (fat fullShare O′.mir l₂₀ 0 (x .w)) ∷ ‵ (fdies O′.mir l₂₀) ∷ ‵ (froom tyBool l₁₉ 0) ∷ ‵ (fdies tyBool l₁₉)
-        ∷ ‵ (froom (sliceTy (lent-shr (tyInt w32))) l₁₈ 0) ∷ ‵ (fdies (sliceTy (lent-shr (tyInt w32))) l₁₈)
-        ∷ ‵ (froom (lent-shr (tyInt w32)) l₁₇ 0) ∷ ‵ (fdies (lent-shr (tyInt w32)) l₁₇) ∷ ‵ (froom (sliceTy (lent-mut node-ty)) l₁₆ 0)
-        ∷ ‵ (fdies (sliceTy (lent-mut node-ty)) l₁₆) ∷ ‵ (froom (lent-mut records-ty) l₁₅ 0) ∷ ‵ (fdies (lent-mut records-ty) l₁₅)
-        ∷ ‵ (froom tyUnit l₁₄ 0) ∷ ‵ (fdies tyUnit l₁₄) ∷ ‵ (froom O′.mir l₁₃ 0) ∷ ‵ (fdies O′.mir l₁₃) ∷ ‵ (froom (tyInt w64) l₁₂ 0)
-        ∷ ‵ (fdies (tyInt w64) l₁₂) ∷ ‵ (fdies (tyArray N′.mir 513) l₁₁) ∷ ‵ (froom N′.mir l₁₀ 0) ∷ ‵ (fdies N′.mir l₁₀)
-        ∷ ‵ (froom (tyInt w64) l₉ 0) ∷ ‵ (fdies (tyInt w64) l₉) ∷ ‵ (fat fullShare (sliceTy (tyRef (named 4) mut (tyInt w32))) l₈ 0 sw)
-        ∷ ‵ (fdies (sliceTy (tyRef (named 4) mut (tyInt w32))) l₈) ∷ ‵ (froom (sliceTy (tyRef (named 3) mut (tyInt w8))) l₇ 0)
-        ∷ ‵ (fdies (sliceTy (tyRef (named 3) mut (tyInt w8))) l₇) ∷ ‵ (froom (sliceTy (tyRef (named 2) mut (tyInt w32))) l₆ 0)
-        ∷ ‵ (fdies (sliceTy (tyRef (named 2) mut (tyInt w32))) l₆) ∷ ‵ (froom (sliceTy (tyRef (named 1) mut (tyInt w8))) l₅ 0)
-        ∷ ‵ (fdies (sliceTy (tyRef (named 1) mut (tyInt w8))) l₅) ∷ ‵ (froom (tyInt w64) l₄ 0) ∷ ‵ (fdies (tyInt w64) l₄)
-        ∷ ‵ (froom (tyInt w64) l₃ 0) ∷ ‵ (fdies (tyInt w64) l₃) ∷ ‵ (froom (sliceTy (tyRef (named 0) imm (tyInt w8))) l₂ 0)
-        ∷ ‵ (fdies (sliceTy (tyRef (named 0) imm (tyInt w8))) l₂) ∷ ‵ (froom tyBool l₁ 0) ∷ ‵ (fdies tyBool l₁) ∷ ‵ (froom O′.mir l₀ 0)
-        ∷ ‵ (fdies O′.mir l₀) ∷ []
+        ∷ ‵ (row N.the-row fullShare (x .ts ++ beyond m (ownRecords follows ws)) (l 11) 0)
+        ∷ ‵ (froom (sliceTy (lent-mut (tyInt w32))) (l 40) 0) ∷ ‵ (fdies (sliceTy (lent-mut (tyInt w32))) (l 40))
+        ∷ ‵ (froom (lent-mut (tyInt w32)) (l 39) 0) ∷ ‵ (fdies (lent-mut (tyInt w32)) (l 39)) ∷ ‵ (froom (sliceTy (lent-shr node-ty)) (l 38) 0)
+        ∷ ‵ (fdies (sliceTy (lent-shr node-ty)) (l 38)) ∷ ‵ (froom (lent-shr records-ty) (l 37) 0) ∷ ‵ (fdies (lent-shr records-ty) (l 37))
+        ∷ ‵ (froom (sliceTy (lent-mut (tyInt w8))) (l 36) 0) ∷ ‵ (fdies (sliceTy (lent-mut (tyInt w8))) (l 36))
+        ∷ ‵ (froom (lent-mut (tyInt w8)) (l 35) 0) ∷ ‵ (fdies (lent-mut (tyInt w8)) (l 35))
+        ∷ ‵ (froom (sliceTy (lent-mut (tyInt w32))) (l 34) 0) ∷ ‵ (fdies (sliceTy (lent-mut (tyInt w32))) (l 34))
+        ∷ ‵ (froom (lent-mut (tyInt w32)) (l 33) 0) ∷ ‵ (fdies (lent-mut (tyInt w32)) (l 33))
+        ∷ ‵ (froom (sliceTy (lent-mut (tyInt w8))) (l 32) 0) ∷ ‵ (fdies (sliceTy (lent-mut (tyInt w8))) (l 32))
+        ∷ ‵ (froom (lent-mut (tyInt w8)) (l 31) 0) ∷ ‵ (fdies (lent-mut (tyInt w8)) (l 31)) ∷ ‵ (froom (sliceTy (lent-mut node-ty)) (l 30) 0)
+        ∷ ‵ (fdies (sliceTy (lent-mut node-ty)) (l 30)) ∷ ‵ (froom (lent-mut records-ty) (l 29) 0) ∷ ‵ (fdies (lent-mut records-ty) (l 29))
+        ∷ ‵ (froom (sliceTy (lent-mut (tyInt w8))) (l 28) 0) ∷ ‵ (fdies (sliceTy (lent-mut (tyInt w8))) (l 28))
+        ∷ ‵ (froom (lent-mut (tyInt w8)) (l 27) 0) ∷ ‵ (fdies (lent-mut (tyInt w8)) (l 27))
+        ∷ ‵ (froom (sliceTy (lent-mut (tyInt w32))) (l 26) 0) ∷ ‵ (fdies (sliceTy (lent-mut (tyInt w32))) (l 26))
+        ∷ ‵ (froom (lent-mut (tyInt w32)) (l 25) 0) ∷ ‵ (fdies (lent-mut (tyInt w32)) (l 25))
+        ∷ ‵ (froom (sliceTy (lent-shr (tyInt w8))) (l 24) 0) ∷ ‵ (fdies (sliceTy (lent-shr (tyInt w8))) (l 24))
+        ∷ ‵ (froom (lent-shr (tyInt w8)) (l 23) 0) ∷ ‵ (fdies (lent-shr (tyInt w8)) (l 23)) ∷ ‵ (froom (sliceTy (lent-mut node-ty)) (l 22) 0)
+        ∷ ‵ (fdies (sliceTy (lent-mut node-ty)) (l 22)) ∷ ‵ (froom (lent-mut records-ty) (l 21) 0) ∷ ‵ (fdies (lent-mut records-ty) (l 21))
+        ∷ ‵ (fat fullShare O′.mir (l 20) 0 (x .w)) ∷ ‵ (fdies O′.mir (l 20)) ∷ ‵ (froom tyBool (l 19) 0) ∷ ‵ (fdies tyBool (l 19))
+        ∷ ‵ (froom (sliceTy (lent-shr (tyInt w32))) (l 18) 0) ∷ ‵ (fdies (sliceTy (lent-shr (tyInt w32))) (l 18))
+        ∷ ‵ (froom (lent-shr (tyInt w32)) (l 17) 0) ∷ ‵ (fdies (lent-shr (tyInt w32)) (l 17)) ∷ ‵ (froom (sliceTy (lent-mut node-ty)) (l 16) 0)
+        ∷ ‵ (fdies (sliceTy (lent-mut node-ty)) (l 16)) ∷ ‵ (froom (lent-mut records-ty) (l 15) 0) ∷ ‵ (fdies (lent-mut records-ty) (l 15))
+        ∷ ‵ (froom tyUnit (l 14) 0) ∷ ‵ (fdies tyUnit (l 14)) ∷ ‵ (froom O′.mir (l 13) 0) ∷ ‵ (fdies O′.mir (l 13))
+        ∷ ‵ (froom (tyInt w64) (l 12) 0) ∷ ‵ (fdies (tyInt w64) (l 12)) ∷ ‵ (fdies (tyArray N′.mir 513) (l 11)) ∷ ‵ (froom N′.mir (l 10) 0)
+        ∷ ‵ (fdies N′.mir (l 10)) ∷ ‵ (froom (tyInt w64) (l 9) 0) ∷ ‵ (fdies (tyInt w64) (l 9))
+        ∷ ‵ (fat fullShare (sliceTy (tyRef (named 4) mut (tyInt w32))) (l 8) 0 sw) ∷ ‵ (fdies (sliceTy (tyRef (named 4) mut (tyInt w32))) (l 8))
+        ∷ ‵ (froom (sliceTy (tyRef (named 3) mut (tyInt w8))) (l 7) 0) ∷ ‵ (fdies (sliceTy (tyRef (named 3) mut (tyInt w8))) (l 7))
+        ∷ ‵ (froom (sliceTy (tyRef (named 2) mut (tyInt w32))) (l 6) 0) ∷ ‵ (fdies (sliceTy (tyRef (named 2) mut (tyInt w32))) (l 6))
+        ∷ ‵ (froom (sliceTy (tyRef (named 1) mut (tyInt w8))) (l 5) 0) ∷ ‵ (fdies (sliceTy (tyRef (named 1) mut (tyInt w8))) (l 5))
+        ∷ ‵ (froom (tyInt w64) (l 4) 0) ∷ ‵ (fdies (tyInt w64) (l 4)) ∷ ‵ (froom (tyInt w64) (l 3) 0) ∷ ‵ (fdies (tyInt w64) (l 3))
+        ∷ ‵ (froom (sliceTy (tyRef (named 0) imm (tyInt w8))) (l 2) 0) ∷ ‵ (fdies (sliceTy (tyRef (named 0) imm (tyInt w8))) (l 2))
+        ∷ ‵ (froom tyBool (l 1) 0) ∷ ‵ (fdies tyBool (l 1)) ∷ ‵ (froom O′.mir (l 0) 0) ∷ ‵ (fdies O′.mir (l 0)) ∷ []
+
+    -- from there on: all records are copied into the words
+    finish : (l : ℕ → ℕ) (m : ℕ) → m ≡ min places ownPlaces → Room u32 (length ws) → 8 * ownPlaces ≤ length ws
+        → (x : Ended follows (bytes .now) budget (take m (ownRecords follows ws)) ls₀ (va .now) (li .now))
+        → Seq (Go {0}) W (Met l m x)
+        (runs (𝓣 .C) (𝓣 .Λ) (placed (code.function .locals) (map l (span 0 41))) body.t-12 (atRet (placed (code.function .locals) (map l (span 0 41))) Post))
+    finish l m em ro long x =
+        let own = ownRecords follows ws in let rest = beyond m own in let at-first = lent ws ls₀ (va .now) (li .now) in let all = x .ts ++ rest in let
+        el = all-length places m em follows at-first (x .ts) (x .kR) in
+        sets ! (of-opd ! (var ! 51 refl)) 65 refl (outcome-typed 𝓤 H A W (x .r) (x .w) (x .isr)) $
+        sets ! (addr ! (from ! (stop !))) 17 refl (tt, tt) $
+        sets ! (agg ! (and-then ! (var ! 17 refl) (and-then ! (lit ! tt) (no-more !)))) 15 refl (sized (lit< tt)) $
+        sets ! (addr ! (from ! (fld ! refl (hop ! (look-in ! 74 (sub ! 0 refl (whole !))) (stop !))))) 13 refl (tt, tt) $
+        sets ! (agg ! (and-then ! (var ! 13 refl) (and-then ! (load ! (from ! (fld ! refl (stop !))) (look-in ! 74 (sub ! 1 refl (whole !)))) (no-more
+        !)))) 11 refl (sized (ro .0)) $ move ! (10 ∷ []) $ lends-shr ! tt N.the-row (named 0) all (l 11) 0 513 el roomy (λ ν″ δ″.
+        let gh = to-load 𝓤 H A W mem run (ν″ ∷ []) κ₄ fullShare q₄ (under (l 11) 0 all δ″) wo (sliceVal (l 11, 0) 513) sw 513 in
+        move ! (2 ∷ 7 ∷ 0 ∷ 12 ∷ []) $ group ! 4 $
+        use1 W (raw (Load 𝓤 H A mem run .pre gh)) (goes-load 𝓤 H A W mem run (ν″ ∷ []) κ₄ fullShare q₄ (under (l 11) 0 all δ″) wo (sliceVal (l 11, 0) 513)
+        sw 513 (lit< tt) (load-asks all ws el long)) $
+        calls-at ! (fmOf 𝓤 H (W .laws) 𝓣) (Load 𝓤 H A mem run) known-load gh (and-then ! (var ! 14 refl) (and-then ! (var ! 10 refl) (and-then ! (lit
+        ! tt) (no-more !)))) (λ w₁₄′.
+        answers ! tt unit w₁₄′ (‵ (flft (ν″ ∷ []) fullShare) ⊛ ‵ (flft κ₄ q₄) ⊛ ‵ ftrue) (λ (us : Unit {0} × (List ℕ × (Unit {0} × Unit {0}))). lasts
+        lo.ended (gh .0 .0) (gh .0 .3) us) (λ u us. Loads all 513 ws (us .1 .0)) (id⊢ 𝓤 _) (λ u₂ us′ isu′ loads.
+        result ! 63 refl (unit-typed 𝓤 H A W u₂ w₁₄′ isu′) $ split ! $ move ! (1 ∷ []) $ split ! $ move ! (3 ∷ []) $ fsplit ! $ move ! (1 ∷ []) $
+        fsplit ! $ move ! (1 ∷ []) $ fsplit ! $ move ! (2 ∷ []) $ fsplit ! $ move ! (1 ∷ []) $ feqL ! (λ kW. move ! (6 ∷ 7 ∷ []) $
+        ends-shr ! tt N.the-row all (l 11) 0 $
+        use1 W (some (λ (z : Val). ‵ (fat fullShare (tyArray N′.mir 513) (l 11) 0 z) ⊛ ‵ (Array N.the-row 513 .own all (z ∷ [])))) (gather 𝓤 H A W
+        N.the-row tt 513 all (l 11) el) $ pick ! (λ zR. split ! $
+        keep ! (span 16 58 ++ (0 ∷ span 74 23 ++ (8 ∷ 9 ∷ 10 ∷ 11 ∷ 6 ∷ 12 ∷ 13 ∷ 14 ∷ 15 ∷ 2 ∷ []))) $
+        sets ! (of-opd ! (var ! 54 refl)) 80 refl (outcome-typed 𝓤 H A W (x .r) (x .w) (x .isr)) $
+        returns ! (look ! 80 refl) $
+        frees-all ! (valued _ _ _ ∷ vacant _ _ ∷ vacant _ _ ∷ vacant _ _ ∷ vacant _ _ ∷ vacant _ _ ∷ vacant _ _ ∷ vacant _ _ ∷ valued _ _ _ ∷ vacant _
+        _ ∷ vacant _ _ ∷ valued _ _ _ ∷ vacant _ _ ∷ valued _ _ _ ∷ valued _ _ _ ∷ vacant _ _ ∷ vacant _ _ ∷ vacant _ _ ∷ vacant _ _ ∷ vacant _ _ ∷
+        valued _ _ _ ∷ vacant _ _ ∷ vacant _ _ ∷ vacant _ _ ∷ vacant _ _ ∷ vacant _ _ ∷ vacant _ _ ∷ vacant _ _ ∷ vacant _ _ ∷ vacant _ _ ∷ vacant _ _
+        ∷ vacant _ _ ∷ vacant _ _ ∷ vacant _ _ ∷ vacant _ _ ∷ vacant _ _ ∷ vacant _ _ ∷ valued _ _ _ ∷ valued _ _ _ ∷ valued _ _ _ ∷ valued _ _ _ ∷
+        []) $
+        by ! (exits (x .ls) (x .vs) (x .bs) (us′ .1 .0) (x .r) (x .w) (owned places m em follows at-first (x .ts) (x .kR) (bytes .now) budget (lent _
+        _ _ _) (x .r) (x .kept) (loads .words)) (x .kL) (x .kV) (x .kB) kW (x .isr)))))))
 
     walk : Room u8 (length (bytes .now)) → Room u8 (length ls₀) → Room i32 (length (va .now)) → Room u8 (length (li .now)) → Room u32 (length ws)
         → 8 * ownPlaces ≤ length ws
@@ -424,87 +403,100 @@ module _ {M : Type 1} (𝓤 : URA M) (H : Heap 𝓤) (A : Atoms 𝓤) (W : Given
         ∷ ‵ (owns (bool ∷ ShrSlice (named 0) κ₀ u8 ∷ u64 ∷ usize ∷ MutSlice (named 1) κ₁ u8 ∷ MutSlice (named 2) κ₂ i32 ∷ MutSlice (named 3) κ₃ u8
         ∷ MutSlice (named 4) κ₄ u32 ∷ []) a vals) ∷ []) ∵
         split ! $ move ! (1 ∷ []) $ split ! $ move ! (1 ∷ []) $ split ! $ move ! (1 ∷ []) $ split ! $ move ! (1 ∷ []) $ split ! $ move ! (6 ∷ []) $
-        fsplit ! $ move ! (1 ∷ []) $ fsplit ! $ move ! (1 ∷ []) $ fsplit ! $ move ! (1 ∷ []) $ fsplit ! $ move ! (1 ∷ []) $ fsplit ! $ move ! (1 ∷ [])
-        $ fsplit ! $ move ! (1 ∷ []) $ fsplit ! $ move ! (1 ∷ []) $ fsplit ! $ keep ! (14 ∷ 13 ∷ 12 ∷ 11 ∷ 9 ∷ 7 ∷ 4 ∷ 3 ∷ 2 ∷ 0 ∷ []) $ enter ! (𝓣
-        .C) (𝓣 .Λ) code.function (vbool follows ∷ sj ∷ vint w64 budget ∷ vint w64 places ∷ sl ∷ sv ∷ sb ∷ sw ∷ []) _ $ alloc1 ! (λ l₀. alloc1 ! (λ l₁.
-        alloc1 ! (λ l₂. alloc1 ! (λ l₃. alloc1 ! (λ l₄. alloc1 ! (λ l₅. alloc1 ! (λ l₆. alloc1 ! (λ l₇. alloc1 ! (λ l₈. alloc1 ! (λ l₉. alloc1 ! (λ
-        l₁₀. alloc1 ! (λ l₁₁. alloc1 ! (λ l₁₂. alloc1 ! (λ l₁₃. alloc1 ! (λ l₁₄. alloc1 ! (λ l₁₅. alloc1 ! (λ l₁₆. alloc1 ! (λ l₁₇. alloc1 ! (λ l₁₈.
-        alloc1 ! (λ l₁₉. alloc1 ! (λ l₂₀. alloc1 ! (λ l₂₁. alloc1 ! (λ l₂₂. alloc1 ! (λ l₂₃. alloc1 ! (λ l₂₄. alloc1 ! (λ l₂₅. alloc1 ! (λ l₂₆. alloc1
-        ! (λ l₂₇. alloc1 ! (λ l₂₈. alloc1 ! (λ l₂₉. alloc1 ! (λ l₃₀. alloc1 ! (λ l₃₁. alloc1 ! (λ l₃₂. alloc1 ! (λ l₃₃. alloc1 ! (λ l₃₄. alloc1 ! (λ
-        l₃₅. alloc1 ! (λ l₃₆. alloc1 ! (λ l₃₇. alloc1 ! (λ l₃₈. alloc1 ! (λ l₃₉. alloc1 ! (λ l₄₀. alloc0 ! $ params1 ! $ pass1 ! (init ! 78 refl (
-          tt,
-          tt,
-        )) $ pass1 ! (init ! 76 refl (sized (rj .0))) $ pass1 ! (init ! 74 refl (tt, record { fits = budget-fits })) $ pass1 ! (init ! 72 refl (
-          tt,
-          record { fits = places-fit },
-        )) $ pass1 ! (init ! 70 refl (sized (rl .0))) $ pass1 ! (init ! 68 refl (sized (rv .0))) $ pass1 ! (init ! 66 refl
-        (sized (rb .0))) $ pass1 ! (init ! 64 refl (sized (ro .0))) $ pass0 ! $ move ! (82 ∷ 83 ∷ 84 ∷ 85 ∷ 86 ∷ 87 ∷ 88 ∷ 89 ∷ 90 ∷ 91 ∷ []) $ use0 W
-        (raw (Lending 𝓤 H A mem run .pre to-lending)) goes-lending $ calls-at ! (fmOf 𝓤 H (W .laws) 𝓣) (Lending 𝓤 H A mem run) known-lending
-        to-lending (and-then ! (var ! 83 refl) (no-more !)) (λ v₉. answers ! tt usize v₉ (‵ ftrue) (λ (zs : Unit {0} × Unit {0}). lasts ln.ended tt
-        (places, tt) zs) (λ k zs. k ≡ min places ownPlaces) (id⊢ 𝓤 _) (λ m zsm ism em. drop ! $ drop ! $ result ! 72 refl (uint-lawful 𝓤 H A W w64
-        .typed m _ ism .0) $ rewrite ! 72 (λ (z : Val). ‵ (fat fullShare (tyInt w64) l₉ 0 z)) (ap only (ism .0)) refl $
+        fsplit ! $ move ! (1 ∷ []) $ fsplit ! $ move ! (1 ∷ []) $ fsplit ! $ move ! (1 ∷ []) $ fsplit ! $ move ! (1 ∷ []) $ fsplit ! $
+        move ! (1 ∷ []) $ fsplit ! $ move ! (1 ∷ []) $ fsplit ! $ move ! (1 ∷ []) $ fsplit ! $
+        keep ! (14 ∷ 13 ∷ 12 ∷ 11 ∷ 9 ∷ 7 ∷ 4 ∷ 3 ∷ 2 ∷ 0 ∷ []) $
+        enter ! (𝓣 .C) (𝓣 .Λ) code.function (vbool follows ∷ sj ∷ vint w64 budget ∷ vint w64 places ∷ sl ∷ sv ∷ sb ∷ sw ∷ []) _ $ alloc1 ! (λ l₀.
+        alloc1 ! (λ l₁. alloc1 ! (λ l₂. alloc1 ! (λ l₃. alloc1 ! (λ l₄. alloc1 ! (λ l₅. alloc1 ! (λ l₆. alloc1 ! (λ l₇. alloc1 ! (λ l₈.
+        alloc1 ! (λ l₉. alloc1 ! (λ l₁₀. alloc1 ! (λ l₁₁. alloc1 ! (λ l₁₂. alloc1 ! (λ l₁₃. alloc1 ! (λ l₁₄. alloc1 ! (λ l₁₅. alloc1 ! (λ l₁₆.
+        alloc1 ! (λ l₁₇. alloc1 ! (λ l₁₈. alloc1 ! (λ l₁₉. alloc1 ! (λ l₂₀. alloc1 ! (λ l₂₁. alloc1 ! (λ l₂₂. alloc1 ! (λ l₂₃. alloc1 ! (λ l₂₄.
+        alloc1 ! (λ l₂₅. alloc1 ! (λ l₂₆. alloc1 ! (λ l₂₇. alloc1 ! (λ l₂₈. alloc1 ! (λ l₂₉. alloc1 ! (λ l₃₀. alloc1 ! (λ l₃₁. alloc1 ! (λ l₃₂.
+        alloc1 ! (λ l₃₃. alloc1 ! (λ l₃₄. alloc1 ! (λ l₃₅. alloc1 ! (λ l₃₆. alloc1 ! (λ l₃₇. alloc1 ! (λ l₃₈. alloc1 ! (λ l₃₉. alloc1 ! (λ l₄₀.
+        alloc0 ! $ params1 ! $ pass1 ! (init ! 78 refl (tt, tt)) $ pass1 ! (init ! 76 refl (sized (rj .0))) $
+        pass1 ! (init ! 74 refl (tt, record { fits = budget-fits })) $ pass1 ! (init ! 72 refl (tt, record { fits = places-fit })) $
+        pass1 ! (init ! 70 refl (sized (rl .0))) $ pass1 ! (init ! 68 refl (sized (rv .0))) $ pass1 ! (init ! 66 refl (sized (rb .0))) $
+        pass1 ! (init ! 64 refl (sized (ro .0))) $ pass0 ! $ move ! (82 ∷ 83 ∷ 84 ∷ 85 ∷ 86 ∷ 87 ∷ 88 ∷ 89 ∷ 90 ∷ 91 ∷ []) $
+        use0 W (raw (Lending 𝓤 H A mem run .pre to-lending)) goes-lending $
+        calls-at ! (fmOf 𝓤 H (W .laws) 𝓣) (Lending 𝓤 H A mem run) known-lending to-lending (and-then ! (var ! 83 refl) (no-more !)) (λ v₉.
+        answers ! tt usize v₉ (‵ ftrue) (λ (zs : Unit {0} × Unit {0}). lasts ln.ended tt (places, tt) zs) (λ k zs. k ≡ min places ownPlaces) (id⊢ 𝓤 _)
+        (λ m zsm ism em. drop ! $ drop ! $ result ! 72 refl (uint-lawful 𝓤 H A W w64 .typed m _ ism .0) $
+        rewrite ! 72 (λ (z : Val). ‵ (fat fullShare (tyInt w64) l₉ 0 z)) (ap only (ism .0)) refl $
         -- the records
-        use0 W (raw (Blank 𝓤 H A mem run .pre (to-blank 𝓤 H A mem run))) (goes-blank 𝓤 H A mem run W) $ calls-at ! (fmOf 𝓤 H (W .laws) 𝓣) (Blank 𝓤 H A
-        mem run) known-blank (to-blank 𝓤 H A mem run) (no-more !) (λ u₀. answers ! tt N.the-row u₀ (‵ ftrue) (λ (zs : Unit {0}). lasts bl.ended tt tt
-        zs) (λ d zs. d ≡ blank) (id⊢ 𝓤 _) (λ d zsd isd ed. drop ! $ drop ! $ result ! 70 refl (LL.lawful N.the-type N′.the-laws 𝓤 H A W .typed d _ isd
-        .0) $ owns-plain ! N.the-row (Is N.the-row) (LL.makes N.the-type N′.the-plain 𝓤 H A) d (u₀ ∷ []) isd $ use1 W (‵ (Array N.the-row 513 .own
-        (replicate 513 d) ((arrayVal (replicate 513 u₀)) ∷ []))) (array-repeat 𝓤 H A W N.the-row (LL.copy N.the-type N′.the-copy 𝓤 H A W) 513 d u₀) $
-        peeks ! (Array N.the-row 513) (Is (Array N.the-row 513)) (shows 𝓤 H A (Array N.the-row 513)) (replicate 513 d) ((arrayVal (replicate 513 u₀))
-        ∷ []) (λ isR. sets ! (rep ! 513 (var ! 71 refl)) 69 refl (array-lawful 𝓤 H A W N.the-row (LL.lawful N.the-type N′.the-laws 𝓤 H A W) 513 .typed
-        (replicate 513 d) ((arrayVal (replicate 513 u₀)) ∷ []) isR .0) $ move ! (69 ∷ 0 ∷ []) $ use2 W (given (length (replicate 513 d) ≡ 513) (‵ (row
-        N.the-row fullShare (replicate 513 d) l₁₁ 0))) (spread 𝓤 H A W N.the-row tt 513 (replicate 513 d) l₁₁ (arrayVal (replicate 513 u₀))) $ learn !
-        (λ lenR. rewrite ! 0 (λ (l : List Node). ‵ (row N.the-row fullShare l l₁₁ 0)) (ap (replicate 513) ed) refl $ use0 W (raw (Copied 𝓤 H A mem run
-        .pre to-copied)) goes-copied $ calls-at ! (fmOf 𝓤 H (W .laws) 𝓣) (Copied 𝓤 H A mem run) known-copied to-copied (and-then ! (var ! 89 refl)
-        (no-more !)) (λ v₁₂. answers ! tt usize v₁₂ (‵ ftrue) (λ (zs : Unit {0} × Unit {0}). lasts cp.ended tt (follows, tt) zs) (λ k zs. k ≡ copiedOf
-        follows) (id⊢ 𝓤 _) (λ k zsk isk ek. drop ! $ drop ! $ result ! 67 refl (uint-lawful 𝓤 H A W w64 .typed k _ isk .0) $ rewrite ! 67 (λ (z :
-        Val). ‵ (fat fullShare (tyInt w64) l₁₂ 0 z)) (ap only (isk .0)) refl $
+        use0 W (raw (Blank 𝓤 H A mem run .pre (to-blank 𝓤 H A mem run))) (goes-blank 𝓤 H A mem run W) $
+        calls-at ! (fmOf 𝓤 H (W .laws) 𝓣) (Blank 𝓤 H A mem run) known-blank (to-blank 𝓤 H A mem run) (no-more !) (λ u₀.
+        answers ! tt N.the-row u₀ (‵ ftrue) (λ (zs : Unit {0}). lasts bl.ended tt tt zs) (λ d zs. d ≡ blank) (id⊢ 𝓤 _) (λ d zsd isd ed. drop ! $
+        drop ! $ result ! 70 refl (LL.lawful N.the-type N′.the-laws 𝓤 H A W .typed d _ isd .0) $
+        owns-plain ! N.the-row (Is N.the-row) (LL.makes N.the-type N′.the-plain 𝓤 H A) d (u₀ ∷ []) isd $
+        repeats ! N.the-row tt (LL.copy N.the-type N′.the-copy 𝓤 H A W) (LL.lawful N.the-type N′.the-laws 𝓤 H A W) 513 d u₀ (var ! 71 refl) refl 68
+        refl (λ lenR. rewrite ! 0 (λ (l : List Node). ‵ (row N.the-row fullShare l l₁₁ 0)) (ap (replicate 513) ed) refl $
+        use0 W (raw (Copied 𝓤 H A mem run .pre to-copied)) goes-copied $
+        calls-at ! (fmOf 𝓤 H (W .laws) 𝓣) (Copied 𝓤 H A mem run) known-copied to-copied (and-then ! (var ! 89 refl) (no-more !)) (λ v₁₂.
+        answers ! tt usize v₁₂ (‵ ftrue) (λ (zs : Unit {0} × Unit {0}). lasts cp.ended tt (follows, tt) zs) (λ k zs. k ≡ copiedOf follows) (id⊢ 𝓤 _)
+        (λ k zsk isk ek. drop ! $ drop ! $ result ! 67 refl (uint-lawful 𝓤 H A W w64 .typed k _ isk .0) $
+        rewrite ! 67 (λ (z : Val). ‵ (fat fullShare (tyInt w64) l₁₂ 0 z)) (ap only (isk .0)) refl $
         -- they are filled from the words, for a follow-on script
-        sets ! (addr ! (from ! (stop !))) 61 refl (tt, tt) $ sets ! (agg ! (and-then ! (var ! 61 refl) (and-then ! (lit ! tt) (no-more !)))) 59 refl
-        (sized (lit< tt)) $ sets ! (addr ! (from ! (fld ! refl (hop ! (look-in ! 74 (sub ! 0 refl (whole !))) (stop !))))) 57 refl (tt, tt) $ sets !
-        (agg ! (and-then ! (var ! 57 refl) (and-then ! (load ! (from ! (fld ! refl (stop !))) (look-in ! 74 (sub ! 1 refl (whole !)))) (no-more !))))
-        55 refl (sized (ro .0)) $ lends-mut ! tt N.the-row (named 0) blanks l₁₁ 0 513 (length-replicate 513 blank) roomy (λ ν δ. move ! (12 ∷ 7 ∷ [])
-        $ shares-on ! tt u32 ws b′ o′ (named 4) (named 1) ro (λ μ ε. let gh = to-store ν μ l₁₁ δ ε k in move ! (5 ∷ 2 ∷ 3 ∷ 0 ∷ []) $ group ! 4 $ use1
-        W (raw (Store 𝓤 H A mem run .pre gh)) (goes-store ν μ l₁₁ δ ε k (isk .1) (first-asks follows k ek ws long)) $ calls-at ! (fmOf 𝓤 H (W .laws)
-        𝓣) (Store 𝓤 H A mem run) known-store gh (and-then ! (var ! 59 refl) (and-then ! (var ! 55 refl) (and-then ! (var ! 67 refl) (no-more !)))) (λ
-        w₁₄. answers ! tt unit w₁₄ (‵ (flft (ν ∷ []) fullShare) ⊛ ‵ (flft (μ ∷ []) fullShare) ⊛ ‵ ftrue) (λ (us : List Node × (Unit {0} × (Unit {0} ×
-        Unit {0}))). lasts st.ended (gh .0 .0) (gh .0 .3) us) (λ u us. us .0 ≡ stored ws k blanks) (id⊢ 𝓤 _) (λ u₁ us isu filled. result ! 64 refl
-        (typedU w₁₄ isu) $ split ! $ move ! (1 ∷ []) $ split ! $ move ! (3 ∷ []) $ fsplit ! $ move ! (1 ∷ []) $ fsplit ! $ move ! (1 ∷ []) $ fsplit !
-        $ move ! (3 ∷ []) $ fsplit ! $ move ! (1 ∷ []) $ feqL ! (λ _. move ! (6 ∷ 8 ∷ 0 ∷ []) $ ends-mut ! tt N.the-row (us .0) l₁₁ 0 $ let own =
-        ownRecords follows ws in let front = take m own in let rest = beyond m own in let at-first = lent ws ls₀ (va .now) (li .now) in rewrite ! 0 (λ
-        (l : List Node). ‵ (row N.the-row fullShare l l₁₁ 0)) (filled ∙ ap (λ (j : ℕ). stored ws j blanks) ek ∙ two-parts places m em follows
-        at-first) refl $ use1 W (‵ (row N.the-row fullShare front l₁₁ 0) ⊛ ‵ (row N.the-row fullShare rest l₁₁ (place (mem′ N.the-row .size) 0 (length
-        front)))) (apart 𝓤 H A W N.the-row rest l₁₁ front 0) $ split ! $ move ! (5 ∷ 7 ∷ []) $ comes-home ! tt u32 ws b′ o′ (named 4) ro $ sets !
-        (of-opd ! (var ! 93 refl)) 58 refl (tt, tt) $ meets-after ! (Met l₀ l₁ l₂ l₃ l₄ l₅ l₆ l₇ l₈ l₉ l₁₀ l₁₁ l₁₂ l₁₃ l₁₄ l₁₅ l₁₆ l₁₇ l₁₈ l₁₉ l₂₀ l₂₁
-        l₂₂ l₂₃ l₂₄ l₂₅ l₂₆ l₂₇ l₂₈ l₂₉ l₃₀ l₃₁ l₃₂ l₃₃ l₃₄ l₃₅ l₃₆ l₃₇ l₃₈ l₃₉ l₄₀ m) (var ! 58 refl)
+        sets ! (addr ! (from ! (stop !))) 61 refl (tt, tt) $
+        sets ! (agg ! (and-then ! (var ! 61 refl) (and-then ! (lit ! tt) (no-more !)))) 59 refl (sized (lit< tt)) $
+        sets ! (addr ! (from ! (fld ! refl (hop ! (look-in ! 74 (sub ! 0 refl (whole !))) (stop !))))) 57 refl (tt, tt) $
+        sets ! (agg ! (and-then ! (var ! 57 refl) (and-then ! (load ! (from ! (fld ! refl (stop !))) (look-in ! 74 (sub ! 1 refl (whole !)))) (no-more
+        !)))) 55 refl (sized (ro .0)) $ lends-mut ! tt N.the-row (named 0) blanks l₁₁ 0 513 (length-replicate 513 blank) roomy (λ ν δ.
+        move ! (12 ∷ 7 ∷ []) $ shares-on ! tt u32 ws b′ o′ (named 4) (named 1) ro (λ μ ε.
+        let gh = to-store 𝓤 H A W mem run (ν ∷ []) (μ ∷ []) fullShare fullShare (under l₁₁ 0 blanks δ) (under b′ o′ ws ε) (sliceVal (l₁₁, 0) 513) sw k
+        in move ! (5 ∷ 2 ∷ 3 ∷ 0 ∷ []) $ group ! 4 $
+        use1 W (raw (Store 𝓤 H A mem run .pre gh)) (goes-store 𝓤 H A W mem run (ν ∷ []) (μ ∷ []) fullShare fullShare (under l₁₁ 0 blanks δ) (under b′
+        o′ ws ε) (sliceVal (l₁₁, 0) 513) sw k (isk .1) (first-asks follows k ek ws long)) $
+        calls-at ! (fmOf 𝓤 H (W .laws) 𝓣) (Store 𝓤 H A mem run) known-store gh (and-then ! (var ! 59 refl) (and-then ! (var ! 55 refl) (and-then !
+        (var ! 67 refl) (no-more !)))) (λ w₁₄.
+        answers ! tt unit w₁₄ (‵ (flft (ν ∷ []) fullShare) ⊛ ‵ (flft (μ ∷ []) fullShare) ⊛ ‵ ftrue) (λ (us : List Node × (Unit {0} × (Unit {0} × Unit
+        {0}))). lasts st.ended (gh .0 .0) (gh .0 .3) us) (λ u us. us .0 ≡ stored ws k blanks) (id⊢ 𝓤 _) (λ u₁ us isu filled.
+        result ! 64 refl (unit-typed 𝓤 H A W u₁ w₁₄ isu) $ split ! $ move ! (1 ∷ []) $ split ! $ move ! (3 ∷ []) $ fsplit ! $ move ! (1 ∷ []) $
+        fsplit ! $ move ! (1 ∷ []) $ fsplit ! $ move ! (3 ∷ []) $ fsplit ! $ move ! (1 ∷ []) $ feqL ! (λ _. move ! (6 ∷ 8 ∷ 0 ∷ []) $
+        ends-mut ! tt N.the-row (us .0) l₁₁ 0 $
+        let own = ownRecords follows ws in let front = take m own in let rest = beyond m own in let at-first = lent ws ls₀ (va .now) (li .now) in
+        rewrite ! 0 (λ (l : List Node). ‵ (row N.the-row fullShare l l₁₁ 0)) (filled ∙ ap (λ (j : ℕ). stored ws j blanks) ek ∙ two-parts places m em
+        follows at-first) refl $
+        use1 W (‵ (row N.the-row fullShare front l₁₁ 0) ⊛ ‵ (row N.the-row fullShare rest l₁₁ (place (mem′ N.the-row .size) 0 (length front)))) (apart
+        𝓤 H A W N.the-row rest l₁₁ front 0) $ split ! $ move ! (5 ∷ 7 ∷ []) $
+        comes-home ! tt u32 ws b′ o′ (named 4) ro $ sets ! (of-opd ! (var ! 93 refl)) 58 refl (tt, tt) $
+        let l : ℕ → ℕ = λ i. getD (l₀ ∷ l₁ ∷ l₂ ∷ l₃ ∷ l₄ ∷ l₅ ∷ l₆ ∷ l₇ ∷ l₈ ∷ l₉ ∷ l₁₀ ∷ l₁₁ ∷ l₁₂ ∷ l₁₃ ∷ l₁₄ ∷ l₁₅ ∷ l₁₆ ∷ l₁₇ ∷ l₁₈ ∷ l₁₉ ∷ l₂₀ ∷
+        l₂₁ ∷ l₂₂ ∷ l₂₃ ∷ l₂₄ ∷ l₂₅ ∷ l₂₆ ∷ l₂₇ ∷ l₂₈ ∷ l₂₉ ∷ l₃₀ ∷ l₃₁ ∷ l₃₂ ∷ l₃₃ ∷ l₃₄ ∷ l₃₅ ∷ l₃₆ ∷ l₃₇ ∷ l₃₈ ∷ l₃₉ ∷ l₄₀ ∷ []) i 0 in
+        meets-after ! (Met l m) (var ! 58 refl)
         -- a follow-on script
-        (λ yes′ P out. sets ! (addr ! (from ! (stop !))) 54 refl (tt, tt) $ sets ! (agg ! (and-then ! (var ! 54 refl) (and-then ! (var ! 77 refl)
-        (no-more !)))) 52 refl (sized (lent-fits places m em follows at-first .0)) $ sets ! (addr ! (from ! (fld ! refl (hop ! (look-in ! 85 (sub ! 0
-        refl (whole !))) (stop !))))) 50 refl (tt, tt) $ sets ! (agg ! (and-then ! (var ! 50 refl) (and-then ! (load ! (from ! (fld ! refl (stop !)))
-        (look-in ! 85 (sub ! 1 refl (whole !)))) (no-more !)))) 48 refl (sized (rl .0)) $ sets ! (addr ! (from ! (fld ! refl (hop ! (look-in ! 83 (sub
-        ! 0 refl (whole !))) (stop !))))) 46 refl (tt, tt) $ sets ! (agg ! (and-then ! (var ! 46 refl) (and-then ! (load ! (from ! (fld ! refl (stop
-        !))) (look-in ! 83 (sub ! 1 refl (whole !)))) (no-more !)))) 44 refl (sized (rv .0)) $ sets ! (addr ! (from ! (fld ! refl (hop ! (look-in ! 81
-        (sub ! 0 refl (whole !))) (stop !))))) 42 refl (tt, tt) $ sets ! (agg ! (and-then ! (var ! 42 refl) (and-then ! (load ! (from ! (fld ! refl
-        (stop !))) (look-in ! 81 (sub ! 1 refl (whole !)))) (no-more !)))) 40 refl (sized (rb .0)) $ move ! (2 ∷ []) $ lends-mut ! tt N.the-row (named
-        1) front l₁₁ 0 m (lent-length places m em follows at-first) (lent-fits places m em follows at-first) (λ ν′ δ′. move ! (15 ∷ 11 ∷ []) $
-        shares-on ! tt u8 ls₀ b o (named 1) (named 2) rl (λ μ′ ε′. move ! (16 ∷ []) $ use1 W (‵ J ⊛ ‵ J) (shr-slice-copy 𝓤 H A W (named 0) κ₀ u8
-        .twice bytes (sj ∷ [])) $ split ! $ let gh = to-follow ν′ μ′ l₁₁ δ′ ε′ m front in move ! (15 ∷ 7 ∷ 4 ∷ 16 ∷ 17 ∷ 1 ∷ 5 ∷ 2 ∷ 18 ∷ 19 ∷ []) $
-        group ! 10 $ use1 W (raw (Follow 𝓤 H A mem run .pre gh)) (goes-follow ν′ μ′ l₁₁ δ′ ε′ m front) $ calls-at-last ! (fmOf 𝓤 H (W .laws) 𝓣)
-        (Follow 𝓤 H A mem run) known-follow gh (and-then ! (var ! 86 refl) (and-then ! (var ! 84 refl) (and-then ! (var ! 47 refl) (and-then ! (var !
-        43 refl) (and-then ! (var ! 39 refl) (and-then ! (var ! 35 refl) (no-more !))))))) (λ w₂₀. answers ! tt O.the-row w₂₀ (‵ (flft κ₀ q₀) ⊛ ‵
-        (flft (ν′ ∷ []) fullShare) ⊛ ‵ (flft (μ′ ∷ []) fullShare) ⊛ ‵ (flft κ₂ q₂) ⊛ ‵ (flft κ₃ q₃) ⊛ ‵ ftrue) (λ (zs : FollowLasts). lasts fj.ended
-        (gh .0 .0) (gh .0 .3) zs) (λ r zs. Follows length Tree StandsIn (bytes .now) budget (lent front ls₀ (va .now) (li .now)) (lent (zs .1 .1 .0)
-        ls₀ (zs .1 .1 .1 .1 .0) (zs .1 .1 .1 .1 .1 .0)) r) (id⊢ 𝓤 _) (λ r zs isr said. let ts = zs .1 .1 .0 in split ! $ move ! (1 ∷ []) $ split ! $
-        move ! (1 ∷ []) $ split ! $ move ! (1 ∷ []) $ split ! $ move ! (1 ∷ []) $ split ! $ move ! (6 ∷ []) $ fsplit ! $ move ! (1 ∷ []) $ fsplit ! $
-        move ! (1 ∷ []) $ fsplit ! $ move ! (1 ∷ []) $ fsplit ! $ move ! (1 ∷ []) $ fsplit ! $ move ! (1 ∷ []) $ fsplit ! $ move ! (4 ∷ []) $ fsplit !
-        $ move ! (1 ∷ []) $ feqL ! (λ kR. move ! (3 ∷ []) $ fsplit ! $ move ! (1 ∷ []) $ feqL ! (λ kV. move ! (2 ∷ []) $ fsplit ! $ move ! (1 ∷ []) $
-        feqL ! (λ kB. move ! (11 ∷ 15 ∷ 2 ∷ []) $ ends-mut ! tt N.the-row ts l₁₁ 0 $ move ! (10 ∷ 13 ∷ []) $ comes-home ! tt u8 ls₀ b o (named 1) rl $
-        land-last ! (from ! (stop !)) (init ! 61 refl (typedO r w₂₀ isr)) $ gives-up ! (named 1) u8 ls₀ b o $ move ! (2 ∷ 16 ∷ []) $ rewrite ! 1 (λ (j
-        : ℕ). ‵ (row N.the-row fullShare rest l₁₁ (place (mem′ N.the-row .size) 0 j))) (sym kR) refl $ use2 W (‵ (row N.the-row fullShare (ts ++ rest)
-        l₁₁ 0)) (together 𝓤 H A W N.the-row rest l₁₁ ts 0) $ forget ! 97 refl $ forget ! 95 refl $ forget ! 93 refl $ forget ! 91 refl $ forget ! 89
-        refl $ forget ! 87 refl $ forget ! 85 refl $ forget ! 81 refl $ forget ! 79 refl $ forget ! 76 refl $ forget ! 72 refl $ forget ! 70 refl $
-        forget ! 68 refl $ forget ! 66 refl $ forget ! 64 refl $ forget ! 62 refl $ forget ! 58 refl $ forget ! 56 refl $ forget ! 54 refl $ forget !
-        52 refl $ forget ! 50 refl $ forget ! 48 refl $ forget ! 46 refl $ forget ! 44 refl $ keep ! (12 ∷ 2 ∷ 11 ∷ 9 ∷ 15 ∷ 13 ∷ 1 ∷ 4 ∷ 3 ∷ 14 ∷ 0 ∷
-        span 20 81) $ out (record {
+        (λ yes′ P out. sets ! (addr ! (from ! (stop !))) 54 refl (tt, tt) $
+        sets ! (agg ! (and-then ! (var ! 54 refl) (and-then ! (var ! 77 refl) (no-more !)))) 52 refl (sized (lent-fits places m em follows at-first
+        .0)) $ sets ! (addr ! (from ! (fld ! refl (hop ! (look-in ! 85 (sub ! 0 refl (whole !))) (stop !))))) 50 refl (tt, tt) $
+        sets ! (agg ! (and-then ! (var ! 50 refl) (and-then ! (load ! (from ! (fld ! refl (stop !))) (look-in ! 85 (sub ! 1 refl (whole !)))) (no-more
+        !)))) 48 refl (sized (rl .0)) $
+        sets ! (addr ! (from ! (fld ! refl (hop ! (look-in ! 83 (sub ! 0 refl (whole !))) (stop !))))) 46 refl (tt, tt) $
+        sets ! (agg ! (and-then ! (var ! 46 refl) (and-then ! (load ! (from ! (fld ! refl (stop !))) (look-in ! 83 (sub ! 1 refl (whole !)))) (no-more
+        !)))) 44 refl (sized (rv .0)) $
+        sets ! (addr ! (from ! (fld ! refl (hop ! (look-in ! 81 (sub ! 0 refl (whole !))) (stop !))))) 42 refl (tt, tt) $
+        sets ! (agg ! (and-then ! (var ! 42 refl) (and-then ! (load ! (from ! (fld ! refl (stop !))) (look-in ! 81 (sub ! 1 refl (whole !)))) (no-more
+        !)))) 40 refl (sized (rb .0)) $ move ! (2 ∷ []) $
+        lends-mut ! tt N.the-row (named 1) front l₁₁ 0 m (lent-length places m em follows at-first) (lent-fits places m em follows at-first) (λ ν′ δ′.
+        move ! (15 ∷ 11 ∷ []) $ shares-on ! tt u8 ls₀ b o (named 1) (named 2) rl (λ μ′ ε′. move ! (16 ∷ []) $
+        use1 W (‵ J ⊛ ‵ J) (shr-slice-copy 𝓤 H A W (named 0) κ₀ u8 .twice bytes (sj ∷ [])) $ split ! $
+        let gh = to-follow ν′ μ′ l₁₁ δ′ ε′ m front in move ! (15 ∷ 7 ∷ 4 ∷ 16 ∷ 17 ∷ 1 ∷ 5 ∷ 2 ∷ 18 ∷ 19 ∷ []) $ group ! 10 $
+        use1 W (raw (Follow 𝓤 H A mem run .pre gh)) (goes-follow ν′ μ′ l₁₁ δ′ ε′ m front) $
+        calls-at-last ! (fmOf 𝓤 H (W .laws) 𝓣) (Follow 𝓤 H A mem run) known-follow gh (and-then ! (var ! 86 refl) (and-then ! (var ! 84 refl)
+        (and-then ! (var ! 47 refl) (and-then ! (var ! 43 refl) (and-then ! (var ! 39 refl) (and-then ! (var ! 35 refl) (no-more !))))))) (λ w₂₀.
+        answers ! tt O.the-row w₂₀ (‵ (flft κ₀ q₀) ⊛ ‵ (flft (ν′ ∷ []) fullShare) ⊛ ‵ (flft (μ′ ∷ []) fullShare) ⊛ ‵ (flft κ₂ q₂) ⊛ ‵ (flft κ₃ q₃) ⊛ ‵
+        ftrue) (λ (zs : FollowLasts). lasts fj.ended (gh .0 .0) (gh .0 .3) zs) (λ r zs. Follows length Tree StandsIn (bytes .now) budget (lent front
+        ls₀ (va .now) (li .now)) (lent (zs .1 .1 .0) ls₀ (zs .1 .1 .1 .1 .0) (zs .1 .1 .1 .1 .1 .0)) r) (id⊢ 𝓤 _) (λ r zs isr said.
+        let ts = zs .1 .1 .0 in split ! $ move ! (1 ∷ []) $ split ! $ move ! (1 ∷ []) $ split ! $ move ! (1 ∷ []) $ split ! $ move ! (1 ∷ []) $
+        split ! $ move ! (6 ∷ []) $ fsplit ! $ move ! (1 ∷ []) $ fsplit ! $ move ! (1 ∷ []) $ fsplit ! $ move ! (1 ∷ []) $ fsplit ! $
+        move ! (1 ∷ []) $ fsplit ! $ move ! (1 ∷ []) $ fsplit ! $ move ! (4 ∷ []) $ fsplit ! $ move ! (1 ∷ []) $ feqL ! (λ kR. move ! (3 ∷ []) $
+        fsplit ! $ move ! (1 ∷ []) $ feqL ! (λ kV. move ! (2 ∷ []) $ fsplit ! $ move ! (1 ∷ []) $ feqL ! (λ kB. move ! (11 ∷ 15 ∷ 2 ∷ []) $
+        ends-mut ! tt N.the-row ts l₁₁ 0 $ move ! (10 ∷ 13 ∷ []) $
+        comes-home ! tt u8 ls₀ b o (named 1) rl $ land-last ! (from ! (stop !)) (init ! 61 refl (outcome-typed 𝓤 H A W r w₂₀ isr)) $
+        gives-up ! (named 1) u8 ls₀ b o $ move ! (2 ∷ 16 ∷ []) $
+        rewrite ! 1 (λ (j : ℕ). ‵ (row N.the-row fullShare rest l₁₁ (place (mem′ N.the-row .size) 0 j))) (sym kR) refl $
+        use2 W (‵ (row N.the-row fullShare (ts ++ rest) l₁₁ 0)) (together 𝓤 H A W N.the-row rest l₁₁ ts 0) $ forget ! 97 refl $ forget ! 95 refl $
+        forget ! 93 refl $ forget ! 91 refl $ forget ! 89 refl $ forget ! 87 refl $ forget ! 85 refl $ forget ! 81 refl $ forget ! 79 refl $
+        forget ! 76 refl $ forget ! 72 refl $ forget ! 70 refl $ forget ! 68 refl $ forget ! 66 refl $ forget ! 64 refl $ forget ! 62 refl $
+        forget ! 58 refl $ forget ! 56 refl $ forget ! 54 refl $ forget ! 52 refl $ forget ! 50 refl $ forget ! 48 refl $ forget ! 46 refl $
+        forget ! 44 refl $ keep ! (12 ∷ 2 ∷ 11 ∷ 9 ∷ 15 ∷ 13 ∷ 1 ∷ 4 ∷ 3 ∷ 14 ∷ 0 ∷ span 20 81) $
+        out (record {
           r = r;
           w = w₂₀;
           isr = isr;
@@ -513,39 +505,46 @@ module _ {M : Type 1} (𝓤 : URA M) (H : Heap 𝓤) (A : Atoms 𝓤) (W : Given
           vs = zs .1 .1 .1 .1 .0;
           bs = zs .1 .1 .1 .1 .1 .0;
           kR = kR;
-          kL =
-              refl;
+          kL = refl;
           kV = kV;
-          kB = kB;
+          kB
+              = kB;
           kept = as-follow follows yes′ said;
         })))))))))
         -- a job
-        (λ no′ P out. sets ! (addr ! (from ! (stop !))) 38 refl (tt, tt) $ sets ! (agg ! (and-then ! (var ! 38 refl) (and-then ! (var ! 77 refl)
-        (no-more !)))) 36 refl (sized (lent-fits places m em follows at-first .0)) $ sets ! (addr ! (from ! (fld ! refl (hop ! (look-in ! 85 (sub ! 0
-        refl (whole !))) (stop !))))) 34 refl (tt, tt) $ sets ! (agg ! (and-then ! (var ! 34 refl) (and-then ! (load ! (from ! (fld ! refl (stop !)))
-        (look-in ! 85 (sub ! 1 refl (whole !)))) (no-more !)))) 32 refl (sized (rl .0)) $ sets ! (addr ! (from ! (fld ! refl (hop ! (look-in ! 83 (sub
-        ! 0 refl (whole !))) (stop !))))) 30 refl (tt, tt) $ sets ! (agg ! (and-then ! (var ! 30 refl) (and-then ! (load ! (from ! (fld ! refl (stop
-        !))) (look-in ! 83 (sub ! 1 refl (whole !)))) (no-more !)))) 28 refl (sized (rv .0)) $ sets ! (addr ! (from ! (fld ! refl (hop ! (look-in ! 81
-        (sub ! 0 refl (whole !))) (stop !))))) 26 refl (tt, tt) $ sets ! (agg ! (and-then ! (var ! 26 refl) (and-then ! (load ! (from ! (fld ! refl
-        (stop !))) (look-in ! 81 (sub ! 1 refl (whole !)))) (no-more !)))) 24 refl (sized (rb .0)) $ move ! (2 ∷ []) $ lends-mut ! tt N.the-row (named
-        1) front l₁₁ 0 m (lent-length places m em follows at-first) (lent-fits places m em follows at-first) (λ ν′ δ′. move ! (14 ∷ []) $ use1 W (‵ J
-        ⊛ ‵ J) (shr-slice-copy 𝓤 H A W (named 0) κ₀ u8 .twice bytes (sj ∷ [])) $ split ! $ let gh = to-run ν′ l₁₁ δ′ m front in move ! (12 ∷ 4 ∷ 13 ∷
-        14 ∷ 15 ∷ 1 ∷ 2 ∷ 16 ∷ 17 ∷ 18 ∷ []) $ group ! 10 $ use1 W (raw (Run 𝓤 H A mem run .pre gh)) (goes-run ν′ l₁₁ δ′ m front) $ calls-at-last !
-        (fmOf 𝓤 H (W .laws) 𝓣) (Run 𝓤 H A mem run) known-run gh (and-then ! (var ! 85 refl) (and-then ! (var ! 83 refl) (and-then ! (var ! 30 refl)
-        (and-then ! (var ! 26 refl) (and-then ! (var ! 22 refl) (and-then ! (var ! 18 refl) (no-more !))))))) (λ w₂₀. answers ! tt O.the-row w₂₀ (‵
-        (flft κ₀ q₀) ⊛ ‵ (flft (ν′ ∷ []) fullShare) ⊛ ‵ (flft κ₁ q₁) ⊛ ‵ (flft κ₂ q₂) ⊛ ‵ (flft κ₃ q₃) ⊛ ‵ ftrue) (λ (zs : RunLasts). lasts rj′.ended
-        (gh .0 .0) (gh .0 .3) zs) (λ r zs. Promises length Tree (bytes .now) budget (lent front ls₀ (va .now) (li .now)) (lent (zs .1 .1 .0) (zs .1 .1
-        .1 .0) (zs .1 .1 .1 .1 .0) (zs .1 .1 .1 .1 .1 .0)) r) (id⊢ 𝓤 _) (λ r zs isr said. let ts = zs .1 .1 .0 in split ! $ move ! (1 ∷ []) $ split !
-        $ move ! (1 ∷ []) $ split ! $ move ! (1 ∷ []) $ split ! $ move ! (1 ∷ []) $ split ! $ move ! (6 ∷ []) $ fsplit ! $ move ! (1 ∷ []) $ fsplit !
-        $ move ! (1 ∷ []) $ fsplit ! $ move ! (1 ∷ []) $ fsplit ! $ move ! (1 ∷ []) $ fsplit ! $ move ! (1 ∷ []) $ fsplit ! $ move ! (4 ∷ []) $ fsplit
-        ! $ move ! (1 ∷ []) $ feqL ! (λ kR. move ! (4 ∷ []) $ fsplit ! $ move ! (1 ∷ []) $ feqL ! (λ kL. move ! (4 ∷ []) $ fsplit ! $ move ! (1 ∷ [])
-        $ feqL ! (λ kV. move ! (3 ∷ []) $ fsplit ! $ move ! (1 ∷ []) $ feqL ! (λ kB. move ! (11 ∷ 14 ∷ 3 ∷ []) $ ends-mut ! tt N.the-row ts l₁₁ 0 $
-        land-last ! (from ! (stop !)) (init ! 60 refl (typedO r w₂₀ isr)) $ move ! (0 ∷ 15 ∷ []) $ rewrite ! 1 (λ (j : ℕ). ‵ (row N.the-row fullShare
-        rest l₁₁ (place (mem′ N.the-row .size) 0 j))) (sym kR) refl $ use2 W (‵ (row N.the-row fullShare (ts ++ rest) l₁₁ 0)) (together 𝓤 H A W
-        N.the-row rest l₁₁ ts 0) $ forget ! 96 refl $ forget ! 94 refl $ forget ! 92 refl $ forget ! 90 refl $ forget ! 88 refl $ forget ! 86 refl $
-        forget ! 84 refl $ forget ! 80 refl $ forget ! 78 refl $ forget ! 75 refl $ forget ! 71 refl $ forget ! 69 refl $ forget ! 67 refl $ forget !
-        65 refl $ forget ! 63 refl $ forget ! 61 refl $ forget ! 41 refl $ forget ! 39 refl $ forget ! 37 refl $ forget ! 35 refl $ forget ! 33 refl $
-        forget ! 31 refl $ forget ! 29 refl $ forget ! 27 refl $ keep ! (11 ∷ 10 ∷ 9 ∷ 7 ∷ 14 ∷ 12 ∷ 3 ∷ 2 ∷ 1 ∷ 13 ∷ 0 ∷ span 19 81) $ out (record {
+        (λ no′ P out. sets ! (addr ! (from ! (stop !))) 38 refl (tt, tt) $
+        sets ! (agg ! (and-then ! (var ! 38 refl) (and-then ! (var ! 77 refl) (no-more !)))) 36 refl (sized (lent-fits places m em follows at-first
+        .0)) $ sets ! (addr ! (from ! (fld ! refl (hop ! (look-in ! 85 (sub ! 0 refl (whole !))) (stop !))))) 34 refl (tt, tt) $
+        sets ! (agg ! (and-then ! (var ! 34 refl) (and-then ! (load ! (from ! (fld ! refl (stop !))) (look-in ! 85 (sub ! 1 refl (whole !)))) (no-more
+        !)))) 32 refl (sized (rl .0)) $
+        sets ! (addr ! (from ! (fld ! refl (hop ! (look-in ! 83 (sub ! 0 refl (whole !))) (stop !))))) 30 refl (tt, tt) $
+        sets ! (agg ! (and-then ! (var ! 30 refl) (and-then ! (load ! (from ! (fld ! refl (stop !))) (look-in ! 83 (sub ! 1 refl (whole !)))) (no-more
+        !)))) 28 refl (sized (rv .0)) $
+        sets ! (addr ! (from ! (fld ! refl (hop ! (look-in ! 81 (sub ! 0 refl (whole !))) (stop !))))) 26 refl (tt, tt) $
+        sets ! (agg ! (and-then ! (var ! 26 refl) (and-then ! (load ! (from ! (fld ! refl (stop !))) (look-in ! 81 (sub ! 1 refl (whole !)))) (no-more
+        !)))) 24 refl (sized (rb .0)) $ move ! (2 ∷ []) $
+        lends-mut ! tt N.the-row (named 1) front l₁₁ 0 m (lent-length places m em follows at-first) (lent-fits places m em follows at-first) (λ ν′ δ′.
+        move ! (14 ∷ []) $ use1 W (‵ J ⊛ ‵ J) (shr-slice-copy 𝓤 H A W (named 0) κ₀ u8 .twice bytes (sj ∷ [])) $ split ! $
+        let gh = to-run ν′ l₁₁ δ′ m front in move ! (12 ∷ 4 ∷ 13 ∷ 14 ∷ 15 ∷ 1 ∷ 2 ∷ 16 ∷ 17 ∷ 18 ∷ []) $ group ! 10 $
+        use1 W (raw (Run 𝓤 H A mem run .pre gh)) (goes-run ν′ l₁₁ δ′ m front) $
+        calls-at-last ! (fmOf 𝓤 H (W .laws) 𝓣) (Run 𝓤 H A mem run) known-run gh (and-then ! (var ! 85 refl) (and-then ! (var ! 83 refl) (and-then !
+        (var ! 30 refl) (and-then ! (var ! 26 refl) (and-then ! (var ! 22 refl) (and-then ! (var ! 18 refl) (no-more !))))))) (λ w₂₀.
+        answers ! tt O.the-row w₂₀ (‵ (flft κ₀ q₀) ⊛ ‵ (flft (ν′ ∷ []) fullShare) ⊛ ‵ (flft κ₁ q₁) ⊛ ‵ (flft κ₂ q₂) ⊛ ‵ (flft κ₃ q₃) ⊛ ‵ ftrue) (λ (zs
+        : RunLasts). lasts rj′.ended (gh .0 .0) (gh .0 .3) zs) (λ r zs. Promises length Tree (bytes .now) budget (lent front ls₀ (va .now) (li .now))
+        (lent (zs .1 .1 .0) (zs .1 .1 .1 .0) (zs .1 .1 .1 .1 .0) (zs .1 .1 .1 .1 .1 .0)) r) (id⊢ 𝓤 _) (λ r zs isr said.
+        let ts = zs .1 .1 .0 in split ! $ move ! (1 ∷ []) $ split ! $ move ! (1 ∷ []) $ split ! $ move ! (1 ∷ []) $ split ! $ move ! (1 ∷ []) $
+        split ! $ move ! (6 ∷ []) $ fsplit ! $ move ! (1 ∷ []) $ fsplit ! $ move ! (1 ∷ []) $ fsplit ! $ move ! (1 ∷ []) $ fsplit ! $
+        move ! (1 ∷ []) $ fsplit ! $ move ! (1 ∷ []) $ fsplit ! $ move ! (4 ∷ []) $ fsplit ! $ move ! (1 ∷ []) $ feqL ! (λ kR. move ! (4 ∷ []) $
+        fsplit ! $ move ! (1 ∷ []) $ feqL ! (λ kL. move ! (4 ∷ []) $ fsplit ! $ move ! (1 ∷ []) $ feqL ! (λ kV. move ! (3 ∷ []) $ fsplit ! $
+        move ! (1 ∷ []) $ feqL ! (λ kB. move ! (11 ∷ 14 ∷ 3 ∷ []) $
+        ends-mut ! tt N.the-row ts l₁₁ 0 $ land-last ! (from ! (stop !)) (init ! 60 refl (outcome-typed 𝓤 H A W r w₂₀ isr)) $ move ! (0 ∷ 15 ∷ []) $
+        rewrite ! 1 (λ (j : ℕ). ‵ (row N.the-row fullShare rest l₁₁ (place (mem′ N.the-row .size) 0 j))) (sym kR) refl $
+        use2 W (‵ (row N.the-row fullShare (ts ++ rest) l₁₁ 0)) (together 𝓤 H A W N.the-row rest l₁₁ ts 0) $ forget ! 96 refl $ forget ! 94 refl $
+        forget ! 92 refl $ forget ! 90 refl $ forget ! 88 refl $ forget ! 86 refl $ forget ! 84 refl $ forget ! 80 refl $ forget ! 78 refl $
+        forget ! 75 refl $ forget ! 71 refl $ forget ! 69 refl $ forget ! 67 refl $ forget ! 65 refl $ forget ! 63 refl $ forget ! 61 refl $
+        forget ! 41 refl $ forget ! 39 refl $ forget ! 37 refl $ forget ! 35 refl $ forget ! 33 refl $ forget ! 31 refl $ forget ! 29 refl $
+        forget ! 27 refl $ keep ! (11 ∷ 10 ∷ 9 ∷ 7 ∷ 14 ∷ 12 ∷ 3 ∷ 2 ∷ 1 ∷ 13 ∷ 0 ∷ span 19 81) $
+        out (record {
           r = r;
           w = w₂₀;
           isr = isr;
@@ -555,33 +554,13 @@ module _ {M : Type 1} (𝓤 : URA M) (H : Heap 𝓤) (A : Atoms 𝓤) (W : Given
           bs = zs .1 .1 .1 .1 .1 .0;
           kR = kR;
           kL = kL;
-          kV = kV;
-          kB =
-              kB;
+          kV
+              = kV;
+          kB = kB;
           kept = as-run follows no′ said;
         })))))))))
-        -- all records are copied into the words
-        (λ x. let all = x .ts ++ rest in let el = all-length places m em follows at-first (x .ts) (x .kR) in sets ! (of-opd ! (var ! 51 refl)) 65 refl
-        (typedO (x .r) (x .w) (x .isr)) $ sets ! (addr ! (from ! (stop !))) 17 refl (tt, tt) $ sets ! (agg ! (and-then ! (var ! 17 refl) (and-then !
-        (lit ! tt) (no-more !)))) 15 refl (sized (lit< tt)) $ sets ! (addr ! (from ! (fld ! refl (hop ! (look-in ! 74 (sub ! 0 refl (whole !))) (stop
-        !))))) 13 refl (tt, tt) $ sets ! (agg ! (and-then ! (var ! 13 refl) (and-then ! (load ! (from ! (fld ! refl (stop !))) (look-in ! 74 (sub ! 1
-        refl (whole !)))) (no-more !)))) 11 refl (sized (ro .0)) $ move ! (10 ∷ []) $ lends-shr ! tt N.the-row (named 0) all l₁₁ 0 513 el roomy (λ ν″
-        δ″. let gh = to-load ν″ l₁₁ δ″ all in move ! (2 ∷ 7 ∷ 0 ∷ 12 ∷ []) $ group ! 4 $ use1 W (raw (Load 𝓤 H A mem run .pre gh)) (goes-load ν″ l₁₁
-        δ″ all (load-asks all ws el long)) $ calls-at ! (fmOf 𝓤 H (W .laws) 𝓣) (Load 𝓤 H A mem run) known-load gh (and-then ! (var ! 14 refl)
-        (and-then ! (var ! 10 refl) (and-then ! (lit ! tt) (no-more !)))) (λ w₁₄′. answers ! tt unit w₁₄′ (‵ (flft (ν″ ∷ []) fullShare) ⊛ ‵ (flft κ₄
-        q₄) ⊛ ‵ ftrue) (λ (us : Unit {0} × (List ℕ × (Unit {0} × Unit {0}))). lasts lo.ended (gh .0 .0) (gh .0 .3) us) (λ u us. Loads all 513 ws (us
-        .1 .0)) (id⊢ 𝓤 _) (λ u₂ us′ isu′ loads. result ! 63 refl (typedU w₁₄′ isu′) $ split ! $ move ! (1 ∷ []) $ split ! $ move ! (3 ∷ []) $ fsplit !
-        $ move ! (1 ∷ []) $ fsplit ! $ move ! (1 ∷ []) $ fsplit ! $ move ! (2 ∷ []) $ fsplit ! $ move ! (1 ∷ []) $ feqL ! (λ kW. move ! (6 ∷ 7 ∷ []) $
-        ends-shr ! tt N.the-row all l₁₁ 0 $ use1 W (some (λ (z : Val). ‵ (fat fullShare (tyArray N′.mir 513) l₁₁ 0 z) ⊛ ‵ (Array N.the-row 513 .own
-        all (z ∷ [])))) (gather 𝓤 H A W N.the-row tt 513 all l₁₁ el) $ pick ! (λ zR. split ! $ keep ! (span 16 58 ++ (0 ∷ 74 ∷ 75 ∷ 76 ∷ 77 ∷ 78 ∷ 79
-        ∷ 80 ∷ 81 ∷ 82 ∷ 83 ∷ 84 ∷ 85 ∷ 86 ∷ 87 ∷ 88 ∷ 89 ∷ 90 ∷ 91 ∷ 92 ∷ 93 ∷ 94 ∷ 95 ∷ 96 ∷ 8 ∷ 9 ∷ 10 ∷ 11 ∷ 6 ∷ 12 ∷ 13 ∷ 14 ∷ 15 ∷ 2 ∷ [])) $
-        sets ! (of-opd ! (var ! 54 refl)) 80 refl (typedO (x .r) (x .w) (x .isr)) $ returns ! (look ! 80 refl) $ frees-all ! (cell _ _ _ ∷ room _ _ ∷
-        room _ _ ∷ room _ _ ∷ room _ _ ∷ room _ _ ∷ room _ _ ∷ room _ _ ∷ cell _ _ _ ∷ room _ _ ∷ room _ _ ∷ cell _ _ _ ∷ room _ _ ∷ cell _ _ _ ∷ cell
-        _ _ _ ∷ room _ _ ∷ room _ _ ∷ room _ _ ∷ room _ _ ∷ room _ _ ∷ cell _ _ _ ∷ room _ _ ∷ room _ _ ∷ room _ _ ∷ room _ _ ∷ room _ _ ∷ room _ _ ∷
-        room _ _ ∷ room _ _ ∷ room _ _ ∷ room _ _ ∷ room _ _ ∷ room _ _ ∷ room _ _ ∷ room _ _ ∷ room _ _ ∷ room _ _ ∷ cell _ _ _ ∷ cell _ _ _ ∷ cell _
-        _ _ ∷ cell _ _ _ ∷ []) $ by ! (exits (x .ls) (x .vs) (x .bs) (us′ .1 .0) (x .r) (x .w) (owned places m em follows at-first (x .ts) (x .kR)
-        (bytes .now) budget (lent _ _ _ _) (x .r) (x .kept) (loads .words)) (x .kL) (x .kV) (x .kB) kW (x
-        .isr))))))))))))))))))))))))))))))))))))))))))))))))))))))))))))))
+        -- what comes after both
+        (finish l m em ro long))))))))))))))))))))))))))))))))))))))))))))))))))))))
 
 module _ {M : Type 1} (𝓤 : URA M) (H : Heap 𝓤) (A : Atoms 𝓤) (W : Given 𝓤 H A) (mem : Memory → SProp 𝓤) (run : Routine → Fun 𝓤) (𝓣 : Tables 𝓤 H)
     (k₁ : Triple 𝓤 (𝓣 .C #lending) (Lending 𝓤 H A mem run)) (k₂ : Triple 𝓤 (𝓣 .C #blank) (Blank 𝓤 H A mem run))

@@ -2,26 +2,24 @@
 -- opened once, before the loop; they are shut and closed after it. In each turn a record is copied, and the two arrays and the marks are lent to `turn`
 -- for lifetimes of the call. What the walk comes to is `Surveying`'s. Assumes nothing.
 use Rattle.walks.proofs.Walk.{_<_, _^_, _≤_, ℕ, Fml, GName, Lft, Share, fat, fauth, fbor, fdies, flft, fobor, fobs, fres, froom, fshr-bor, ftrue}
-use Rattle.walks.proofs.Walk.{SProp, emp, ent, id⊢, Fun, givenOf, tables, tablesOf, Array, array-lawful, each, u32, u8, usize, yes, closes-slice}
-use Rattle.walks.proofs.Walk.{elem-back, elem-out, looks-slice, opens-slice, place-is, row, shuts-slice, Is, shows, Held, mem, pointee, shares}
-use Rattle.walks.proofs.Walk.{uint-lawful, uint-makes, owns, RefT, pureI, plain, MutSlice, Room, ShrSlice, at-slice, codedHoleys, heres}
-use Rattle.walks.proofs.Walk.{mut-slice-tells, shr-slice-tells, slice-vals, sliceTy, sliceVal, nothing, only, owned, peeks, calls-at, calls-at-last}
-use Rattle.walks.proofs.Walk.{lasts, onEntry, Meets, tripleOf, Contract, Triple, cited, entered, Stays, Walks, ends-at, goes-none-slice, goes-slice}
-use Rattle.walks.proofs.Walk.{needs, says, stay-none-slice, stay-slice, walk-meets, walkOf, walked, Atoms, fullShare, URA, lit<, ltb, ltb→lt, nltb→le}
-use Rattle.walks.proofs.Walk.{getD, length, replicate, List, [], _∷_, _≡_, ap, refl, subst, sym, Ty, erased, imm, mut, named, tyArray, tyBool, tyInt}
-use Rattle.walks.proofs.Walk.{tyPtr, tyRef, w32, w64, w8, Val, WT, hasTy, vint, vptr, arith, Memory, Routine, Heap, Tables, WpFn, WpFn-mono, fmOf, ! }
-use Rattle.walks.proofs.Walk.{Given, Item, _$_, _∵_, _⊛_, by, done, drop, feqI, feqL, fjoin, frame, fsplit, given, join, keep, learn, move, pick, qed}
-use Rattle.walks.proofs.Walk.{raw, rewrite, some, split, suffices, use0, use1, use2, ‵, ⋆, agg, look-in, sub, whole, addr, again, alloc0, alloc1}
-use Rattle.walks.proofs.Walk.{and-then, bin, enter, fld, forget, free0, from, hop, init, land, land-last, lit, load, look, look-raw, no-more, of-opd}
-use Rattle.walks.proofs.Walk.{params1, pass0, pass1, returns, stop, store, arr-parts}
+use Rattle.walks.proofs.Walk.{SProp, emp, ent, id⊢, Fun, givenOf, tables, tablesOf, Array, each, u32, u8, usize, yes, closes-slice, elem-back}
+use Rattle.walks.proofs.Walk.{elem-out, looks-slice, opens-slice, place-is, row, shuts-slice, Is, shows, Held, mem, pointee, shares, uint-lawful}
+use Rattle.walks.proofs.Walk.{uint-makes, owns, RefT, pureI, plain, MutSlice, Room, ShrSlice, at-slice, codedHoleys, heres, mut-slice-tells}
+use Rattle.walks.proofs.Walk.{shr-slice-tells, slice-vals, sliceTy, sliceVal, nothing, only, owned, calls-at, calls-at-last, lasts, onEntry, Meets}
+use Rattle.walks.proofs.Walk.{tripleOf, Contract, Triple, cited, entered, Stays, Walks, ends-at, goes-none-slice, goes-slice, needs, says}
+use Rattle.walks.proofs.Walk.{stay-none-slice, stay-slice, walk-meets, walkOf, walked, Atoms, fullShare, URA, lit<, ltb, ltb→lt, nltb→le, getD}
+use Rattle.walks.proofs.Walk.{length, List, [], _∷_, _≡_, ap, refl, subst, sym, Ty, erased, imm, mut, named, tyArray, tyBool, tyInt, tyPtr, tyRef}
+use Rattle.walks.proofs.Walk.{w32, w64, w8, Val, WT, hasTy, vint, vptr, arith, Memory, Routine, Heap, Tables, WpFn, WpFn-mono, fmOf, !, Given, Item}
+use Rattle.walks.proofs.Walk.{_$_, _∵_, _⊛_, by, done, drop, feqI, feqL, fjoin, frame, fsplit, join, keep, move, pick, qed, raw, rewrite, some, split}
+use Rattle.walks.proofs.Walk.{suffices, use0, use1, ‵, ⋆, agg, look-in, sub, whole, addr, again, alloc0, alloc1, and-then, bin, enter, fld, forget}
+use Rattle.walks.proofs.Walk.{from, hop, init, land, land-last, lit, load, look, look-raw, no-more, of-opd, params1, pass0, pass1, returns, stop}
+use Rattle.walks.proofs.Walk.{store, arr-parts}
 use Prim.Native.Nat.{min}
+use mathlib.Core.List.{_++_}
 use mathlib.Core.WellFounded.{WellFounded, InvImage·wf}
 use lib.WfN.{Nat·lt-wfRel}
-use mir.Syntax.{Width}
 use mir.Val.{vbool}
 use types.Kit.{group}
-use types.Part.{rep}
-use denote.Array.{arrayVal, array-repeat}
 use denote.Plain.{uint-copy}
 use Rattle.rules.specs.Limits.{maxNodes}
 use Rattle.table.specs.declared.lent.Node.{Node}
@@ -33,8 +31,8 @@ use Rattle.table.proofs.Walking.{turns}
 use Rattle.entry.specs.Records.{Unmarked}
 use Rattle.entry.proofs.Numbers.{start-fits, span}
 use Rattle.entry.proofs.Surveying.{Point, is-record, first, ready, next, nearer-end, last}
-use Rattle.walks.proofs.Locals.{sized, var, sets, result, frees, frees-room}
-use Rattle.walks.proofs.Slots.{spread, gather}
+use Rattle.walks.proofs.Locals.{sized, var, sets, result, valued, vacant, frees-all}
+use Rattle.walks.proofs.Slots.{gather, repeats}
 use Rattle.walks.proofs.Calls.{under, lends-mut, ends-mut, answers}
 use Rattle.walks.proofs.While.{tests, whiles}
 use lib.Dec.{T as Holds}
@@ -76,13 +74,6 @@ marks-ty = sliceTy (tyRef (named 1) mut (tyInt w8))
 -- a reference to numbers, or to an array of them, that is lent on
 abbrev lent-ref : Ty → Ty
 lent-ref t = tyRef erased mut t
-
--- the arrays as they are made
-abbrev zeros : List ℕ
-zeros = replicate 512 0
-
-abbrev zero-vals : Width → Val
-zero-vals w = arrayVal (replicate 512 (vint w 0))
 
 -- the last values of what `turn` is passed
 abbrev Lasts : Type 0
@@ -222,113 +213,132 @@ module _ {M : Type 1} (𝓤 : URA M) (H : Heap 𝓤) (A : Atoms 𝓤) (W : Given
   module _ (𝓣 : Tables 𝓤 H) (known-reach : Triple 𝓤 (𝓣 .C #reach) (Reach 𝓤 H A mem run)) (known-start : Triple 𝓤 (𝓣 .C #start) (Start 𝓤 H A mem run))
       (known-ask : Triple 𝓤 (𝓣 .C #ask) (Ask 𝓤 H A mem run)) (known-turn : Triple 𝓤 (𝓣 .C #turn) (Turn 𝓤 H A mem run)) where
     -- the loop's invariant
-    abbrev At : (l₀ l₁ l₂ l₃ l₄ l₅ l₆ l₇ l₈ l₉ l₁₀ l₁₁ l₁₂ l₁₃ l₁₄ l₁₅ l₁₆ l₁₇ l₁₈ : ℕ) → Share → (n : ℕ) → At′ n → List (Item 𝓤)
-    At l₀ l₁ l₂ l₃ l₄ l₅ l₆ l₇ l₈ l₉ l₁₀ l₁₁ l₁₂ l₁₃ l₁₄ l₁₅ l₁₆ l₁₇ l₁₈ u n i =
+    abbrev At : (ℕ → ℕ) → Share → (n : ℕ) → At′ n → List (Item 𝓤)
+    At l u n i =
         ‵ (row T.the-row u ys b o) ∷ ‵ (fobor κ q (Lent u)) ∷ ‵ (fshr-bor κ Lent) ∷ ‵ (fres γ (codedHoleys T.the-row .code (heres T.the-row ys)))
-        ∷ ‵ (row u32 fullShare (i .0 .dues) l₄ 0) ∷ ‵ (row u8 fullShare (i .0 .bounds) l₅ 0) ∷ ‵ (row u8 fullShare (i .0 .marks) b′ o′)
+        ∷ ‵ (row u32 fullShare (i .0 .dues) (l 4) 0) ∷ ‵ (row u8 fullShare (i .0 .bounds) (l 5) 0) ∷ ‵ (row u8 fullShare (i .0 .marks) b′ o′)
         ∷ ‵ (fobor κ′ q′ (Held u8 (length ms) b′ o′ γ′)) ∷ ‵ (fobs γ′ (codedHoleys u8 .code (heres u8 ms))) ∷ ‵ (fauth γ′ (codedHoleys u8 .code (heres u8 ms)))
-        ∷ ‵ (froom (sliceTy (lent-ref (tyInt w8))) l₁₈ 0) ∷ ‵ (fdies (sliceTy (lent-ref (tyInt w8))) l₁₈)
-        ∷ ‵ (froom (lent-ref (tyInt w8)) l₁₇ 0) ∷ ‵ (fdies (lent-ref (tyInt w8)) l₁₇) ∷ ‵ (froom (sliceTy (lent-ref (tyInt w8))) l₁₆ 0)
-        ∷ ‵ (fdies (sliceTy (lent-ref (tyInt w8))) l₁₆) ∷ ‵ (froom (lent-ref (tyArray (tyInt w8) 512)) l₁₅ 0)
-        ∷ ‵ (fdies (lent-ref (tyArray (tyInt w8) 512)) l₁₅) ∷ ‵ (froom (sliceTy (lent-ref (tyInt w32))) l₁₄ 0)
-        ∷ ‵ (fdies (sliceTy (lent-ref (tyInt w32))) l₁₄) ∷ ‵ (froom (lent-ref (tyArray (tyInt w32) 512)) l₁₃ 0)
-        ∷ ‵ (fdies (lent-ref (tyArray (tyInt w32) 512)) l₁₃) ∷ ‵ (froom T′.mir l₁₂ 0) ∷ ‵ (fdies T′.mir l₁₂) ∷ ‵ (froom tyPtr l₁₁ 0)
-        ∷ ‵ (fdies tyPtr l₁₁) ∷ ‵ (froom (tyInt w64) l₁₀ 0) ∷ ‵ (fdies (tyInt w64) l₁₀) ∷ ‵ (froom tyBool l₉ 0) ∷ ‵ (fdies tyBool l₉)
-        ∷ ‵ (froom (tyInt w64) l₈ 0) ∷ ‵ (fdies (tyInt w64) l₈) ∷ ‵ (fat fullShare (tyInt w64) l₇ 0 (vint w64 (i .0 .x)))
-        ∷ ‵ (fdies (tyInt w64) l₇) ∷ ‵ (fat fullShare S′.mir l₆ 0 (i .1 .0)) ∷ ‵ (fdies S′.mir l₆) ∷ ‵ (fdies (tyArray (tyInt w8) 512) l₅)
-        ∷ ‵ (fdies (tyArray (tyInt w32) 512) l₄) ∷ ‵ (fat fullShare (tyInt w64) l₃ 0 (vint w64 n)) ∷ ‵ (fdies (tyInt w64) l₃)
-        ∷ ‵ (fat fullShare marks-ty l₂ 0 sm) ∷ ‵ (fdies marks-ty l₂) ∷ ‵ (fat fullShare nodes-ty l₁ 0 s) ∷ ‵ (fdies nodes-ty l₁)
-        ∷ ‵ (froom tyBool l₀ 0) ∷ ‵ (fdies tyBool l₀) ∷ []
+        ∷ ‵ (froom (sliceTy (lent-ref (tyInt w8))) (l 18) 0) ∷ ‵ (fdies (sliceTy (lent-ref (tyInt w8))) (l 18))
+        ∷ ‵ (froom (lent-ref (tyInt w8)) (l 17) 0) ∷ ‵ (fdies (lent-ref (tyInt w8)) (l 17))
+        ∷ ‵ (froom (sliceTy (lent-ref (tyInt w8))) (l 16) 0) ∷ ‵ (fdies (sliceTy (lent-ref (tyInt w8))) (l 16))
+        ∷ ‵ (froom (lent-ref (tyArray (tyInt w8) 512)) (l 15) 0) ∷ ‵ (fdies (lent-ref (tyArray (tyInt w8) 512)) (l 15))
+        ∷ ‵ (froom (sliceTy (lent-ref (tyInt w32))) (l 14) 0) ∷ ‵ (fdies (sliceTy (lent-ref (tyInt w32))) (l 14))
+        ∷ ‵ (froom (lent-ref (tyArray (tyInt w32) 512)) (l 13) 0) ∷ ‵ (fdies (lent-ref (tyArray (tyInt w32) 512)) (l 13))
+        ∷ ‵ (froom T′.mir (l 12) 0) ∷ ‵ (fdies T′.mir (l 12)) ∷ ‵ (froom tyPtr (l 11) 0) ∷ ‵ (fdies tyPtr (l 11))
+        ∷ ‵ (froom (tyInt w64) (l 10) 0) ∷ ‵ (fdies (tyInt w64) (l 10)) ∷ ‵ (froom tyBool (l 9) 0) ∷ ‵ (fdies tyBool (l 9))
+        ∷ ‵ (froom (tyInt w64) (l 8) 0) ∷ ‵ (fdies (tyInt w64) (l 8)) ∷ ‵ (fat fullShare (tyInt w64) (l 7) 0 (vint w64 (i .0 .x)))
+        ∷ ‵ (fdies (tyInt w64) (l 7)) ∷ ‵ (fat fullShare S′.mir (l 6) 0 (i .1 .0)) ∷ ‵ (fdies S′.mir (l 6))
+        ∷ ‵ (fdies (tyArray (tyInt w8) 512) (l 5)) ∷ ‵ (fdies (tyArray (tyInt w32) 512) (l 4))
+        ∷ ‵ (fat fullShare (tyInt w64) (l 3) 0 (vint w64 n)) ∷ ‵ (fdies (tyInt w64) (l 3)) ∷ ‵ (fat fullShare marks-ty (l 2) 0 sm)
+        ∷ ‵ (fdies marks-ty (l 2)) ∷ ‵ (fat fullShare nodes-ty (l 1) 0 s) ∷ ‵ (fdies nodes-ty (l 1)) ∷ ‵ (froom tyBool (l 0) 0)
+        ∷ ‵ (fdies tyBool (l 0)) ∷ []
 
     walk : Room T.the-row (length ys) → Room u8 (length ms) → Unmarked ms
         → ent 𝓤 (onEntry 𝓤 H A held′.signature (κ, (κ′, tt)) (q, (q′, tt)) a vals) (WpFn 𝓤 H (𝓣 .C) (𝓣 .Λ) code.function (s ∷ sm ∷ []) Post)
     walk room rm none =
         let long = none .long in
         qed W ((‵ (flft κ q) ⊛ ‵ (flft κ′ q′) ⊛ ‵ ftrue) ∷ ‵ (owns (ShrSlice (named 0) κ T.the-row ∷ MutSlice (named 1) κ′ u8 ∷ []) a vals) ∷ []) ∵
-        enter ! (𝓣 .C) (𝓣 .Λ) code.function (s ∷ sm ∷ []) _ $ alloc1 ! (λ l₀. alloc1 ! (λ l₁. alloc1 ! (λ l₂. alloc1 ! (λ l₃. alloc1 ! (λ l₄. alloc1 !
-        (λ l₅. alloc1 ! (λ l₆. alloc1 ! (λ l₇. alloc1 ! (λ l₈. alloc1 ! (λ l₉. alloc1 ! (λ l₁₀. alloc1 ! (λ l₁₁. alloc1 ! (λ l₁₂. alloc1 ! (λ l₁₃.
-        alloc1 ! (λ l₁₄. alloc1 ! (λ l₁₅. alloc1 ! (λ l₁₆. alloc1 ! (λ l₁₇. alloc1 ! (λ l₁₈. alloc0 ! $ params1 ! $ pass1 ! (init ! 34 refl (sized
-        (room .0))) $ pass1 ! (init ! 32 refl (sized (rm .0))) $ pass0 ! $ sets ! (of-opd ! (load ! (from ! (fld ! refl (stop !))) (look-in ! 34 (sub
-        ! 1 refl (whole !))))) 20 refl (tt, record { fits = room .0 }) $ use0 W (raw (Reach 𝓤 H A mem run .pre to-reach)) (goes-reach (room .0)) $
-        calls-at ! (fmOf 𝓤 H (W .laws) 𝓣) (Reach 𝓤 H A mem run) known-reach to-reach (and-then ! (var ! 21 refl) (no-more !)) (λ v₃. answers ! tt
-        usize v₃ (‵ ftrue) (λ (zs : Unit {0} × Unit {0}). lasts re.ended tt (length ys, tt) zs) (λ m zs. m ≡ min (length ys) gone) (id⊢ 𝓤 _) (λ n zs₃
-        isn en. drop ! $ drop ! $ result ! 30 refl (uint-lawful 𝓤 H A W w64 .typed n _ isn .0) $ rewrite ! 30 (λ (z : Val). ‵ (fat fullShare (tyInt
-        w64) l₃ 0 z)) (ap only (isn .0)) refl $
+        enter ! (𝓣 .C) (𝓣 .Λ) code.function (s ∷ sm ∷ []) _ $ alloc1 ! (λ l₀. alloc1 ! (λ l₁. alloc1 ! (λ l₂. alloc1 ! (λ l₃. alloc1 ! (λ l₄.
+        alloc1 ! (λ l₅. alloc1 ! (λ l₆. alloc1 ! (λ l₇. alloc1 ! (λ l₈. alloc1 ! (λ l₉. alloc1 ! (λ l₁₀. alloc1 ! (λ l₁₁. alloc1 ! (λ l₁₂.
+        alloc1 ! (λ l₁₃. alloc1 ! (λ l₁₄. alloc1 ! (λ l₁₅. alloc1 ! (λ l₁₆. alloc1 ! (λ l₁₇. alloc1 ! (λ l₁₈. alloc0 ! $ params1 ! $
+        pass1 ! (init ! 34 refl (sized (room .0))) $ pass1 ! (init ! 32 refl (sized (rm .0))) $ pass0 ! $
+        sets ! (of-opd ! (load ! (from ! (fld ! refl (stop !))) (look-in ! 34 (sub ! 1 refl (whole !))))) 20 refl (tt, record { fits = room .0 }) $
+        use0 W (raw (Reach 𝓤 H A mem run .pre to-reach)) (goes-reach (room .0)) $
+        calls-at ! (fmOf 𝓤 H (W .laws) 𝓣) (Reach 𝓤 H A mem run) known-reach to-reach (and-then ! (var ! 21 refl) (no-more !)) (λ v₃.
+        answers ! tt usize v₃ (‵ ftrue) (λ (zs : Unit {0} × Unit {0}). lasts re.ended tt (length ys, tt) zs) (λ m zs. m ≡ min (length ys) gone) (id⊢ 𝓤
+        _) (λ n zs₃ isn en. drop ! $ drop ! $ result ! 30 refl (uint-lawful 𝓤 H A W w64 .typed n _ isn .0) $
+        rewrite ! 30 (λ (z : Val). ‵ (fat fullShare (tyInt w64) l₃ 0 z)) (ap only (isn .0)) refl $
         -- the arrays
-        owned ! u32 (Is u32) (uint-makes 𝓤 H A W w32) 0 (vint w32 0 ∷ []) (refl, lit< tt) $ use1 W (‵ (Array u32 512 .own zeros (zero-vals w32 ∷ [])))
-        (array-repeat 𝓤 H A W u32 (uint-copy 𝓤 H A W w32) 512 0 (vint w32 0)) $ peeks ! (Array u32 512) (Is (Array u32 512)) (shows 𝓤 H A (Array u32
-        512)) zeros (zero-vals w32 ∷ []) (λ isD. sets ! (rep ! 512 (lit ! tt)) 29 refl (array-lawful 𝓤 H A W u32 (uint-lawful 𝓤 H A W w32) 512 .typed
-        zeros (zero-vals w32 ∷ []) isD .0) $ move ! (29 ∷ 0 ∷ []) $ use2 W (given (length zeros ≡ 512) (‵ (row u32 fullShare zeros l₄ 0))) (spread 𝓤 H
-        A W u32 tt 512 zeros l₄ (zero-vals w32)) $ learn ! (λ lenD. owned ! u8 (Is u8) (uint-makes 𝓤 H A W w8) 0 (vint w8 0 ∷ []) (refl, lit< tt) $
-        use1 W (‵ (Array u8 512 .own zeros (zero-vals w8 ∷ []))) (array-repeat 𝓤 H A W u8 (uint-copy 𝓤 H A W w8) 512 0 (vint w8 0)) $ peeks ! (Array
-        u8 512) (Is (Array u8 512)) (shows 𝓤 H A (Array u8 512)) zeros (zero-vals w8 ∷ []) (λ isB. sets ! (rep ! 512 (lit ! tt)) 28 refl (array-lawful
-        𝓤 H A W u8 (uint-lawful 𝓤 H A W w8) 512 .typed zeros (zero-vals w8 ∷ []) isB .0) $ move ! (28 ∷ 0 ∷ []) $ use2 W (given (length zeros ≡ 512)
-        (‵ (row u8 fullShare zeros l₅ 0))) (spread 𝓤 H A W u8 tt 512 zeros l₅ (zero-vals w8)) $ learn ! (λ lenB.
+        owned ! u32 (Is u32) (uint-makes 𝓤 H A W w32) 0 (vint w32 0 ∷ []) (refl, lit< tt) $
+        repeats ! u32 tt (uint-copy 𝓤 H A W w32) (uint-lawful 𝓤 H A W w32) 512 0 (vint w32 0) (lit ! tt) refl 28 refl (λ lenD.
+        owned ! u8 (Is u8) (uint-makes 𝓤 H A W w8) 0 (vint w8 0 ∷ []) (refl, lit< tt) $
+        repeats ! u8 tt (uint-copy 𝓤 H A W w8) (uint-lawful 𝓤 H A W w8) 512 0 (vint w8 0) (lit ! tt) refl 27 refl (λ lenB.
         -- where the walk starts
-        use0 W (raw (Start 𝓤 H A mem run .pre (to-start 𝓤 H A mem run))) (goes-start 𝓤 H A mem run W) $ calls-at ! (fmOf 𝓤 H (W .laws) 𝓣) (Start 𝓤 H A
-        mem run) known-start (to-start 𝓤 H A mem run) (no-more !) (λ v₆. answers ! tt S.the-row v₆ (‵ ftrue) (λ (zs : Unit {0}). lasts sr.ended tt tt
-        zs) (λ z zs. z ≡ start) (id⊢ 𝓤 _) (λ s₀ zs₆ iss es. drop ! $ drop ! $ result ! 26 refl (typedS s₀ v₆ iss) $ let n-fits = isn .1 in let le : n
-        ≤ gone = omega (arith, en) in use0 W (raw (Ask 𝓤 H A mem run .pre (to-ask n s₀ v₆))) (goes-ask n n-fits le s₀ v₆ iss) $ calls-at ! (fmOf 𝓤 H
-        (W .laws) 𝓣) (Ask 𝓤 H A mem run) known-ask (to-ask n s₀ v₆) (and-then ! (var ! 27 refl) (and-then ! (var ! 31 refl) (no-more !))) (λ v₇.
+        use0 W (raw (Start 𝓤 H A mem run .pre (to-start 𝓤 H A mem run))) (goes-start 𝓤 H A mem run W) $
+        calls-at ! (fmOf 𝓤 H (W .laws) 𝓣) (Start 𝓤 H A mem run) known-start (to-start 𝓤 H A mem run) (no-more !) (λ v₆.
+        answers ! tt S.the-row v₆ (‵ ftrue) (λ (zs : Unit {0}). lasts sr.ended tt tt zs) (λ z zs. z ≡ start) (id⊢ 𝓤 _) (λ s₀ zs₆ iss es. drop ! $
+        drop ! $ result ! 26 refl (typedS s₀ v₆ iss) $ let n-fits = isn .1 in let le : n ≤ gone = omega (arith, en) in
+        use0 W (raw (Ask 𝓤 H A mem run .pre (to-ask n s₀ v₆))) (goes-ask n n-fits le s₀ v₆ iss) $
+        calls-at ! (fmOf 𝓤 H (W .laws) 𝓣) (Ask 𝓤 H A mem run) known-ask (to-ask n s₀ v₆) (and-then ! (var ! 27 refl) (and-then ! (var ! 31 refl)
+        (no-more !))) (λ v₇.
         answers ! tt usize v₇ (‵ ftrue) (λ (zs : Unit {0} × (Unit {0} × Unit {0})). lasts ak.ended tt (s₀, (n, tt)) zs) (λ y zs. Asked s₀ n y) (id⊢ 𝓤
-        _) (λ x₀ zs₇ isx ax. drop ! $ drop ! $ result ! 24 refl (uint-lawful 𝓤 H A W w64 .typed x₀ _ isx .0) $ rewrite ! 24 (λ (z : Val). ‵ (fat
-        fullShare (tyInt w64) l₇ 0 z)) (ap only (isx .0)) refl $
+        _) (λ x₀ zs₇ isx ax. drop ! $ drop ! $ result ! 24 refl (uint-lawful 𝓤 H A W w64 .typed x₀ _ isx .0) $
+        rewrite ! 24 (λ (z : Val). ‵ (fat fullShare (tyInt w64) l₇ 0 z)) (ap only (isx .0)) refl $
         -- the records' borrow is looked into, and that of the marks is opened
-        move ! (39 ∷ []) $ fsplit ! $ fsplit ! $ drop ! $ fsplit ! $ move ! (41 ∷ []) $ split ! $ move ! (3 ∷ 0 ∷ []) $ looks-slice ! tt T.the-row (Is
-        T.the-row) (shows 𝓤 H A T.the-row) (LL.vals T.the-type T′.the-laws) (LL.tells T.the-type T′.the-laws) (LL.copy T.the-type T′.the-copy 𝓤 H A W)
-        ys b o (λ u. move ! (5 ∷ []) $ fsplit ! $ fsplit ! $ drop ! $ fsplit ! $ move ! (6 ∷ []) $ split ! $ move ! (2 ∷ 3 ∷ 0 ∷ []) $ opens-slice !
-        tt u8 ms b′ o′ $ forget ! 32 refl $ keep ! (6 ∷ 7 ∷ 8 ∷ 9 ∷ 11 ∷ 10 ∷ 0 ∷ 1 ∷ 2 ∷ 3 ∷ span 12 36) $ whiles ! 𝓣 (Later n) (later-wf n) (At l₀
-        l₁ l₂ l₃ l₄ l₅ l₆ l₇ l₈ l₉ l₁₀ l₁₁ l₁₂ l₁₃ l₁₄ l₁₅ l₁₆ l₁₇ l₁₈ u n) (λ i P ways. let p = i .0 in
+        move ! (39 ∷ []) $ fsplit ! $ fsplit ! $ drop ! $ fsplit ! $ move ! (41 ∷ []) $ split ! $ move ! (3 ∷ 0 ∷ []) $
+        looks-slice ! tt T.the-row (Is T.the-row) (shows 𝓤 H A T.the-row) (LL.vals T.the-type T′.the-laws) (LL.tells T.the-type T′.the-laws) (LL.copy
+        T.the-type T′.the-copy 𝓤 H A W) ys b o (λ u. move ! (5 ∷ []) $ fsplit ! $ fsplit ! $ drop ! $ fsplit ! $ move ! (6 ∷ []) $ split ! $
+        move ! (2 ∷ 3 ∷ 0 ∷ []) $ opens-slice ! tt u8 ms b′ o′ $ forget ! 32 refl $
+        keep ! (6 ∷ 7 ∷ 8 ∷ 9 ∷ 11 ∷ 10 ∷ 0 ∷ 1 ∷ 2 ∷ 3 ∷ span 12 36) $
+        let l : ℕ → ℕ = λ i. getD (l₀ ∷ l₁ ∷ l₂ ∷ l₃ ∷ l₄ ∷ l₅ ∷ l₆ ∷ l₇ ∷ l₈ ∷ l₉ ∷ l₁₀ ∷ l₁₁ ∷ l₁₂ ∷ l₁₃ ∷ l₁₄ ∷ l₁₅ ∷ l₁₆ ∷ l₁₇ ∷ l₁₈ ∷ []) i 0 in
+        whiles ! 𝓣 (Later n) (later-wf n) (At l u n) (λ i P ways.
+        let p = i .0 in
         -- [rowT; oborT; shrbor; res; rowD; rowB; rowM; oborM; obs; auth; _18 (10); …]
-        sets ! (bin ! (var ! 32 refl) (var ! 38 refl) tt) 28 refl (tt, tt) $ tests ! (var ! 28 refl)
-        (λ less. let h = ltb→lt (p .x) n less in let h′ = is-record ys n en h in sets ! (bin ! (var ! 32 refl) (lit ! tt) (record {
-          fits = start-fits
-              (p .x) (length ys) h′ (room .1);
-        })) 26 refl (tt, record { fits = start-fits (p .x) (length ys) h′ (room .1) }) $ sets ! (bin ! (load ! (from !
-        (fld ! refl (stop !))) (look-in ! 42 (sub ! 0 refl (whole !)))) (var ! 26 refl) tt) 24 refl (tt, tt) $ rewrite ! 24 (λ (z : ℕ). ‵ (fat
-        fullShare tyPtr l₁₁ 0 (vptr b z))) (sym (place-is 24 o (p .x))) refl $ elem-out ! T.the-row (Is T.the-row) (shows 𝓤 H A T.the-row) (LL.vals
-        T.the-type T′.the-laws) (LL.tells T.the-type T′.the-laws) u ys (p .x) blank b o h′ (λ isd. sets ! (of-opd ! (load ! (from ! (hop ! (look ! 26
-        refl) (stop !))) (look-raw ! 0 refl))) 24 refl (LL.lawful T.the-type T′.the-laws 𝓤 H A W .typed (f (p .x)) _ isd .0) $ elem-back ! T.the-row u
-        ys (p .x) blank (T′.lowered (f (p .x)) ∷ []) b o h′ $ sets ! (addr ! (from ! (stop !))) 20 refl (tt, tt) $ sets ! (agg ! (and-then ! (var ! 20
-        refl) (and-then ! (lit ! tt) (no-more !)))) 18 refl (sized (lit< tt)) $ sets ! (addr ! (from ! (stop !))) 16 refl (tt, tt) $ sets ! (agg !
-        (and-then ! (var ! 16 refl) (and-then ! (lit ! tt) (no-more !)))) 14 refl (sized (lit< tt)) $ sets ! (addr ! (from ! (fld ! refl (hop !
-        (look-in ! 40 (sub ! 0 refl (whole !))) (stop !))))) 12 refl (tt, tt) $ sets ! (agg ! (and-then ! (var ! 12 refl) (and-then ! (load ! (from !
-        (fld ! refl (stop !))) (look-in ! 40 (sub ! 1 refl (whole !)))) (no-more !)))) 10 refl (sized (rm .0)) $
+        sets ! (bin ! (var ! 32 refl) (var ! 38 refl) tt) 28 refl (tt, tt) $
+        tests ! (var ! 28 refl)
+        (λ less. let h = ltb→lt (p .x) n less in let h′ = is-record ys n en h in
+        sets ! (bin ! (var ! 32 refl) (lit ! tt) (record { fits = start-fits (p .x) (length ys) h′ (room .1) })) 26 refl (
+          tt,
+          record {
+            fits =
+                start-fits (p .x) (length ys) h′ (room .1);
+          },
+        ) $
+        sets ! (bin ! (load ! (from ! (fld ! refl (stop !))) (look-in ! 42 (sub ! 0 refl (whole !)))) (var ! 26 refl) tt) 24 refl (tt, tt) $
+        rewrite ! 24 (λ (z : ℕ). ‵ (fat fullShare tyPtr l₁₁ 0 (vptr b z))) (sym (place-is 24 o (p .x))) refl $
+        elem-out ! T.the-row (Is T.the-row) (shows 𝓤 H A T.the-row) (LL.vals T.the-type T′.the-laws) (LL.tells T.the-type T′.the-laws) u ys (p .x)
+        blank b o h′ (λ isd.
+        sets ! (of-opd ! (load ! (from ! (hop ! (look ! 26 refl) (stop !))) (look-raw ! 0 refl))) 24 refl (LL.lawful T.the-type T′.the-laws 𝓤 H A W
+        .typed (f (p .x)) _ isd .0) $ elem-back ! T.the-row u ys (p .x) blank (T′.lowered (f (p .x)) ∷ []) b o h′ $
+        sets ! (addr ! (from ! (stop !))) 20 refl (tt, tt) $
+        sets ! (agg ! (and-then ! (var ! 20 refl) (and-then ! (lit ! tt) (no-more !)))) 18 refl (sized (lit< tt)) $
+        sets ! (addr ! (from ! (stop !))) 16 refl (tt, tt) $
+        sets ! (agg ! (and-then ! (var ! 16 refl) (and-then ! (lit ! tt) (no-more !)))) 14 refl (sized (lit< tt)) $
+        sets ! (addr ! (from ! (fld ! refl (hop ! (look-in ! 40 (sub ! 0 refl (whole !))) (stop !))))) 12 refl (tt, tt) $
+        sets ! (agg ! (and-then ! (var ! 12 refl) (and-then ! (load ! (from ! (fld ! refl (stop !))) (look-in ! 40 (sub ! 1 refl (whole !)))) (no-more
+        !)))) 10 refl (sized (rm .0)) $
         -- the rows are lent for lifetimes of the call
-        move ! (4 ∷ []) $ lends-mut ! tt u32 (named 0) (p .dues) l₄ 0 512 (p .few-dues) (lit< tt, lit< tt) (λ ν δ. move ! (7 ∷ []) $ lends-mut ! tt u8
-        (named 1) (p .bounds) l₅ 0 512 (p .few-bounds) (lit< tt, lit< tt) (λ ν′ δ′. move ! (10 ∷ []) $ lends-mut ! tt u8 (named 2) (p .marks) b′ o′
-        (length ms) (p .few-marks) rm (λ ν″ δ″. move ! (8 ∷ 5 ∷ 2 ∷ 6 ∷ 3 ∷ 0 ∷ []) $ group ! 6 $ let gh = to-turn ν ν′ ν″ l₄ l₅ δ δ′ δ″ p (i .1 .0)
-        in use1 W (raw (Turn 𝓤 H A mem run .pre gh)) (goes-turn ν ν′ ν″ l₄ l₅ δ δ′ δ″ p (i .1 .0) (i .1 .1 .0) isd (ready ys n en long p h)) $
+        move ! (4 ∷ []) $ lends-mut ! tt u32 (named 0) (p .dues) l₄ 0 512 (p .few-dues) (lit< tt, lit< tt) (λ ν δ. move ! (7 ∷ []) $
+        lends-mut ! tt u8 (named 1) (p .bounds) l₅ 0 512 (p .few-bounds) (lit< tt, lit< tt) (λ ν′ δ′. move ! (10 ∷ []) $
+        lends-mut ! tt u8 (named 2) (p .marks) b′ o′ (length ms) (p .few-marks) rm (λ ν″ δ″. move ! (8 ∷ 5 ∷ 2 ∷ 6 ∷ 3 ∷ 0 ∷ []) $ group ! 6 $
+        let gh = to-turn ν ν′ ν″ l₄ l₅ δ δ′ δ″ p (i .1 .0) in
+        use1 W (raw (Turn 𝓤 H A mem run .pre gh)) (goes-turn ν ν′ ν″ l₄ l₅ δ δ′ δ″ p (i .1 .0) (i .1 .1 .0) isd (ready ys n en long p h)) $
         calls-at ! (fmOf 𝓤 H (W .laws) 𝓣) (Turn 𝓤 H A mem run) known-turn gh (and-then ! (var ! 35 refl) (and-then ! (var ! 23 refl) (and-then ! (var
-        ! 19 refl) (and-then ! (var ! 15 refl) (and-then ! (var ! 11 refl) (no-more !)))))) (λ w. answers ! tt S.the-row w (‵ (flft (ν ∷ [])
-        fullShare) ⊛ ‵ (flft (ν′ ∷ []) fullShare) ⊛ ‵ (flft (ν″ ∷ []) fullShare) ⊛ ‵ ftrue) (λ (zs : Lasts). lasts tu.ended (gh .0 .0) (gh .0 .3) zs)
-        (λ r zs. Turned (p .s) (f (p .x)) (p .dues) (p .bounds) (p .marks) (zs .1 .1 .0) (zs .1 .1 .1 .0) (zs .1 .1 .1 .1 .0) r) (id⊢ 𝓤 _) (λ r zs isr
-        t. land ! (from ! (stop !)) (store ! 36 refl (typedS r w isr)) $ split ! $ move ! (1 ∷ []) $ split ! $ move ! (1 ∷ []) $ split ! $ move ! (4 ∷
-        []) $ fsplit ! $ move ! (1 ∷ []) $ fsplit ! $ move ! (1 ∷ []) $ fsplit ! $ move ! (1 ∷ []) $ fsplit ! $ move ! (1 ∷ []) $ fsplit ! $ move ! (3
-        ∷ []) $ fsplit ! $ move ! (1 ∷ []) $ feqL ! (λ kD. move ! (3 ∷ []) $ fsplit ! $ move ! (1 ∷ []) $ feqL ! (λ kB. move ! (2 ∷ []) $ fsplit ! $
-        move ! (1 ∷ []) $ feqL ! (λ kM.
+        ! 19 refl) (and-then ! (var ! 15 refl) (and-then ! (var ! 11 refl) (no-more !)))))) (λ w.
+        answers ! tt S.the-row w (‵ (flft (ν ∷ []) fullShare) ⊛ ‵ (flft (ν′ ∷ []) fullShare) ⊛ ‵ (flft (ν″ ∷ []) fullShare) ⊛ ‵ ftrue) (λ (zs :
+        Lasts). lasts tu.ended (gh .0 .0) (gh .0 .3) zs) (λ r zs. Turned (p .s) (f (p .x)) (p .dues) (p .bounds) (p .marks) (zs .1 .1 .0) (zs .1 .1 .1
+        .0) (zs .1 .1 .1 .1 .0) r) (id⊢ 𝓤 _) (λ r zs isr t.
+        land ! (from ! (stop !)) (store ! 36 refl (typedS r w isr)) $ split ! $ move ! (1 ∷ []) $ split ! $ move ! (1 ∷ []) $ split ! $
+        move ! (4 ∷ []) $ fsplit ! $ move ! (1 ∷ []) $ fsplit ! $ move ! (1 ∷ []) $ fsplit ! $ move ! (1 ∷ []) $ fsplit ! $ move ! (1 ∷ []) $
+        fsplit ! $ move ! (3 ∷ []) $ fsplit ! $ move ! (1 ∷ []) $ feqL ! (λ kD. move ! (3 ∷ []) $ fsplit ! $ move ! (1 ∷ []) $ feqL ! (λ kB.
+        move ! (2 ∷ []) $ fsplit ! $ move ! (1 ∷ []) $ feqL ! (λ kM.
         -- the lifetimes are ended, and the rows come back
-        move ! (9 ∷ 12 ∷ 2 ∷ []) $ ends-mut ! tt u32 (zs .1 .1 .0) l₄ 0 $ move ! (8 ∷ 10 ∷ 2 ∷ []) $ ends-mut ! tt u8 (zs .1 .1 .1 .0) l₅ 0 $ move !
-        (6 ∷ 8 ∷ 2 ∷ []) $ ends-mut ! tt u8 (zs .1 .1 .1 .1 .0) b′ o′ $ use0 W (raw (Ask 𝓤 H A mem run .pre (to-ask n r w))) (goes-ask n n-fits le r w
-        isr) $ calls-at-last ! (fmOf 𝓤 H (W .laws) 𝓣) (Ask 𝓤 H A mem run) known-ask (to-ask n r w) (and-then ! (var ! 39 refl) (and-then ! (var ! 43
-        refl) (no-more !))) (λ w₂. answers ! tt usize w₂ (‵ ftrue) (λ (zs : Unit {0} × (Unit {0} × Unit {0})). lasts ak.ended tt (r, (n, tt)) zs) (λ y
-        zs. Asked r n y) (id⊢ 𝓤 _) (λ x′ zs₇ isx′ ax′. drop ! $ drop ! $ land-last ! (from ! (stop !)) (store ! 36 refl (uint-lawful 𝓤 H A W w64
-        .typed x′ _ isx′ .0)) $ rewrite ! 36 (λ (z : Val). ‵ (fat fullShare (tyInt w64) l₇ 0 z)) (ap only (isx′ .0)) refl $ forget ! 32 refl $ forget
-        ! 30 refl $ forget ! 28 refl $ forget ! 26 refl $ forget ! 24 refl $ forget ! 22 refl $ forget ! 20 refl $ forget ! 18 refl $ forget ! 16 refl
-        $ forget ! 14 refl $ keep ! (7 ∷ 8 ∷ 9 ∷ 10 ∷ 2 ∷ 1 ∷ 0 ∷ span 11 39) $ ways .end ! $ again ! (Later n) (At l₀ l₁ l₂ l₃ l₄ l₅ l₆ l₇ l₈ l₉ l₁₀
-        l₁₁ l₁₂ l₁₃ l₁₄ l₁₅ l₁₆ l₁₇ l₁₈ u n) i (next ys n en long p h t kD kB kM ax′, (w, (isr, isx′ .1))) (nearer-end ys n en long p h t)))))))))))))
+        move ! (9 ∷ 12 ∷ 2 ∷ []) $ ends-mut ! tt u32 (zs .1 .1 .0) l₄ 0 $ move ! (8 ∷ 10 ∷ 2 ∷ []) $
+        ends-mut ! tt u8 (zs .1 .1 .1 .0) l₅ 0 $ move ! (6 ∷ 8 ∷ 2 ∷ []) $
+        ends-mut ! tt u8 (zs .1 .1 .1 .1 .0) b′ o′ $ use0 W (raw (Ask 𝓤 H A mem run .pre (to-ask n r w))) (goes-ask n n-fits le r w isr) $
+        calls-at-last ! (fmOf 𝓤 H (W .laws) 𝓣) (Ask 𝓤 H A mem run) known-ask (to-ask n r w) (and-then ! (var ! 39 refl) (and-then ! (var ! 43 refl)
+        (no-more !))) (λ w₂.
+        answers ! tt usize w₂ (‵ ftrue) (λ (zs : Unit {0} × (Unit {0} × Unit {0})). lasts ak.ended tt (r, (n, tt)) zs) (λ y zs. Asked r n y) (id⊢ 𝓤 _)
+        (λ x′ zs₇ isx′ ax′. drop ! $ drop ! $ land-last ! (from ! (stop !)) (store ! 36 refl (uint-lawful 𝓤 H A W w64 .typed x′ _ isx′ .0)) $
+        rewrite ! 36 (λ (z : Val). ‵ (fat fullShare (tyInt w64) l₇ 0 z)) (ap only (isx′ .0)) refl $ forget ! 32 refl $ forget ! 30 refl $
+        forget ! 28 refl $ forget ! 26 refl $ forget ! 24 refl $ forget ! 22 refl $ forget ! 20 refl $ forget ! 18 refl $ forget ! 16 refl $
+        forget ! 14 refl $ keep ! (7 ∷ 8 ∷ 9 ∷ 10 ∷ 2 ∷ 1 ∷ 0 ∷ span 11 39) $
+        ways .end ! $ again ! (Later n) (At l u n) i (next ys n en long p h t kD kB kM ax′, (w, (isr, isx′ .1))) (nearer-end ys n en long p h
+        t)))))))))))))
         -- the loop is left
-        (λ over. let h = nltb→le (p .x) n over in ways .out ! $ sets ! (bin ! (var ! 38 refl) (var ! 32 refl) tt) 44 refl (tt, tt) $ shuts-slice ! tt
-        T.the-row u ys b o $ move ! (5 ∷ 6 ∷ 7 ∷ 8 ∷ []) $ closes-slice ! tt u8 ms (p .marks) (p .few-marks) b′ o′ $ move ! (6 ∷ []) $ use1 W (some (λ
-        (z : Val). ‵ (fat fullShare (tyArray (tyInt w32) 512) l₄ 0 z) ⊛ ‵ (Array u32 512 .own (p .dues) (z ∷ [])))) (gather 𝓤 H A W u32 tt 512 (p
-        .dues) l₄ (p .few-dues)) $ pick ! (λ zD. split ! $ move ! (8 ∷ []) $ use1 W (some (λ (z : Val). ‵ (fat fullShare (tyArray (tyInt w8) 512) l₅ 0
-        z) ⊛ ‵ (Array u8 512 .own (p .bounds) (z ∷ [])))) (gather 𝓤 H A W u8 tt 512 (p .bounds) l₅ (p .few-bounds)) $ pick ! (λ zB. split ! $ keep !
-        (4 ∷ 5 ∷ 6 ∷ 7 ∷ 8 ∷ 9 ∷ 10 ∷ 11 ∷ 12 ∷ 13 ∷ 14 ∷ 15 ∷ 16 ∷ 17 ∷ 18 ∷ 19 ∷ 20 ∷ 21 ∷ 22 ∷ 23 ∷ 24 ∷ 25 ∷ 26 ∷ 27 ∷ 28 ∷ 29 ∷ 30 ∷ 31 ∷ 32 ∷ 33
-        ∷ 34 ∷ 35 ∷ 0 ∷ 36 ∷ 2 ∷ span 37 9) $ returns ! (look ! 42 refl) $ frees ! 42 refl refl $ frees ! 40 refl refl $ frees ! 38 refl refl $ frees
-        ! 36 refl refl $ frees ! 34 refl refl $ frees ! 32 refl refl $ frees ! 30 refl refl $ frees ! 28 refl refl $ frees-room ! 26 refl refl $ frees
-        ! 24 refl refl $ frees-room ! 22 refl refl $ frees-room ! 20 refl refl $ frees-room ! 18 refl refl $ frees-room ! 16 refl refl $ frees-room !
-        14 refl refl $ frees-room ! 12 refl refl $ frees-room ! 10 refl refl $ frees-room ! 8 refl refl $ frees-room ! 6 refl refl $ free0 ! $ by !
-        (exits n en long p h room rm))))) (first ys n en none es ax, (v₆, (iss, isx .1)))))))))))))))))))))))))))))))))
+        (λ over. let h = nltb→le (p .x) n over in ways .out ! $
+        sets ! (bin ! (var ! 38 refl) (var ! 32 refl) tt) 44 refl (tt, tt) $
+        shuts-slice ! tt T.the-row u ys b o $ move ! (5 ∷ 6 ∷ 7 ∷ 8 ∷ []) $
+        closes-slice ! tt u8 ms (p .marks) (p .few-marks) b′ o′ $ move ! (6 ∷ []) $
+        use1 W (some (λ (z : Val). ‵ (fat fullShare (tyArray (tyInt w32) 512) l₄ 0 z) ⊛ ‵ (Array u32 512 .own (p .dues) (z ∷ [])))) (gather 𝓤 H A W
+        u32 tt 512 (p .dues) l₄ (p .few-dues)) $ pick ! (λ zD. split ! $ move ! (8 ∷ []) $
+        use1 W (some (λ (z : Val). ‵ (fat fullShare (tyArray (tyInt w8) 512) l₅ 0 z) ⊛ ‵ (Array u8 512 .own (p .bounds) (z ∷ [])))) (gather 𝓤 H A W u8
+        tt 512 (p .bounds) l₅ (p .few-bounds)) $ pick ! (λ zB. split ! $
+        keep ! (span 10 26 ++ (0 ∷ 36 ∷ 2 ∷ span 37 9 ++ (4 ∷ 5 ∷ 6 ∷ 7 ∷ 8 ∷ 9 ∷ []))) $
+        returns ! (look ! 36 refl) $
+        frees-all ! (valued _ _ _ ∷ valued _ _ _ ∷ valued _ _ _ ∷ valued _ _ _ ∷ valued _ _ _ ∷ valued _ _ _ ∷ valued _ _ _ ∷ valued _ _ _ ∷ vacant _
+        _ ∷ valued _ _ _ ∷ vacant _ _ ∷ vacant _ _ ∷ vacant _ _ ∷ vacant _ _ ∷ vacant _ _ ∷ vacant _ _ ∷ vacant _ _ ∷ vacant _ _ ∷ vacant _ _ ∷ []) $
+        by ! (exits n en long p h room rm))))) (first ys n en none es ax, (v₆, (iss, isx .1)))))))))))))))))))))))))))))))
 
 module _ {M : Type 1} (𝓤 : URA M) (H : Heap 𝓤) (A : Atoms 𝓤) (W : Given 𝓤 H A) (mem : Memory → SProp 𝓤) (run : Routine → Fun 𝓤) (𝓣 : Tables 𝓤 H)
     (k₁ : Triple 𝓤 (𝓣 .C #reach) (Reach 𝓤 H A mem run)) (k₂ : Triple 𝓤 (𝓣 .C #start) (Start 𝓤 H A mem run))
