@@ -8,9 +8,11 @@ use job::reads::full_at;
 use job::reads::half_at;
 use print::Out;
 use print::SIZE;
+ghost use mathlib.Core.Path.{_≡_};
 ghost use Prim.Native.Nat.{_+_, _<_, _≤_};
 ghost use lib.ListN.{length};
 ghost use Rattle.frames.specs.Bounds.{Fits};
+ghost use Rattle.frames.specs.Header.{headerAt};
 
 // What is read and what is to be written, from one frame to the next, and whether the input has ended.
 pub struct State {
@@ -172,7 +174,7 @@ pub struct Header {
 // The header from a place on: the size and the budget in 4 bytes each, the places and the lines in 2.
 pub fn read_header(head: &[u8], at: usize) -> Header
     requires { ⌜ at + 12 ≤ length (now head) ⌝ }
-    ensures { λ r. ⌜ (r .places < 65536) × (r .lines < 65536) ⌝ }
+    ensures { λ r. ⌜ (r ≡ headerAt (now (head .entry)) at) × ((r .places < 65536) × (r .lines < 65536)) ⌝ }
 {
     Header {
         size: full_at(head, at) as usize,
