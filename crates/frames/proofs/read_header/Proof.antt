@@ -6,9 +6,10 @@ use Rattle.frames.proofs.read_header.Tie as tie
 
 returns : tie.Need-returns
 unfolding headerAt
-returns c =
-    (rw (c .half-at2 .ensures .0, c .before .half-at .ensures .0, c .before .before .full-at2 .ensures, c .before .before .before .full-at .ensures),
-     (c .before .half-at .ensures .1, c .half-at2 .ensures .1))
+returns c = (
+  rw (c .half-at2 .ensures .0, c .before .half-at .ensures .0, c .before .before .full-at2 .ensures, c .before .before .before .full-at .ensures),
+  (c .before .half-at .ensures .1, c .half-at2 .ensures .1),
+)
 
 pub read-header-spec : {M : Type 1} → statement M
 read-header-spec =
