@@ -3,8 +3,7 @@
 use mathlib.Core.Path.{_≡_, ap, subst, _∙_}
 use Prim.Native.Nat.{ℕ, suc, _<_, _≤_}
 use native.Mathlib.Omega.{arith}
-use native.Mathlib.Decide.{ℕ-discrete}
-use Rattle.rules.specs.Tree.{Label, Forest, Side, child, sibling, Place, to, up, change, insert, count}
+use Rattle.rules.specs.Tree.{Label, Forest, Place, to, up, change, insert, count}
 use Rattle.table.specs.Cells.{cell, Table, gone, sideOf}
 use Rattle.table.specs.Holds.{Placed, empty, node, erase, head, Spare, hit, times, Holds}
 use Rattle.table.specs.Promises.{Leads, Added}
@@ -13,21 +12,12 @@ use Rattle.table.proofs.Counting.{hit-same, differ}
 use Rattle.table.proofs.Ways.{Way, step, pathOf, parentOf, wayTimes, plug-times}
 use Rattle.table.proofs.Focus.{Focus, whole}
 use Rattle.table.proofs.Unique.{placing, lives, one-lead}
-use Rattle.table.proofs.Links.{withLink, withCount, parent-there}
+use Rattle.table.proofs.Links.{withCount, link-count, same-count, parent-there}
 use Rattle.table.proofs.Changes.{loose, grow}
 use Rattle.table.proofs.Spares.{handed, found-room, refused}
 use Rattle.table.proofs.Moves.{few-above, to-above}
 use Rattle.table.proofs.Sides.{return, link-above, parent-above, at, way-on, forest-on, view-on}
 use Rattle.table.proofs.Words.{with-link, one-more}
-
--- a link leaves counts alone
-same-count : {m m′ : Table} {x : ℕ} (v : ℕ) (d : Side) → Put m m′ x (withLink d v (m x)) → (y : ℕ) → m′ y .children ≡ m y .children
-same-count {m} {m′} {x} v d p y = go d p (ℕ-discrete y x)
-  where
-    go : (d : Side) → Put m m′ x (withLink d v (m x)) → Dec (y ≡ x) → m′ y .children ≡ m y .children
-    go child p (yes q) = rw q (ap (λ a. a .children) (p .on))
-    go sibling p (yes q) = rw q (ap (λ a. a .children) (p .on))
-    go d p (no q) = ap (λ a. a .children) (p .off y q)
 
 -- the place y is linked in, with the label a
 module _ {m m′ : Table} {n used free x y u : ℕ} {t : Forest} {l : Label} {o f : Placed} {k : Way} {s : Spare} (side : ℕ) (lt : side < 2) (a : Label) where
@@ -45,7 +35,7 @@ module _ {m m′ : Table} {n used free x y u : ℕ} {t : Forest} {l : Label} {o 
       differ (λ i. wayTimes i (step d x l o k)) (λ i. hit i y) (λ i. omega (arith, h .once i))
       (rw z (parent-there m used (head f) (count (erase f)) (step d x l o k) (h .above) ne)) (omega (arith, hit-same y)) in
       let few : g .m₂ u .children ≤ n =
-      omega (arith, same-count y d linked u, ap (λ i. i .children) (g .placed .off u uy), ap (λ i. m i .children) z, few-above _ f h ne) in
+      omega (arith, same-count linked (link-count d y (g .m₁ x)) u, ap (λ i. i .children) (g .placed .off u uy), ap (λ i. m i .children) z, few-above _ f h ne) in
       let counted : Put (g .m₂) m′ u (withCount (suc (g .m₂ u .children)) (g .m₂ u)) =
       subst (λ i. Put (g .m₂) m′ u (withCount i (g .m₂ u))) (one-more (g .m₂ u .children) (omega (arith, h .few))) (g .counted) in
       grow a (g .bytes) h ly ne placed linked (subst (λ v. Put (g .m₂) m′ v (withCount (suc (g .m₂ v .children)) (g .m₂ v))) z counted)

@@ -1,13 +1,13 @@
 -- What the private functions do, put together from what their calls do: words read are parts of cells, and stores follow one another. Assumes nothing.
 use mathlib.Core.Path.{_≡_, refl, ap, _∙_}
-use Prim.Native.Nat.{ℕ, _+_, _-_, _<_, _≤_}
+use Prim.Native.Nat.{ℕ, _+_, _<_, _≤_}
 use native.Mathlib.Omega.{arith}
 use native.Mathlib.Decide.{ℕ-discrete}
 use Rattle.rules.specs.Limits.{maxNodes}
 use Rattle.rules.specs.Tree.{Label}
 use Rattle.table.specs.Cells.{cell, Table, gone, wordOf, ByteLevels, sideOf, link}
 use Rattle.table.specs.Promises.{Behind}
-use Rattle.table.specs.Steps.{withWord, Put, oneMore, Attached, Detached, Pushed, some, none, Took, again, fresh, full, Cleared, Entered, under, alone}
+use Rattle.table.specs.Steps.{withWord, Put, oneMore, oneLess, Attached, Detached, Pushed, some, none, Took, again, fresh, full, Cleared, Entered, under, alone}
 use Rattle.table.proofs.Behind.{put-behind, then-behind, same-behind}
 use Rattle.table.proofs.Words.{twice, fits}
 
@@ -27,7 +27,7 @@ attached {m₂ = m₂} {m₃} {u = u} {y} {old} {l} side b few lu ly i p q s z =
     }
 
 pub detached : {m m₁ m₂ m₃ m′ : Table} {x u y e next : ℕ} (side : ℕ) → next ≡ m y .right → Put m m₁ x (withWord side next (m x))
-    → Put m₁ m₂ y (withWord 1 gone (m₁ y)) → Put m₂ m₃ y (withWord 2 e (m₂ y)) → Put m₃ m′ u (withWord 5 (m₃ u .children - 1) (m₃ u))
+    → Put m₁ m₂ y (withWord 1 gone (m₁ y)) → Put m₂ m₃ y (withWord 2 e (m₂ y)) → Put m₃ m′ u (withWord 5 (oneLess (m₃ u .children)) (m₃ u))
     → Detached side m m′ x u y e
 detached {m₁ = m₁} {m₂} {m₃} side i p q s z =
     record { m₁ = m₁; m₂ = m₂; m₃ = m₃; passed = rw i at p; cut = q; stacked = s; counted = z }

@@ -4,6 +4,7 @@ use mathlib.Core.Path.{_≡_, refl, sym, ap, subst, _∙_}
 use Prim.Native.Nat.{ℕ, suc, _+_, _<_, _≤_}
 use native.Mathlib.Omega.{arith}
 use native.Mathlib.Nat.{le-refl}
+use native.Mathlib.Decide.{ℕ-discrete}
 use Rattle.rules.specs.Tree.{Label, Forest, Side, child, sibling, count}
 use Rattle.table.specs.Cells.{Cell, cell, Table, gone}
 use Rattle.table.specs.Holds.{Placed, erase, head, Spare, hit, times, spareTimes}
@@ -20,6 +21,19 @@ withLink sibling v a = cell (a .first) v (a .parent) (a .children) (a .label)
 
 abbrev pub withCount : ℕ → Cell → Cell
 withCount v a = cell (a .first) (a .right) (a .parent) v (a .label)
+
+-- a link leaves counts alone
+pub link-count : (d : Side) (v : ℕ) (a : Cell) → withLink d v a .children ≡ a .children
+link-count child v a = refl
+link-count sibling v a = refl
+
+-- so does every change of a cell that leaves its own
+pub same-count : {m m′ : Table} {x : ℕ} {a : Cell} → Put m m′ x a → a .children ≡ m x .children → (y : ℕ) → m′ y .children ≡ m y .children
+same-count {m} {m′} {x} p e y = go (ℕ-discrete y x)
+  where
+    go : Dec (y ≡ x) → m′ y .children ≡ m y .children
+    go (yes q) = rw q (ap (λ c. c .children) (p .on) ∙ e)
+    go (no q) = ap (λ c. c .children) (p .off y q)
 
 module _ (m m′ : Table) {b b′ : ℕ} (le : b ≤ b′) where
   -- a table that agrees on the places of a way stores it too

@@ -3,14 +3,14 @@
 use mathlib.Core.Path.{_≡_, refl, sym, ap, subst, _∙_}
 use mathlib.Core.Bool.{true}
 use mathlib.Core.Option.{some}
-use Prim.Native.Nat.{ℕ, _≤_}
+use Prim.Native.Nat.{ℕ, suc, _≤_}
 use native.Mathlib.Omega.{arith}
 use Rattle.rules.specs.Tree.{Label, Forest, tree, Side, child, sibling, along, Place, root, to, up, sub, exists, label, count}
 use Rattle.table.specs.Cells.{Table, ByteLevels, gone, link, parentOn}
 use Rattle.table.specs.Holds.{Placed, empty, node, erase, head, beside, Spare, Holds}
 use Rattle.table.specs.Promises.{Leads, outside, missing, found}
 use Rattle.table.proofs.Counting.{few-siblings}
-use Rattle.table.proofs.Ways.{Way, home, step, pathOf, parentOf, plug-sub}
+use Rattle.table.proofs.Ways.{Way, home, step, pathOf, parentOf, Above, plug-sub}
 use Rattle.table.proofs.Focus.{Focus, down, back, At, seen, whole}
 
 module _ {m : Table} {n used free : ℕ} {t : Forest} {w : Placed} {s : Spare} where
@@ -33,6 +33,12 @@ module _ {m : Table} {n used free : ℕ} {t : Forest} {w : Placed} {s : Spare} w
   few-above home f h ne = absurd (ne refl)
   few-above (step child x l o k) f h ne = few (back child h)
   few-above (step sibling x l o k) f h ne = few-above k (node x l o f) (back sibling h) ne
+
+-- the parent counts all that stands at the end of the way
+pub counts-all : (m : Table) (b h j : ℕ) (k : Way) → Above m b h j k → (parentOf k ≡ gone → ⊥) → j ≤ m (parentOf k) .children
+counts-all m b h j home a ne = absurd (ne refl)
+counts-all m b h j (step child x l o k) a ne = omega (arith, ap (λ c. c .children) (a .1))
+counts-all m b h j (step sibling x l o k) a ne = omega (arith, counts-all m b x (suc j) k (a .3) ne)
 
 module _ {m : Table} {n used free : ℕ} {t : Forest} {s : Spare} where
   below : (k : Way) (f : Placed) {r : ℕ} → Focus m n used free t empty k f s → r ≡ head f → Leads m n used free t (some (pathOf k)) r

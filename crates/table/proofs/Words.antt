@@ -2,17 +2,16 @@
 use mathlib.Core.Path.{_≡_, refl, ap, _∙_}
 use mathlib.Core.List.{List}
 use mathlib.Core.Bool.{cond}
-use Prim.Native.Nat.{ℕ, zero, suc, _+_, _*_, _<_, _≤_}
+use Prim.Native.Nat.{ℕ, zero, suc, _+_, _-_, _*_, _<_, _≤_}
 use Rattle.rules.specs.Number.{range}
 use native.Mathlib.Omega.{arith}
-use native.Mathlib.Numerals.{add-one}
 use native.Mathlib.Decide.{ℕ-discrete}
 use lib.Dec.{eqb}
 use lib.ListN.{length, set}
 use lib.Seq.{getD-set-same, getD-set-other}
-use borrow.Author.Tests.{eq-eqb, ne-eqb, lt-ltb}
+use borrow.Author.Tests.{eq-eqb, ne-eqb}
 use Rattle.table.specs.Cells.{Cell, cell, Table, cellSize, word, wordOf, labelWith, cells, sideOf, link}
-use Rattle.table.specs.Steps.{withWord, Put, oneMore}
+use Rattle.table.specs.Steps.{withWord, Put, oneMore, oneLess}
 use Rattle.table.proofs.Links.{withLink}
 
 -- the cell at x, by its words
@@ -82,9 +81,14 @@ with-link zero v a lt = refl
 with-link (suc zero) v a lt = refl
 with-link (suc (suc j)) v a lt = absurd (omega arith)
 
+-- counts that fit
 pub one-more : (j : ℕ) → j < 4294967295 → oneMore j ≡ suc j
-unfolding oneMore
-one-more j lt = ap (λ t. cond t (j + 1) j) (lt-ltb j 4294967295 lt) ∙ add-one j
+unfolding oneMore wordOf
+one-more j lt = omega arith
+
+pub one-less : (j : ℕ) → 0 < j → j < range → oneLess j ≡ j - 1
+unfolding oneLess wordOf
+one-less j some lt = omega arith
 
 -- a number below 2 ^ 32 is its own word
 pub fits : (x : ℕ) → x < range → wordOf x ≡ x

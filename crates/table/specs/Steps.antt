@@ -1,12 +1,10 @@
 -- What the table's private functions do to its cells. Assumes nothing.
 use mathlib.Core.Path.{_≡_}
-use mathlib.Core.Bool.{cond}
 use Prim.Native.Nat.{ℕ, zero, suc, _+_, _-_, _<_, _≤_}
-use lib.Dec.{ltb}
 use lib.IntN.{ℤ}
-use Rattle.rules.specs.Number.{signed}
+use Rattle.rules.specs.Number.{range, signed}
 use Rattle.rules.specs.Tree.{Label}
-use Rattle.table.specs.Cells.{Cell, cell, Table, ByteLevels, gone, sideOf, link}
+use Rattle.table.specs.Cells.{Cell, cell, Table, ByteLevels, gone, wordOf, sideOf, link}
 
 -- a cell with another label
 abbrev relabelled : Cell → ℤ → ℕ → ℕ → ℕ → Cell
@@ -29,9 +27,12 @@ pub record Put (m m′ : Table) (x : ℕ) (a : Cell) : Type 0 where
   pub on : m′ x ≡ a
   pub off : (y : ℕ) → (y ≡ x → ⊥) → m′ y ≡ m y
 
--- one child more, if the number fits 32 bits
+-- one child more, and one less, in 32 bits
 unfoldable pub oneMore : ℕ → ℕ
-oneMore j = cond (ltb j 4294967295) (j + 1) j
+oneMore j = wordOf (j + 1)
+
+unfoldable pub oneLess : ℕ → ℕ
+oneLess j = wordOf (j + (range - 1))
 
 -- the place y, with the label l, was linked in front of what stands on a side of the node at x, under the parent u
 pub record Attached (side : ℕ) (l : Label) (m m′ : Table) (x u y : ℕ) : Type 0 where
@@ -50,7 +51,7 @@ pub record Detached (side : ℕ) (m m′ : Table) (x u y e : ℕ) : Type 0 where
   pub passed : Put m m₁ x (withWord side (m y .right) (m x))
   pub cut : Put m₁ m₂ y (withWord 1 gone (m₁ y))
   pub stacked : Put m₂ m₃ y (withWord 2 e (m₂ y))
-  pub counted : Put m₃ m′ u (withWord 5 (m₃ u .children - 1) (m₃ u))
+  pub counted : Put m₃ m′ u (withWord 5 (oneLess (m₃ u .children)) (m₃ u))
 
 -- the forest that x leads to, if any, has gone onto the stack that e leads to; r leads to it now
 pub data Pushed (m : Table) (n x e : ℕ) (m′ : Table) (r : ℕ) : Type 0 where

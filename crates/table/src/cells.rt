@@ -1,8 +1,8 @@
 // The words of a cell: first child, right sibling, parent, existence, value, count of children, content, structure.
 ghost use mathlib.Core.Path.{_≡_};
-ghost use Prim.Native.Nat.{_-_, _%_, _<_};
+ghost use Prim.Native.Nat.{_%_, _<_};
 ghost use Rattle.table.specs.Cells.{cellSize, cell, gone, word, wordOf, ByteLevels, labelNew, cells, Within};
-ghost use Rattle.table.specs.Steps.{withWord, Put, oneMore};
+ghost use Rattle.table.specs.Steps.{withWord, Put, oneMore, oneLess};
 use super::levels::low;
 use super::levels::wide;
 use super::shape::NewNode;
@@ -95,16 +95,17 @@ pub fn fill(words: &mut [u32], places: usize, x: usize, right: u32, parent: u32,
     store(words, places, x, STRUCTURE, wide(node.structure));
 }
 
+// Counts are of places, so they never reach an end of the words; that they wrap there spares a test.
 fn one_more(j: u32) -> u32
     ensures { λ r. ⌜ r ≡ oneMore j ⌝ }
 {
-    if j < 4294967295 { j + 1 } else { j }
+    word_of(index(j) + 1)
 }
 
 fn one_less(j: u32) -> u32
-    ensures { λ r. ⌜ r ≡ j - 1 ⌝ }
+    ensures { λ r. ⌜ r ≡ oneLess j ⌝ }
 {
-    if j > 0 { j - 1 } else { 0 }
+    word_of(index(j) + (RANGE - 1))
 }
 
 // Counts one child more at x.
@@ -121,7 +122,7 @@ pub fn count_up(words: &mut [u32], places: usize, x: usize)
 pub fn count_down(words: &mut [u32], places: usize, x: usize)
     requires { ⌜ Within (now words) places x ⌝ }
     ensures { λ _. ⌜ Put (cells (now (words .entry))) (cells (now (words .exit))) x
-        (withWord 5 (cells (now (words .entry)) x .children - 1) (cells (now (words .entry)) x)) ⌝ }
+        (withWord 5 (oneLess (cells (now (words .entry)) x .children)) (cells (now (words .entry)) x)) ⌝ }
 {
     let j = get(words, places, x, CHILDREN);
     store(words, places, x, CHILDREN, one_less(j));
