@@ -67,7 +67,7 @@ fn go_to(words: &[u32], places: usize, pc: u8, r: Running, place: usize) -> Step
     )
 }
 
-// Commands 7 to 10: root, up, first child, right sibling.
+// Commands 7 to 10: root, up, first child, right sibling. The root is the rest, since a walk seldom goes there.
 pub fn go(command: u8, words: &[u32], places: usize, pc: u8, r: Running) -> Stepped
     requires { ⌜ Timely r × (Within (now words) places (r .memory .cursor) × ((7 ≤ command) × (command ≤ 10))) ⌝ }
     ensures { λ a. ⌜ ((l : List ℕ) (v : List ℤ) (b : List ℕ) (vars : ℕ)
@@ -75,7 +75,6 @@ pub fn go(command: u8, words: &[u32], places: usize, pc: u8, r: Running) -> Step
 {
     let at = r.memory.cursor;
     match command {
-        7 => move_to(pc, r, walk::root(), pc),
         8 => go_to(words, places, pc, r, walk::parent(words, places, at)),
         9 => go_to(
             words,
@@ -84,12 +83,13 @@ pub fn go(command: u8, words: &[u32], places: usize, pc: u8, r: Running) -> Step
             r,
             walk::beside(words, places, at, table::FIRST),
         ),
-        _ => go_to(
+        10 => go_to(
             words,
             places,
             pc,
             r,
             walk::beside(words, places, at, table::RIGHT),
         ),
+        _ => move_to(pc, r, walk::root(), pc),
     }
 }
