@@ -91,13 +91,13 @@ module _ {places vars : ℕ} {x x′ : Slices} {r : Running} {m : Memory} (s : S
       → Does (Stands places vars x′ (withMemory r m)) n s (Run.onward s z)
   unfolding Run.onward
   halted ne (next μ) d = absurd (ne (d .does .0))
-  halted ne (stop k) d = does-stop k (d .does .0) (record { memory = d .does .1; guards = st .guards; at = st .at; steps = st .steps })
+  halted ne (stop k) d = does-stop k (d .does .0) (record { memory = d .does .1; guards = st .guards; at = st .at })
 
   gone : (z : Result Run.Memory) → Does (Shows places vars x′ m) 0 (s .memory) z → Does (Stands places vars x′ (went r m .running)) 0 s (Run.onward s z)
   unfolding Run.onward Run.stepped
   gone (next μ) d =
       does-next _ refl
-      (record { memory = d .does .1; guards = st .guards; at = ap suc (st .at) ∙ sym (add-one _); steps = ap suc (st .steps) ∙ sym (add-one _) })
+      (record { memory = d .does .1; guards = st .guards; at = ap suc (st .at) ∙ sym (add-one _) })
   gone (stop k) d = absurd (stop-number k (sym (d .does .0)))
 
 module _ {places vars : ℕ} {x x′ : Slices} {r : Running} {a : Stepped} {action : Run.Memory → Result Run.Memory} where
@@ -113,7 +113,7 @@ module _ {places vars : ℕ} {x x′ : Slices} {r : Running} {a : Stepped} {acti
         kept = kept;
         within = λ n h. omega arith;
         counted = λ z. absurd (ne z);
-        early = omega arith;
+        uncounted = λ _. refl;
         acts = λ s st. halted s st ne (action (s .memory)) (f (s .memory) (st .memory));
       })
 
@@ -128,8 +128,8 @@ module _ {places vars : ℕ} {x x′ : Slices} {r : Running} {a : Stepped} {acti
         room = room;
         kept = kept;
         within = λ n h. omega arith;
-        counted = λ z. add-one _;
-        early = omega arith;
+        counted = λ _. refl;
+        uncounted = λ n. absurd (n refl);
         acts = λ s st. gone s st (action (s .memory)) (f (s .memory) (st .memory));
       })
 

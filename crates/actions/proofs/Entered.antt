@@ -3,7 +3,7 @@
 use mathlib.Core.Path.{_≡_, refl, sym, _∙_, ap, ap₂, subst}
 use mathlib.Core.Bool.{Bool, true, false, cond}
 use mathlib.Core.List.{List, _∷_}
-use Prim.Native.Nat.{ℕ, suc, _+_, _<_, _≤_}
+use Prim.Native.Nat.{ℕ, suc, _+_, _-_, _<_, _≤_}
 use native.Mathlib.Numerals.{add-one}
 use native.Mathlib.Omega.{arith}
 use lib.ListN.{length}
@@ -27,10 +27,10 @@ use Rattle.actions.specs.Control.{Passes, Enters}
 
 -- one step more, with the guards g, at the record i
 abbrev after : Running → Guards → ℕ → Stepped
-after r g i = record { stop = 0; running = record { memory = r .memory; guards = g; at = i; steps = r .steps + 1 } }
+after r g i = record { stop = 0; running = record { memory = r .memory; guards = g; at = i; left = r .left - 1 } }
 
 passes : (r : Running) (g : Guards) (i : ℕ) → Passes r (after r g i)
-passes r g i = record { stop = refl; memory = refl; steps = add-one (r .steps) }
+passes r g i = record { stop = refl; memory = refl; left = refl }
 
 -- the guard's value, which z says to be zero or not
 module _ (r : Running) (v : Valued) (j : ℕ) (z : Bool) (zero : isZero (toZ w32 (ofZ w32 (v .value))) ≡ z) where
@@ -64,7 +64,6 @@ module _ (r : Running) (v : Valued) (j : ℕ) (z : Bool) (zero : isZero (toZ w32
               memory = st .memory;
               guards = subst (λ (b : Bool). Holds g (cond b (s .blocks) (pushed s e))) (sym k) (held s e level deep (st .guards));
               at = next-at s e k (st .at);
-              steps = rw (st .steps, add-one);
             };
       }
 
@@ -83,7 +82,6 @@ module _ (r : Running) (v : Valued) (j : ℕ) (z : Bool) (zero : isZero (toZ w32
               memory = st .memory;
               guards = held s e level deep (st .guards);
               at = next-at s e (is-zero s e fits is) (st .at);
-              steps = rw (st .steps, add-one);
             };
       }
 

@@ -1,7 +1,7 @@
 -- The four commands of control land where the rules' do. Assumes nothing.
-use mathlib.Core.Path.{_≡_, sym, _∙_, ap}
+use mathlib.Core.Path.{_≡_, sym}
 use mathlib.Core.List.{tail}
-use Prim.Native.Nat.{ℕ, suc}
+use Prim.Native.Nat.{ℕ}
 use native.Mathlib.Omega.{arith}
 use Rattle.rules.specs.Run as Run
 use Rattle.rules.specs.Run.{State, next, Stop, stopNumber, stepped}
@@ -34,7 +34,6 @@ module _ (places vars : ℕ) (x x′ : Slices) (r : Running) (s : State) (st : S
             memory = rw (h .passes .memory) (st .memory);
             guards = rw (h .guards) (st .guards);
             at = sym (h .at);
-            steps = ap suc (st .steps) ∙ sym (h .passes .steps);
           },
         );
       }
@@ -50,7 +49,6 @@ module _ (places vars : ℕ) (x x′ : Slices) (r : Running) (s : State) (st : S
             memory = rw (h .passes .memory) (st .memory);
             guards = h .guards (s .blocks) (st .guards);
             at = sym (h .at);
-            steps = ap suc (st .steps) ∙ sym (h .passes .steps);
           },
         );
       }

@@ -2,7 +2,7 @@
 use mathlib.Core.Path.{_≡_}
 use mathlib.Core.Bool.{Bool, true, false, cond}
 use mathlib.Core.Option.{Option, none, some}
-use Prim.Native.Nat.{ℕ, zero, suc, _*_, _<_, _≤_}
+use Prim.Native.Nat.{ℕ, zero, suc, _-_, _*_, _<_, _≤_}
 use mathlib.Core.List.{List}
 use lib.ListN.{length, getD, drop}
 use lib.IntN.{ℤ, pos}
@@ -67,8 +67,8 @@ pub record Acts (places vars : ℕ) (x x′ : Slices) (r : Running) (a : Stepped
   pub room : 4 * r .memory .lines ≤ length (x .board) → 4 * a .running .memory .lines ≤ length (x′ .board)
   pub kept : Kept places vars x x′ (r .memory .lines) (a .running .memory .lines)
   pub within : (n : ℕ) → r .at < n → a .running .at ≤ n
-  pub counted : a .stop ≡ 0 → a .running .steps ≡ suc (r .steps)
-  pub early : a .running .steps ≤ suc (r .steps)
+  pub counted : a .stop ≡ 0 → a .running .left ≡ r .left - 1
+  pub uncounted : (a .stop ≡ 0 → ⊥) → a .running .left ≡ r .left
   pub acts : (s : State) → Stands places vars x r s → Does (Stands places vars x′ (a .running)) (a .stop) s (onward s (action (s .memory)))
 
 -- the memory with the cursor at another place or level

@@ -1,6 +1,6 @@
 -- What the commands promise that say which record comes next. Assumes nothing.
 use mathlib.Core.Path.{_≡_}
-use Prim.Native.Nat.{ℕ, suc, _<_, _≤_}
+use Prim.Native.Nat.{ℕ, _-_, _<_, _≤_}
 use mathlib.Core.List.{List, tail}
 use lib.ListN.{length}
 use Rattle.rules.specs.Limits.{maxDepth}
@@ -18,7 +18,7 @@ use Rattle.actions.specs.Acts.{Fits}
 pub record Passes (r : Running) (a : Stepped) : Type 0 where
   pub stop : a .stop ≡ 0
   pub memory : a .running .memory ≡ r .memory
-  pub steps : a .running .steps ≡ suc (r .steps)
+  pub left : a .running .left ≡ r .left - 1
 
 -- to the record j, with the same blocks
 pub record Jumps (r : Running) (j : ℕ) (a : Stepped) : Type 0 where

@@ -1,7 +1,7 @@
 -- How the lent slices and a running record stand for a state of a run. Assumes nothing.
 use mathlib.Core.Path.{_≡_}
-use Prim.Native.Nat.{ℕ, _+_, _<_}
-use Rattle.rules.specs.Limits.{maxRecords, maxBudget}
+use Prim.Native.Nat.{ℕ, _+_, _-_, _<_}
+use Rattle.rules.specs.Limits.{maxRecords}
 use Rattle.rules.specs.Run.{State}
 use Rattle.actions.specs.declared.memory.Memory.{Memory}
 use Rattle.actions.specs.declared.control.Running.{Running}
@@ -9,17 +9,16 @@ use Rattle.actions.specs.declared.control.Stepped.{Stepped}
 use Rattle.actions.specs.Guards.{Holds}
 use Rattle.actions.specs.Shows.{Slices, Shows}
 
--- the slices x and the running record r stand for the state s
+-- the slices x and the running record r stand for the state s, but for its steps: the record counts those that are left
 pub record Stands (places vars : ℕ) (x : Slices) (r : Running) (s : State) : Type 0 where
   pub memory : Shows places vars x (r .memory) (s .memory)
   pub guards : Holds (r .guards) (s .blocks)
   pub at : s .at ≡ r .at
-  pub steps : s .steps ≡ r .steps
 
--- one more step can be counted, and one more record
+-- one more record can be counted, and a step is left
 pub record Timely (r : Running) : Type 0 where
   pub near : r .at < maxRecords
-  pub early : r .steps < maxBudget
+  pub more : 0 < r .left
 
 -- what stands for the script's end where the number of a stop would stand
 abbrev pub ended : ℕ
@@ -31,8 +30,8 @@ stepped k r = record { stop = k; running = r }
 
 -- the running record with another memory
 abbrev pub withMemory : Running → Memory → Running
-withMemory r m = record { memory = m; guards = r .guards; at = r .at; steps = r .steps }
+withMemory r m = record { memory = m; guards = r .guards; at = r .at; left = r .left }
 
 -- one record and one step on, with a memory
 abbrev pub went : Running → Memory → Stepped
-went r m = stepped 0 (record { memory = m; guards = r .guards; at = r .at + 1; steps = r .steps + 1 })
+went r m = stepped 0 (record { memory = m; guards = r .guards; at = r .at + 1; left = r .left - 1 })

@@ -10,12 +10,12 @@ ghost use mathlib.Core.Path.{_≡_};
 ghost use Rattle.actions.specs.Stands.{Timely, stepped, withMemory, went};
 ghost use Rattle.actions.specs.Control.{Jumps, Leaves, Enters};
 
-// The memory, the open blocks, the record that comes next, and the steps so far.
+// The memory, the open blocks, the record that comes next, and how many steps are left.
 pub struct Running {
     pub memory: Memory,
     pub guards: Guards,
     pub at: usize,
-    pub steps: usize,
+    pub left: usize,
 }
 
 // Stands for the script's end where the number of a stop would stand.
@@ -51,7 +51,7 @@ pub fn onward(r: Running, m: Memory) -> Stepped
     let mut next = r;
     next.memory = m;
     next.at = r.at + 1;
-    next.steps = r.steps + 1;
+    next.left = r.left - 1;
     Stepped {
         stop: 0,
         running: next,
@@ -65,7 +65,7 @@ pub fn jump(r: Running, to: usize) -> Stepped
 {
     let mut next = r;
     next.at = to;
-    next.steps = r.steps + 1;
+    next.left = r.left - 1;
     Stepped {
         stop: 0,
         running: next,
@@ -81,7 +81,7 @@ pub fn leave(r: Running, to: usize) -> Stepped
     let g = guards::pop(r.guards);
     next.guards = g;
     next.at = to;
-    next.steps = r.steps + 1;
+    next.left = r.left - 1;
     Stepped {
         stop: 0,
         running: next,
@@ -96,7 +96,7 @@ pub fn enter_if(r: Running, e: Valued, to: usize) -> Stepped
     let mut next = r;
     let g = guards::push(r.guards, join(e.level, guards::top(r.guards)));
     next.guards = g;
-    next.steps = r.steps + 1;
+    next.left = r.left - 1;
     if numbers::is_zero(e.value) {
         next.at = to;
     } else {
@@ -114,7 +114,7 @@ pub fn enter_while(r: Running, e: Valued, to: usize) -> Stepped
     ensures { λ a. ⌜ Enters enterWhile r e to a ⌝ }
 {
     let mut next = r;
-    next.steps = r.steps + 1;
+    next.left = r.left - 1;
     if numbers::is_zero(e.value) {
         next.at = to;
     } else {

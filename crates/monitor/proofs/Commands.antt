@@ -11,7 +11,7 @@ use lib.ListN.{length, getD}
 use lib.IntN.{ℤ}
 use lib.Dec.{ltb}
 use borrow.Author.Tests.{ltb-true, ltb-false}
-use Rattle.rules.specs.Limits.{maxDepth, maxNodes, maxRecords, maxBudget, recordSize}
+use Rattle.rules.specs.Limits.{maxDepth, maxNodes, maxRecords, recordSize}
 use Rattle.rules.specs.Level.{secret}
 use Rattle.rules.specs.Tree.{child, sibling, root, to, up}
 use Rattle.rules.specs.Bytes.{byte, recordPlace}
@@ -131,7 +131,7 @@ module _ (h : Held) (sc : Script h) where
                 };
             kept = acts .kept;
             counted = acts .counted;
-            early = acts .early;
+            uncounted = acts .uncounted;
             board = same .board;
             steps = λ lent s l v st.
                 subst (Does (Stands (h .places) (h .vars) x′ (a .running)) (a .stop) s)
@@ -156,8 +156,8 @@ module _ (h : Held) (sc : Script h) where
                   within = w;
                 };
             kept = rw (p .memory) kept-refl;
-            counted = λ z. p .steps;
-            early = omega (arith, p .steps);
+            counted = λ z. p .left;
+            uncounted = λ n. absurd (n (p .stop));
             board = refl;
             steps = g;
           }
@@ -379,8 +379,8 @@ module _ (h : Held) (sc : Script h) (x : Slices) (r : Running) (sf : Safe h x r)
   pub at-cursor : Within (x .words) (h .places) (r .memory .cursor)
   at-cursor = record { long = sf .long; few = sf .few; inside = sf .cursor }
 
-  pub timely : r .steps < maxBudget → Timely r
-  timely e = record { near = omega (arith, sc .few); early = e }
+  pub timely : 0 < r .left → Timely r
+  timely e = record { near = omega (arith, sc .few); more = e }
 
   -- the record lies in the bytes
   pub record-there : recordPlace (h .base) (r .at) + recordSize ≤ length (h .bytes)

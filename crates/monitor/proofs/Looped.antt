@@ -10,13 +10,13 @@ use lib.Seq.{drop-drop}
 use lib.Dec.{ltb, eqb}
 use lib.IntN.{ℤ}
 use borrow.Author.Tests.{lt-ltb, le-ltb, eq-eqb, eqb-true, ltb-true, ltb-false}
-use Rattle.rules.specs.Limits.{maxBudget}
 use Rattle.rules.specs.Job.{scriptOf}
-use Rattle.rules.specs.Script.{Command}
-use Rattle.rules.specs.Run.{State, Buffers, Result, next, stop, Stop, spent, stopNumber, Ending, finished, stopped, Ended, step, run}
+use Rattle.rules.specs.Script.{Command, act}
+use Rattle.rules.specs.Run as Rules
+use Rattle.rules.specs.Run.{State, Buffers, Result, next, stop, Stop, spent, stopNumber, Ending, finished, stopped, Ended, onward, carried, step, run}
 use Rattle.rules.proofs.Tests.{Test, holds, fails, test}
 use Rattle.rules.proofs.Runs.{run-spent, run-over, run-next, run-stop}
-use Rattle.rules.proofs.Results.{good-next}
+use Rattle.rules.proofs.Results.{Good, good-next}
 use Rattle.rules.proofs.Control.{Closed, Valid, step-valid}
 use Rattle.rules.proofs.Decode.{listed-length}
 use Rattle.actions.specs.declared.control.Running.{Running}
@@ -42,6 +42,28 @@ kept-trans {x = x} {y = y} {k = k} {m = m} {n = n} a b =
         let e : 4 * n ≡ 4 * m + 4 * (n - m) = omega (arith, b .grown) in
         rw (e, ← drop-drop (4 * (n - m)) (4 * m) (y .board), ← drop-drop (4 * (n - m)) (4 * m) (x .board), a .board)
 
+-- a step that goes on counts one
+module _ (lent : Buffers) (s : State) where
+  abbrev Counts : State → Type 0
+  Counts s′ = s′ .steps ≡ suc (s .steps)
+
+  counts-action : (r : Result Rules.Memory) → Good Counts (onward s r)
+  unfolding onward Rules.stepped
+  counts-action (next m) = refl
+  counts-action (stop k) = tt
+
+  counts-command : (j : ℕ) (c : Command) → Good Counts (carried s lent j c)
+  unfolding carried Rules.stepped Rules.enterIf Rules.enterWhile
+  counts-command j (act a) = counts-action _
+  counts-command j (Command.if e) = refl
+  counts-command j (Command.while e) = refl
+  counts-command j Command.else = refl
+  counts-command j Command.end = refl
+
+  counts : (cs : List Command) → Good Counts (step lent cs s)
+  unfolding step
+  counts cs = counts-command _ _
+
 module _ (h : Held) (sc : Script h) where
   closed : Closed (scriptIn h)
   unfolding scriptOf
@@ -56,39 +78,48 @@ module _ (h : Held) (sc : Script h) where
   over lent s i e l = rw (e, listed-length _ (h .records) 0) (le-ltb i (h .records) l)
 
   -- nothing was done yet
-  pub starts : {x : Slices} {r : Running} {left : ℕ} → Safe h x r → Reached h x r left x r left
-  starts sf = record { safe = sf; early = omega arith; kept = kept-refl; board = refl; comes = λ lent s l v st. record { s = s; valid = v; stands = st; rest = refl } }
+  pub starts : {x : Slices} {r : Running} → Safe h x r → Reached h x r x r
+  starts sf =
+      record {
+        safe = sf;
+        early = omega arith;
+        kept = kept-refl;
+        board = refl;
+        comes = λ lent s l v st. record { s = s; valid = v; stands = st; steps = refl; rest = refl };
+      }
 
   -- the script is over
-  finishes : (x : Slices) (r : Running) (left : ℕ) → h .records ≤ r .at → Runs h x x r left (stepped ended r)
+  finishes : (x : Slices) (r : Running) → h .records ≤ r .at → Runs h x x r (stepped ended r)
   unfolding codeOf
-  finishes x r left o =
+  finishes x r o =
       record {
         early = omega arith;
         kept = kept-refl;
         runs = λ lent s l v st.
-            rw (run-over lent (scriptIn h) left s (over lent s (r .at) (st .at) o)) (record { ending = refl; last = st });
+            rw (run-over lent (scriptIn h) (r .left) s (over lent s (r .at) (st .at) o)) (record { ending = refl; last = st; steps = refl });
       }
 
   -- the budget is used up
-  spends : (x : Slices) (r : Running) (left : ℕ) → left ≡ 0 → r .at < h .records → Runs h x x r left (stepped 25 r)
+  spends : (x : Slices) (r : Running) → r .left ≡ 0 → r .at < h .records → Runs h x x r (stepped 25 r)
   unfolding codeOf stopNumber
-  spends x r left z o =
-      rw z
-      (record {
+  spends x r z o =
+      record {
         early = omega arith;
         kept = kept-refl;
-        runs = λ lent s l v st. rw (run-spent lent (scriptIn h) s (more lent s (r .at) (st .at) o)) (record { ending = refl; last = st });
-      })
+        runs = λ lent s l v st.
+            subst (Ran h x (stepped 25 r) (s .steps + r .left))
+            (sym (ap (λ (k : ℕ). run lent (scriptIn h) k s) z ∙ run-spent lent (scriptIn h) s (more lent s (r .at) (st .at) o)))
+            (record { ending = refl; last = st; steps = refl });
+      }
 
   -- all steps are made, and the script may be over too
-  stands-still : (x : Slices) (r : Running) (left : ℕ) → left ≡ 0 → Runs h x x r left (stepped (overAt (r .at) (h .records)) r)
+  stands-still : (x : Slices) (r : Running) → r .left ≡ 0 → Runs h x x r (stepped (overAt (r .at) (h .records)) r)
   unfolding overAt
-  stands-still x r left z = pick (test (ltb (r .at) (h .records)))
+  stands-still x r z = pick (test (ltb (r .at) (h .records)))
     where
-      pick : Test (ltb (r .at) (h .records)) → Runs h x x r left (stepped (overAt (r .at) (h .records)) r)
-      pick (holds e) = rw e (spends x r left z (ltb-true (r .at) (h .records) e))
-      pick (fails e) = rw e (finishes x r left (ltb-false (r .at) (h .records) e))
+      pick : Test (ltb (r .at) (h .records)) → Runs h x x r (stepped (overAt (r .at) (h .records)) r)
+      pick (holds e) = rw e (spends x r z (ltb-true (r .at) (h .records) e))
+      pick (fails e) = rw e (finishes x r (ltb-false (r .at) (h .records) e))
 
   over-stops : (r : Running) → overAt (r .at) (h .records) ≡ 0 → ⊥
   unfolding overAt
@@ -98,83 +129,86 @@ module _ (h : Held) (sc : Script h) where
       pick true e = omega arith
       pick false e = omega arith
 
-  module _ {x x′ : Slices} {r : Running} {a : Stepped} (inside : r .at < h .records) (t : Steps h x x′ r a) (left : ℕ) where
+  module _ {x x′ : Slices} {r : Running} {a : Stepped} (inside : r .at < h .records) (some : 0 < r .left) (t : Steps h x x′ r a) where
     module _ (lent : Buffers) (s : State) (l : Lent h x lent) (v : Valid (scriptIn h) s) (st : Stands (h .places) (h .vars) x r s) where
       here : ltb (s .at) (length (scriptIn h)) ≡ true
       here = more lent s (r .at) (st .at) inside
 
+      -- the run with a step left
+      one-left : run lent (scriptIn h) (r .left) s ≡ run lent (scriptIn h) (suc (r .left - 1)) s
+      one-left = ap (λ (k : ℕ). run lent (scriptIn h) k s) {x = r .left} {y = suc (r .left - 1)} (omega (arith, some))
+
       -- one step on
-      comes : a .stop ≡ 0 → Comes h lent (run lent (scriptIn h) (suc left) s) x′ (a .running) left
+      comes : a .stop ≡ 0 → Comes h lent (s .steps + r .left) (run lent (scriptIn h) (r .left) s) x′ (a .running)
       comes z = pick (step lent (scriptIn h) s) refl (t .steps lent s l v st)
         where
           pick : (k : Result State) → step lent (scriptIn h) s ≡ k → Does (Stands (h .places) (h .vars) x′ (a .running)) (a .stop) s k
-              → Comes h lent (run lent (scriptIn h) (suc left) s) x′ (a .running) left
+              → Comes h lent (s .steps + r .left) (run lent (scriptIn h) (r .left) s) x′ (a .running)
           pick (next s′) w k =
+              let one = good-next (Counts lent s) _ s′ w (counts lent s (scriptIn h)) in
               record {
                 s = s′;
                 valid = good-next (Valid (scriptIn h)) _ s′ w (step-valid lent (scriptIn h) closed s v here);
                 stands = k .does .1;
-                rest = run-next lent (scriptIn h) left s s′ here w;
+                steps = omega (arith, one, t .counted z, some);
+                rest = one-left ∙ run-next lent (scriptIn h) (r .left - 1) s s′ here w ∙ ap (λ (n : ℕ). run lent (scriptIn h) n s′) (sym (t .counted z));
               }
           pick (stop j) w k = absurd (stop-number j (sym (k .does .0) ∙ z))
 
       -- a stop
-      halts : (a .stop ≡ 0 → ⊥) → Ran h x′ a (run lent (scriptIn h) (suc left) s)
+      halts : (a .stop ≡ 0 → ⊥) → Ran h x′ a (s .steps + r .left) (run lent (scriptIn h) (r .left) s)
       unfolding codeOf
       halts z = pick (step lent (scriptIn h) s) refl (t .steps lent s l v st)
         where
           pick : (k : Result State) → step lent (scriptIn h) s ≡ k → Does (Stands (h .places) (h .vars) x′ (a .running)) (a .stop) s k
-              → Ran h x′ a (run lent (scriptIn h) (suc left) s)
+              → Ran h x′ a (s .steps + r .left) (run lent (scriptIn h) (r .left) s)
           pick (next s′) w k = absurd (z (k .does .0))
-          pick (stop j) w k = rw (run-stop lent (scriptIn h) left s j here w) (record { ending = k .does .0; last = k .does .1 })
-
-    goes-on : a .stop ≡ 0 → Reached h x r (suc left) x′ (a .running) left
-    goes-on z = record { safe = t .safe; early = omega (arith, t .counted z); kept = t .kept; board = t .board; comes = λ lent s l v st. comes lent s l v st z }
-
-    stops-here : (a .stop ≡ 0 → ⊥) → Runs h x x′ r (suc left) a
-    stops-here z = record { early = omega (arith, t .early); kept = t .kept; runs = λ lent s l v st. halts lent s l v st z }
-
-  module _ {x x′ : Slices} {r : Running} (limit : ℕ) where
-    -- a turn that has ended the run
-    ended-turn : {a : Stepped} → (a .stop ≡ 0 → ⊥) → Runs h x x′ r (limit - r .steps) a → Turns h x x′ r limit a
-    ended-turn n d = record { goes = λ z. absurd (n z); later = λ z. absurd (n z); ends = λ _. d }
+          pick (stop j) w k =
+              subst (Ran h x′ a (s .steps + r .left)) (sym (one-left ∙ run-stop lent (scriptIn h) (r .left - 1) s j here w))
+              (record { ending = k .does .0; last = k .does .1; steps = ap (λ (n : ℕ). s .steps + n) (t .uncounted z) })
 
     -- a turn that was a step
-    step-turn : {a : Stepped} → r .at < h .records → r .steps < limit → Steps h x x′ r a → Turns h x x′ r limit a
-    step-turn {a} inside early t =
-        let e : suc (limit - suc (r .steps)) ≡ limit - r .steps = omega (arith, early) in
+    step-turn : Turns h x x′ r a
+    step-turn =
         record {
           goes = λ z.
-              subst (λ (k : ℕ). Reached h x r k x′ (a .running) (limit - a .running .steps)) e
-              (subst (λ (k : ℕ). Reached h x r (suc (limit - suc (r .steps))) x′ (a .running) (limit - k)) (sym (t .counted z)) (goes-on inside t _ z));
-          later = λ z. (t .counted z, omega (arith, early, t .counted z));
-          ends = λ z. subst (λ (k : ℕ). Runs h x x′ r k a) e (stops-here inside t _ z);
+              record {
+                safe = t .safe;
+                early = omega (arith, t .counted z);
+                kept = t .kept;
+                board = t .board;
+                comes = λ lent s l v st. comes lent s l v st z;
+              };
+          later = λ z. omega (arith, t .counted z, some);
+          ends = λ z. record { early = omega (arith, t .uncounted z); kept = t .kept; runs = λ lent s l v st. halts lent s l v st z };
         }
 
+  -- a turn that has ended the run
+  ended-turn : {x x′ : Slices} {r : Running} {a : Stepped} → (a .stop ≡ 0 → ⊥) → Runs h x x′ r a → Turns h x x′ r a
+  ended-turn n d = record { goes = λ z. absurd (n z); later = λ z. absurd (n z); ends = λ _. d }
+
   -- a turn with no step left
-  pub still-turn : {x : Slices} {r : Running} (limit : ℕ) {a : Stepped} → a ≡ stepped (overAt (r .at) (h .records)) r → limit ≤ r .steps
-      → Turns h x x r limit a
-  still-turn {x} {r} limit e o =
-      subst (Turns h x x r limit) (sym e) (ended-turn limit (over-stops r) (stands-still x r (limit - r .steps) (omega (arith, o))))
+  pub still-turn : {x : Slices} {r : Running} {a : Stepped} → a ≡ stepped (overAt (r .at) (h .records)) r → r .left ≡ 0 → Turns h x x r a
+  still-turn {x} {r} e o = subst (Turns h x x r) (sym e) (ended-turn (over-stops r) (stands-still x r o))
 
   -- a turn that carried out what came next
-  pub carried-turn : {x x′ : Slices} {r : Running} (limit : ℕ) {a : Stepped} → r .steps < limit → Carries h x x′ r a → Turns h x x′ r limit a
-  carried-turn {x} {x′} {r} limit {a} early c = pick (test (ltb (r .at) (h .records)))
+  pub carried-turn : {x x′ : Slices} {r : Running} {a : Stepped} → 0 < r .left → Carries h x x′ r a → Turns h x x′ r a
+  carried-turn {x} {x′} {r} {a} some c = pick (test (ltb (r .at) (h .records)))
     where
-      pick : Test (ltb (r .at) (h .records)) → Turns h x x′ r limit a
-      pick (holds e) = let i = ltb-true (r .at) (h .records) e in step-turn limit i early (c .steps i)
+      pick : Test (ltb (r .at) (h .records)) → Turns h x x′ r a
+      pick (holds e) = let i = ltb-true (r .at) (h .records) e in step-turn i some (c .steps i)
       pick (fails e) =
           let o = ltb-false (r .at) (h .records) e in
-          subst (λ z. Turns h x z r limit a) (sym (c .ends o .0))
-          (subst (Turns h x x r limit) (sym (c .ends o .1)) (ended-turn limit (λ z. omega (arith, z)) (finishes x r (limit - r .steps) o)))
+          subst (λ z. Turns h x z r a) (sym (c .ends o .0))
+          (subst (Turns h x x r) (sym (c .ends o .1)) (ended-turn (λ z. omega (arith, z)) (finishes x r o)))
 
 -- what was reached from there was reached from the start
-module _ {h : Held} {x₀ x : Slices} {r₀ r : Running} {budget left : ℕ} (d : Reached h x₀ r₀ budget x r left) where
+module _ {h : Held} {x₀ x : Slices} {r₀ r : Running} (d : Reached h x₀ r₀ x r) where
   lent-now : (lent : Buffers) → Lent h x₀ lent → Lent h x lent
   lent-now lent l = record { places = l .places; board = l .board ∙ ap (λ (n : ℕ). n / 4) (sym (d .board)) }
 
-  pub further : {x′ : Slices} {r′ : Running} {left′ : ℕ} → Reached h x r left x′ r′ left′ → Reached h x₀ r₀ budget x′ r′ left′
-  further {x′} {r′} {left′} t =
+  pub further : {x′ : Slices} {r′ : Running} → Reached h x r x′ r′ → Reached h x₀ r₀ x′ r′
+  further {x′} {r′} t =
       record {
         safe = t .safe;
         early = omega (arith, d .early, t .early);
@@ -183,21 +217,22 @@ module _ {h : Held} {x₀ x : Slices} {r₀ r : Running} {budget left : ℕ} (d 
         comes = λ lent s l v st.
             let c = d .comes lent s l v st in
             let k = t .comes lent (c .s) (lent-now lent l) (c .valid) (c .stands) in
-            record { s = k .s; valid = k .valid; stands = k .stands; rest = c .rest ∙ k .rest };
+            record { s = k .s; valid = k .valid; stands = k .stands; steps = k .steps ∙ c .steps; rest = c .rest ∙ k .rest };
       }
 
-  pub at-last : {x′ : Slices} {a : Stepped} → Runs h x x′ r left a → Runs h x₀ x′ r₀ budget a
+  pub at-last : {x′ : Slices} {a : Stepped} → Runs h x x′ r a → Runs h x₀ x′ r₀ a
   at-last {x′} {a} t =
       record {
         early = omega (arith, d .early, t .early);
         kept = kept-trans (d .kept) (t .kept);
         runs = λ lent s l v st.
             let c = d .comes lent s l v st in
-            subst (Ran h x′ a) (sym (c .rest)) (t .runs lent (c .s) (lent-now lent l) (c .valid) (c .stands));
+            let k = t .runs lent (c .s) (lent-now lent l) (c .valid) (c .stands) in
+            subst (Ran h x′ a (s .steps + r₀ .left)) (sym (c .rest)) (record { ending = k .ending; last = k .last; steps = k .steps ∙ c .steps });
       }
 
 -- a run on its way from x₀ and r₀: where it stands, and how far it has come or how it has ended
-module _ (h : Held) (x₀ : Slices) (r₀ : Running) (limit : ℕ) where
+module _ (h : Held) (x₀ : Slices) (r₀ : Running) where
   pub record Way : Type 0 where
     pub running : Running
     pub words : List ℕ
@@ -208,15 +243,13 @@ module _ (h : Held) (x₀ : Slices) (r₀ : Running) (limit : ℕ) where
     pub long-words : length words ≡ length (x₀ .words)
     pub long-values : length values ≡ length (x₀ .values)
     pub long-board : length board ≡ length (x₀ .board)
-    pub early : ending ≡ 0 → running .steps ≤ limit
-    pub reached : ending ≡ 0
-        → Reached h x₀ r₀ (limit - r₀ .steps) (slices words (x₀ .levels) values board) running (limit - running .steps)
-    pub over : (ending ≡ 0 → ⊥) → Runs h x₀ (slices words (x₀ .levels) values board) r₀ (limit - r₀ .steps) (stepped ending running)
+    pub reached : ending ≡ 0 → Reached h x₀ r₀ (slices words (x₀ .levels) values board) running
+    pub over : (ending ≡ 0 → ⊥) → Runs h x₀ (slices words (x₀ .levels) values board) r₀ (stepped ending running)
 
   abbrev pub slicesAt : Way → Slices
   slicesAt w = slices (w .words) (x₀ .levels) (w .values) (w .board)
 
-  module _ (p : Startable h x₀ r₀ limit) where
+  module _ (p : Startable h x₀ r₀) where
     -- at its start
     abbrev pub outset : Way
     outset =
@@ -230,18 +263,17 @@ module _ (h : Held) (x₀ : Slices) (r₀ : Running) (limit : ℕ) where
           long-words = refl;
           long-values = refl;
           long-board = refl;
-          early = λ _. p .early;
           reached = λ _. starts h (p .script) (p .safe);
           over = λ n. absurd (n refl);
         }
 
     -- what a step asks for
-    pub startable : (w : Way) → w .ending ≡ 0 → Startable h (slicesAt w) (w .running) limit
-    startable w z = record { script = p .script; safe = w .reached z .safe; early = w .early z; limited = p .limited }
+    pub startable : (w : Way) → w .ending ≡ 0 → Startable h (slicesAt w) (w .running)
+    startable w z = record { script = p .script; safe = w .reached z .safe }
 
   -- after one step more
   abbrev pub stride : (w : Way) → w .ending ≡ 0 → (ws : List ℕ) (vs : List ℤ) (bs : List ℕ) (c : ℕ) (r : Running) → c < 2 ^ 8 → length ws ≡ length (w .words)
-      → length vs ≡ length (w .values) → length bs ≡ length (w .board) → Turns h (slicesAt w) (slices ws (x₀ .levels) vs bs) (w .running) limit (stepped c r) → Way
+      → length vs ≡ length (w .values) → length bs ≡ length (w .board) → Turns h (slicesAt w) (slices ws (x₀ .levels) vs bs) (w .running) (stepped c r) → Way
   stride w z ws vs bs c r small ew ev eb t =
       record {
         running = r;
@@ -253,24 +285,22 @@ module _ (h : Held) (x₀ : Slices) (r₀ : Running) (limit : ℕ) where
         long-words = ew ∙ w .long-words;
         long-values = ev ∙ w .long-values;
         long-board = eb ∙ w .long-board;
-        early = λ y. t .later y .1;
         reached = λ y. further (w .reached z) (t .goes y);
         over = λ n. at-last (w .reached z) (t .ends n);
       }
 
   -- what is left of it, which falls with each step
   pub rest : Way → ℕ
-  rest w = cond (eqb (w .ending) 0) (suc (limit - w .running .steps)) 0
+  rest w = cond (eqb (w .ending) 0) (suc (w .running .left)) 0
 
-  rest-going : (w : Way) → w .ending ≡ 0 → rest w ≡ suc (limit - w .running .steps)
+  rest-going : (w : Way) → w .ending ≡ 0 → rest w ≡ suc (w .running .left)
   unfolding rest
   rest-going w z = rw (eq-eqb _ 0 z)
 
-  pub falls : (w : Way) (z : w .ending ≡ 0) (u : Way) → (u .ending ≡ 0 → (u .running .steps ≡ suc (w .running .steps)) × (u .running .steps ≤ limit))
-      → rest u < rest w
+  pub falls : (w : Way) (z : w .ending ≡ 0) (u : Way) → (u .ending ≡ 0 → u .running .left < w .running .left) → rest u < rest w
   unfolding rest
   falls w z u f = pick (test (eqb (u .ending) 0))
     where
       pick : Test (eqb (u .ending) 0) → rest u < rest w
-      pick (holds e) = let k = f (eqb-true _ 0 e) in rw (e, rest-going w z) (omega (arith, k .0, k .1))
+      pick (holds e) = rw (e, rest-going w z) (omega (arith, f (eqb-true _ 0 e)))
       pick (fails e) = rw (e, rest-going w z) (omega arith)

@@ -2,7 +2,7 @@
 -- Assumes nothing.
 use mathlib.Core.Path.{_≡_, refl, sym, ap, subst, _∙_}
 use mathlib.Core.List.{List, []}
-use Prim.Native.Nat.{ℕ, _-_}
+use Prim.Native.Nat.{ℕ, _+_, _-_}
 use native.Mathlib.Omega.{arith}
 use lib.ListN.{length, getD}
 use borrow.Author.Tests.{eq-eqb, ne-eqb}
@@ -29,11 +29,12 @@ use Rattle.monitor.specs.Starting.{outcomeOf, asLent}
 use Rattle.monitor.specs.FromRoot.{Rooted, FromRoot}
 
 -- the record that a run starts from
-abbrev pub rootOf : ℕ → ℕ → Guards → Running
-rootOf used free g = record { memory = record { cursor = 0; level = 0; lines = 0; free = free; used = used }; guards = g; at = 0; steps = 0 }
+abbrev pub rootOf : ℕ → ℕ → ℕ → Guards → Running
+rootOf budget used free g =
+    record { memory = record { cursor = 0; level = 0; lines = 0; free = free; used = used }; guards = g; at = 0; left = budget }
 
 pub startable : (h : Held) (x : Slices) (budget used free : ℕ) (g : Guards) → length (h .plan) ≡ 1025 → Rooted h x budget
-    → Startable h x (rootOf used free g) budget
+    → Startable h x (rootOf budget used free g)
 startable h x budget used free g long r =
     record {
       script = r .script (omega (arith, r .short, long));
@@ -47,34 +48,33 @@ startable h x budget used free g long r =
             room = omega arith;
             within = omega arith;
           };
-      early = omega arith;
-      limited = r .spend;
     }
 
 module _ (h : Held) (x x′ : Slices) (budget used free : ℕ) (g : Guards) (none : Guarded g []) (levels : x′ .levels ≡ x .levels) (a : Stepped)
-    (runs : Runs h x x′ (rootOf used free g) (budget - 0) a) where
-  rs : Runs h x x′ (rootOf used free g) budget a
-  rs = subst (λ (k : ℕ). Runs h x x′ (rootOf used free g) k a) {x = budget - 0} (omega arith) runs
-
+    (rs : Runs h x x′ (rootOf budget used free g) a) where
   module _ (given : Buffers) (vs : List Variable) (t : Forest) (lent : Lent h x given) (valid : Valid (scriptIn h) (start vs t))
       (vars : Variables (x .levels) (x .values) (h .vars) vs) (holds : Holds (cells (x .words)) (h .places) used free 0 t root) where
     abbrev e : Ended
     e = run given (scriptIn h) budget (start vs t)
 
-    begins : Stands (h .places) (h .vars) x (rootOf used free g) (start vs t)
+    begins : Stands (h .places) (h .vars) x (rootOf budget used free g) (start vs t)
     unfolding start public
-    begins = record { memory = record { tree = holds; level = refl; variables = vars; lines = no-lines }; guards = none; at = refl; steps = refl }
+    begins = record { memory = record { tree = holds; level = refl; variables = vars; lines = no-lines }; guards = none; at = refl }
 
-    ran : Steps.Ran h x′ a e
+    ran : Steps.Ran h x′ a (start vs t .steps + budget) e
     ran = rs .runs given (start vs t) lent valid begins
 
     line-count : length (e .last .memory .lines) ≡ a .running .memory .lines
     line-count = lines-many (ran .last .memory .lines)
 
-    answered : (k : Ending) → e .ending ≡ k → a .stop ≡ codeOf k → outcomeOf a ≡ told (Rules.ran e)
+    step-count : e .last .steps ≡ budget - a .running .left
+    unfolding start
+    step-count = omega (arith, ran .steps)
+
+    answered : (k : Ending) → e .ending ≡ k → a .stop ≡ codeOf k → outcomeOf budget a ≡ told (Rules.ran e)
     unfolding told toldBy outcomeOf codeOf
-    answered finished w z = rw (w, line-count, ran .last .steps, eq-eqb _ 255 z)
-    answered (stopped k) w z = rw (w, line-count, ran .last .steps, ran .last .at, ne-eqb _ 255 (λ y. stop-below k (sym z ∙ y)), z)
+    answered finished w z = rw (w, line-count, step-count, eq-eqb _ 255 z)
+    answered (stopped k) w z = rw (w, line-count, step-count, ran .last .at, ne-eqb _ 255 (λ y. stop-below k (sym z ∙ y)), z)
 
     leaves : Ran Tree (h .vars) (h .places) (asLent x) (asLent x′) e
     leaves =
@@ -87,7 +87,7 @@ module _ (h : Held) (x x′ : Slices) (budget used free : ℕ) (g : Guards) (non
           tree = record { used = a .running .memory .used; free = a .running .memory .free; at = a .running .memory .cursor; holds = m .tree };
         }
 
-  pub from-root : FromRoot h used free budget x x′ (outcomeOf a)
+  pub from-root : FromRoot h used free budget x x′ (outcomeOf budget a)
   from-root =
       record {
         behind = rs .kept .cells;

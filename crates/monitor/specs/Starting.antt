@@ -1,7 +1,7 @@
 -- What the functions under the run over a job's bytes promise: loading the variables, the checks 9 and 10, an accepted job's run. Assumes nothing.
 use mathlib.Core.Path.{_≡_}
 use mathlib.Core.Bool.{Bool, cond, _&&_}
-use Prim.Native.Nat.{ℕ, _*_, _<_, _≤_}
+use Prim.Native.Nat.{ℕ, _-_, _*_, _<_, _≤_}
 use mathlib.Core.List.{List}
 use lib.ListN.{length, getD}
 use lib.IntN.{ℤ, pos}
@@ -30,11 +30,11 @@ use Rattle.actions.specs.Stands.{ended}
 use Rattle.monitor.specs.Steps.{Planned}
 use Rattle.monitor.specs.Promises.{told, Lent, lent, Tree, Ran}
 
--- the outcome of a run that has ended
-unfoldable pub outcomeOf : Stepped → Outcome
-outcomeOf a =
-    cond (eqb (a .stop) ended) (Finished (a .running .steps) (a .running .memory .lines))
-    (Stopped (a .stop) (a .running .at) (a .running .steps) (a .running .memory .lines))
+-- the outcome of a run with a budget that has ended
+unfoldable pub outcomeOf : ℕ → Stepped → Outcome
+outcomeOf budget a =
+    cond (eqb (a .stop) ended) (Finished (budget - a .running .left) (a .running .memory .lines))
+    (Stopped (a .stop) (a .running .at) (budget - a .running .left) (a .running .memory .lines))
 
 -- the variables' records lie in the bytes, and there is room for them
 pub record Loading (b levels : List ℕ) (values : List ℤ) (n : ℕ) : Type 0 where

@@ -5,7 +5,7 @@ use Prim.Native.Nat.{ℕ, suc, _+_, _-_, _*_, _<_, _≤_}
 use mathlib.Core.List.{List}
 use lib.ListN.{length, getD}
 use lib.Dec.{ltb}
-use Rattle.rules.specs.Limits.{maxNodes, maxRecords, maxBudget}
+use Rattle.rules.specs.Limits.{maxNodes, maxRecords}
 use Rattle.rules.specs.Bytes.{recordPlace}
 use Rattle.rules.specs.Blocks.{blockRule, goesTo}
 use Rattle.rules.specs.Check.{recordRule, code}
@@ -81,8 +81,8 @@ pub record Lent (h : Held) (x : Slices) (lent : Buffers) : Type 0 where
 pub record Steps (h : Held) (x x′ : Slices) (r : Running) (a : Stepped) : Type 0 where
   pub safe : Safe h x′ (a .running)
   pub kept : Kept (h .places) (h .vars) x x′ (r .memory .lines) (a .running .memory .lines)
-  pub counted : a .stop ≡ 0 → a .running .steps ≡ suc (r .steps)
-  pub early : a .running .steps ≤ suc (r .steps)
+  pub counted : a .stop ≡ 0 → a .running .left ≡ r .left - 1
+  pub uncounted : (a .stop ≡ 0 → ⊥) → a .running .left ≡ r .left
   pub board : length (x′ .board) ≡ length (x .board)
   pub steps : (lent : Buffers) (s : State) → Lent h x lent → Valid (scriptIn h) s → Stands (h .places) (h .vars) x r s
       → Does (Stands (h .places) (h .vars) x′ (a .running)) (a .stop) s (step lent (scriptIn h) s)
@@ -101,43 +101,43 @@ unfoldable pub codeOf : Ending → ℕ
 codeOf finished = ended
 codeOf (stopped k) = stopNumber k
 
--- how a run has ended, in the rules' words
-pub record Ran (h : Held) (x′ : Slices) (a : Stepped) (e : Ended) : Type 0 where
+-- how a run has ended, in the rules' words: the steps that it has made, with those that are left, are `total`
+pub record Ran (h : Held) (x′ : Slices) (a : Stepped) (total : ℕ) (e : Ended) : Type 0 where
   pub ending : a .stop ≡ codeOf (e .ending)
   pub last : Stands (h .places) (h .vars) x′ (a .running) (e .last)
+  pub steps : e .last .steps + a .running .left ≡ total
 
--- a whole run with a budget
-pub record Runs (h : Held) (x x′ : Slices) (r : Running) (budget : ℕ) (a : Stepped) : Type 0 where
-  pub early : a .running .steps ≤ r .steps + budget
+-- a whole run, with the steps that are left as its budget
+pub record Runs (h : Held) (x x′ : Slices) (r : Running) (a : Stepped) : Type 0 where
+  pub early : a .running .left ≤ r .left
   pub kept : Kept (h .places) (h .vars) x x′ (r .memory .lines) (a .running .memory .lines)
   pub runs : (lent : Buffers) (s : State) → Lent h x lent → Valid (scriptIn h) s → Stands (h .places) (h .vars) x r s
-      → Ran h x′ a (run lent (scriptIn h) budget s)
+      → Ran h x′ a (s .steps + r .left) (run lent (scriptIn h) (r .left) s)
 
 -- a state that x and r stand for, from which the rest of the run goes on
-pub record Comes (h : Held) (lent : Buffers) (e : Ended) (x : Slices) (r : Running) (left : ℕ) : Type 0 where
+pub record Comes (h : Held) (lent : Buffers) (total : ℕ) (e : Ended) (x : Slices) (r : Running) : Type 0 where
   pub s : State
   pub valid : Valid (scriptIn h) s
   pub stands : Stands (h .places) (h .vars) x r s
-  pub rest : e ≡ run lent (scriptIn h) left s
+  pub steps : s .steps + r .left ≡ total
+  pub rest : e ≡ run lent (scriptIn h) (r .left) s
 
--- how far a run has come that began with x₀, r₀ and a budget
-pub record Reached (h : Held) (x₀ : Slices) (r₀ : Running) (budget : ℕ) (x : Slices) (r : Running) (left : ℕ) : Type 0 where
+-- how far a run has come that began with x₀ and r₀
+pub record Reached (h : Held) (x₀ : Slices) (r₀ : Running) (x : Slices) (r : Running) : Type 0 where
   pub safe : Safe h x r
-  pub early : r .steps + left ≤ r₀ .steps + budget
+  pub early : r .left ≤ r₀ .left
   pub kept : Kept (h .places) (h .vars) x₀ x (r₀ .memory .lines) (r .memory .lines)
   pub board : length (x .board) ≡ length (x₀ .board)
   pub comes : (lent : Buffers) (s : State) → Lent h x₀ lent → Valid (scriptIn h) s → Stands (h .places) (h .vars) x₀ r₀ s
-      → Comes h lent (run lent (scriptIn h) budget s) x r left
+      → Comes h lent (s .steps + r₀ .left) (run lent (scriptIn h) (r₀ .left) s) x r
 
--- a running record from which a script can go on, over the slices x, until it has made `limit` steps
-pub record Startable (h : Held) (x : Slices) (r : Running) (limit : ℕ) : Type 0 where
+-- a running record from which a script can go on, over the slices x
+pub record Startable (h : Held) (x : Slices) (r : Running) : Type 0 where
   pub script : Script h
   pub safe : Safe h x r
-  pub early : r .steps ≤ limit
-  pub limited : limit ≤ maxBudget
 
--- one step of a run that may make `limit` steps: it goes on with one step more, or has ended
-pub record Turns (h : Held) (x x′ : Slices) (r : Running) (limit : ℕ) (a : Stepped) : Type 0 where
-  pub goes : a .stop ≡ 0 → Reached h x r (limit - r .steps) x′ (a .running) (limit - a .running .steps)
-  pub later : a .stop ≡ 0 → (a .running .steps ≡ suc (r .steps)) × (a .running .steps ≤ limit)
-  pub ends : (a .stop ≡ 0 → ⊥) → Runs h x x′ r (limit - r .steps) a
+-- one step of a run: it goes on with one step less, or has ended
+pub record Turns (h : Held) (x x′ : Slices) (r : Running) (a : Stepped) : Type 0 where
+  pub goes : a .stop ≡ 0 → Reached h x r x′ (a .running)
+  pub later : a .stop ≡ 0 → a .running .left < r .left
+  pub ends : (a .stop ≡ 0 → ⊥) → Runs h x x′ r a

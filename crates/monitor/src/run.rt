@@ -7,7 +7,6 @@ use actions::control::Stepped;
 use actions::control::halt;
 use rules::limits::SPENT;
 ghost use mathlib.Core.Path.{_≡_};
-ghost use Prim.Native.Nat.{_-_};
 ghost use Rattle.actions.specs.Shows.{slices};
 ghost use Rattle.actions.specs.Stands.{stepped};
 ghost use Rattle.monitor.specs.Steps.{held, overAt, Startable, Turns, Runs};
@@ -19,24 +18,23 @@ fn over(at: usize, records: usize) -> u8
     if at < records { SPENT } else { FINISHED }
 }
 
-// What comes next in a run that may make `limit` steps: the script's end, the budget's, a stop, or one step more.
+// What comes next in a run: the script's end, the budget's, a stop, or one step more.
 fn turn(
     r: Running,
     job: &[u8],
     plan: &[u32],
     levels: &[u8],
     f: Frame,
-    limit: usize,
     words: &mut [u32],
     values: &mut [i32],
     lines: &mut [u8],
 ) -> Stepped
-    requires { ⌜ Startable (held (now job) (now plan) f) (slices (now words) (now levels) (now values) (now lines)) r limit ⌝ }
+    requires { ⌜ Startable (held (now job) (now plan) f) (slices (now words) (now levels) (now values) (now lines)) r ⌝ }
     ensures { λ a. ⌜ Turns (held (now (job .entry)) (now (plan .entry)) f)
         (slices (now (words .entry)) (now (levels .entry)) (now (values .entry)) (now (lines .entry)))
-        (slices (now (words .exit)) (now (levels .entry)) (now (values .exit)) (now (lines .exit))) r limit a ⌝ }
+        (slices (now (words .exit)) (now (levels .entry)) (now (values .exit)) (now (lines .exit))) r a ⌝ }
 {
-    if r.steps >= limit {
+    if r.left == 0 {
         return halt(r, over(r.at, f.records));
     }
     carry_out(job, plan, levels, f, words, values, lines, r)
@@ -49,18 +47,17 @@ fn step(
     plan: &[u32],
     levels: &[u8],
     f: Frame,
-    limit: usize,
     words: &mut [u32],
     values: &mut [i32],
     lines: &mut [u8],
 ) -> u8
-    requires { ⌜ Startable (held (now job) (now plan) f) (slices (now words) (now levels) (now values) (now lines)) (now r) limit ⌝ }
+    requires { ⌜ Startable (held (now job) (now plan) f) (slices (now words) (now levels) (now values) (now lines)) (now r) ⌝ }
     ensures { λ c. ⌜ Turns (held (now (job .entry)) (now (plan .entry)) f)
         (slices (now (words .entry)) (now (levels .entry)) (now (values .entry)) (now (lines .entry)))
-        (slices (now (words .exit)) (now (levels .entry)) (now (values .exit)) (now (lines .exit))) (now (r .entry)) limit (stepped c (now (r .exit))) ⌝ }
+        (slices (now (words .exit)) (now (levels .entry)) (now (values .exit)) (now (lines .exit))) (now (r .entry)) (stepped c (now (r .exit))) ⌝ }
 {
     let v = *r;
-    let a = turn(v, job, plan, levels, f, limit, words, values, lines);
+    let a = turn(v, job, plan, levels, f, words, values, lines);
     let t = a.running;
     *r = t;
     a.stop
@@ -73,20 +70,18 @@ fn run(
     plan: &[u32],
     levels: &[u8],
     f: Frame,
-    limit: usize,
     words: &mut [u32],
     values: &mut [i32],
     lines: &mut [u8],
 ) -> u8
-    requires { ⌜ Startable (held (now job) (now plan) f) (slices (now words) (now levels) (now values) (now lines)) (now r) limit ⌝ }
+    requires { ⌜ Startable (held (now job) (now plan) f) (slices (now words) (now levels) (now values) (now lines)) (now r) ⌝ }
     ensures { λ c. ⌜ Runs (held (now (job .entry)) (now (plan .entry)) f)
         (slices (now (words .entry)) (now (levels .entry)) (now (values .entry)) (now (lines .entry)))
-        (slices (now (words .exit)) (now (levels .entry)) (now (values .exit)) (now (lines .exit))) (now (r .entry)) (limit - now (r .entry) .steps)
-        (stepped c (now (r .exit))) ⌝ }
+        (slices (now (words .exit)) (now (levels .entry)) (now (values .exit)) (now (lines .exit))) (now (r .entry)) (stepped c (now (r .exit))) ⌝ }
 {
     let mut ending = 0;
     while ending == 0 {
-        ending = step(r, job, plan, levels, f, limit, words, values, lines);
+        ending = step(r, job, plan, levels, f, words, values, lines);
     }
     ending
 }
@@ -97,24 +92,23 @@ fn halted(stop: u8, running: Running) -> Stepped
     Stepped { stop, running }
 }
 
-// A run from where a running record stands, which may make `limit` steps.
+// A run from where a running record stands.
 pub fn run_from(
     start: Running,
     job: &[u8],
     plan: &[u32],
     levels: &[u8],
     f: Frame,
-    limit: usize,
     words: &mut [u32],
     values: &mut [i32],
     lines: &mut [u8],
 ) -> Stepped
-    requires { ⌜ Startable (held (now job) (now plan) f) (slices (now words) (now levels) (now values) (now lines)) start limit ⌝ }
+    requires { ⌜ Startable (held (now job) (now plan) f) (slices (now words) (now levels) (now values) (now lines)) start ⌝ }
     ensures { λ a. ⌜ Runs (held (now (job .entry)) (now (plan .entry)) f)
         (slices (now (words .entry)) (now (levels .entry)) (now (values .entry)) (now (lines .entry)))
-        (slices (now (words .exit)) (now (levels .entry)) (now (values .exit)) (now (lines .exit))) start (limit - start .steps) a ⌝ }
+        (slices (now (words .exit)) (now (levels .entry)) (now (values .exit)) (now (lines .exit))) start a ⌝ }
 {
     let mut r = start;
-    let stop = run(&mut r, job, plan, levels, f, limit, words, values, lines);
+    let stop = run(&mut r, job, plan, levels, f, words, values, lines);
     halted(stop, r)
 }

@@ -16,21 +16,22 @@ ghost use Rattle.monitor.specs.Steps.{held};
 ghost use Rattle.monitor.specs.Starting.{outcomeOf};
 ghost use Rattle.monitor.specs.FromRoot.{Rooted, FromRoot};
 
-// How a run has ended, as an outcome.
-fn ended(a: Stepped) -> Outcome
-    requires { ⌜ a .running .steps ≤ maxBudget ⌝ }
-    ensures { λ r. ⌜ r ≡ outcomeOf a ⌝ }
+// How a run with a budget has ended, as an outcome.
+fn ended(a: Stepped, budget: usize) -> Outcome
+    requires { ⌜ (a .running .left ≤ budget) × (budget ≤ maxBudget) ⌝ }
+    ensures { λ r. ⌜ r ≡ outcomeOf budget a ⌝ }
 {
+    let steps = (budget - a.running.left) as u32;
     if a.stop == FINISHED {
         return Outcome::Finished {
-            steps: a.running.steps as u32,
+            steps,
             lines: a.running.memory.lines,
         };
     }
     Outcome::Stopped {
         number: a.stop,
         index: a.running.at,
-        steps: a.running.steps as u32,
+        steps,
         lines: a.running.memory.lines,
     }
 }
@@ -64,7 +65,10 @@ pub fn from_root(
         memory,
         guards: guards::none(),
         at: 0,
-        steps: 0,
+        left: budget,
     };
-    ended(run_from(start, bytes, plan, levels, f, budget, words, values, lines))
+    ended(
+        run_from(start, bytes, plan, levels, f, words, values, lines),
+        budget,
+    )
 }

@@ -19,7 +19,7 @@ use job::records::fields_at;
 ghost use mathlib.Core.Path.{_≡_};
 ghost use Prim.Native.Nat.{_+_, _-_, _≤_, _<_};
 ghost use lib.ListN.{length};
-ghost use Rattle.rules.specs.Limits.{maxBudget, recordSize};
+ghost use Rattle.rules.specs.Limits.{recordSize};
 ghost use Rattle.rules.specs.Bytes.{recordPlace};
 ghost use Rattle.job.specs.Fields.{fieldsOf};
 ghost use Rattle.actions.specs.Shows.{slices};
@@ -63,7 +63,7 @@ pub fn carry_out(
 ) -> Stepped
     requires { ⌜ Script (held (now job) (now plan) f)
         × (Safe (held (now job) (now plan) f) (slices (now words) (now levels) (now values) (now lines)) r
-        × (r .steps < maxBudget)) ⌝ }
+        × (0 < r .left)) ⌝ }
     ensures { λ a. ⌜ Carries (held (now (job .entry)) (now (plan .entry)) f)
         (slices (now (words .entry)) (now (levels .entry)) (now (values .entry)) (now (lines .entry)))
         (slices (now (words .exit)) (now (levels .entry)) (now (values .exit)) (now (lines .exit))) r a ⌝ }

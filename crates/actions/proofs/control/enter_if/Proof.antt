@@ -15,14 +15,14 @@ join-requires c κs = search needs
 push-requires : tie.Need-push-requires
 push-requires c κs = search needs
 
-add-next : tie.Need-add-next
-add-next c = search needs
+sub-next : tie.Need-sub-next
+sub-next c = search needs
 
 is-zero-requires : tie.Need-is-zero-requires
 is-zero-requires c κs = search needs
 
-add-next-2 : tie.Need-add-next-2
-add-next-2 c = search needs
+add-next : tie.Need-add-next
+add-next c = search needs
 
 returns : tie.Need-returns
 returns c =
@@ -45,8 +45,8 @@ enter-if-spec =
     top-requires
     join-requires
     push-requires
-    add-next
+    sub-next
     is-zero-requires
-    add-next-2
+    add-next
     returns
     returns-2)

@@ -6,8 +6,8 @@ use borrow.Author.Needs.{needs}
 use Rattle.actions.proofs.control.enter_while.Statement.{statement}
 use Rattle.actions.proofs.control.enter_while.Tie as tie
 
-add-next : tie.Need-add-next
-add-next c = search needs
+sub-next : tie.Need-sub-next
+sub-next c = search needs
 
 is-zero-requires : tie.Need-is-zero-requires
 is-zero-requires c κs = search needs
@@ -21,8 +21,8 @@ join-requires c κs = search needs
 push-requires : tie.Need-push-requires
 push-requires c κs = search needs
 
-add-next-2 : tie.Need-add-next-2
-add-next-2 c = search needs
+add-next : tie.Need-add-next
+add-next c = search needs
 
 returns : tie.Need-returns
 returns c =
@@ -38,11 +38,11 @@ pub enter-while-spec : {M : Type 1} → statement M
 enter-while-spec =
     tie.close
     (tie.spec
-    add-next
+    sub-next
     is-zero-requires
     top-requires
     join-requires
     push-requires
-    add-next-2
+    add-next
     returns
     returns-2)

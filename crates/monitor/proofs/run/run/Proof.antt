@@ -5,13 +5,13 @@ use mathlib.Core.WellFounded.{WellFounded, InvImage·wf}
 use mathlib.Core.Bool.{not}
 use lib.Dec.{T as Holds, eqb, eqb→eq}
 use Rattle.walks.proofs.Walk.{_<_, ℕ, Fml, GName, Lft, Share, fat, fdies, flft, froom, SProp, ent, id⊢, sep, Fun, fact, givenOf, tables}
-use Rattle.walks.proofs.Walk.{tablesOf, i32, u32, u8, usize, yes, Is, shows, LentAgain, comes-back, lends-again, mem, pointee, uint-lawful}
-use Rattle.walks.proofs.Walk.{uint-makes, uint-tells, uint-vals, owns, MutRef, RefT, mut-tells, ptr-vals, plain, shrSliceOf, MutSlice, Room}
+use Rattle.walks.proofs.Walk.{tablesOf, i32, u32, u8, yes, Is, shows, LentAgain, comes-back, lends-again, mem, pointee, uint-lawful}
+use Rattle.walks.proofs.Walk.{uint-makes, uint-tells, owns, MutRef, RefT, mut-tells, ptr-vals, plain, shrSliceOf, MutSlice, Room}
 use Rattle.walks.proofs.Walk.{ShrSlice, mut-slice-tells, shr-slice-copy, shr-slice-tells, slice-vals, sliceTy, sliceVal, heard, nothing, only}
 use Rattle.walks.proofs.Walk.{owned, peeks, calls-at-last, ensured, lasts, onEntry, Meets, tripleOf, Contract, Triple, cited, entered, Stays}
 use Rattle.walks.proofs.Walk.{Walks, ends-at, goes-dropped, goes-ref, goes-slice, needs, says, stay-dropped, stay-ref, stay-slice, walk-meets}
 use Rattle.walks.proofs.Walk.{walkOf, walked, Atoms, sem, fullShare, URA, lit<, ℤ, List, [], _∷_, _≡_, ap, refl, subst, sym, Ty, erased, imm}
-use Rattle.walks.proofs.Walk.{mut, named, tyBool, tyInt, tyRef, w32, w64, w8, Val, vint, vptr, Memory, Routine, Heap, Tables, WpFn, WpFn-mono}
+use Rattle.walks.proofs.Walk.{mut, named, tyBool, tyInt, tyRef, w32, w8, Val, vint, vptr, Memory, Routine, Heap, Tables, WpFn, WpFn-mono}
 use Rattle.walks.proofs.Walk.{fmOf, !, Given, Item, _$_, _∵_, _⊛_, await, by, done, drop, feqL, fjoin, frame, fsplit, join, keep, later, move}
 use Rattle.walks.proofs.Walk.{pick, qed, raw, rewrite, some, split, suffices, use1, use2, use3, ‵, ⋆, agg, look-in, sub, whole, addr, again}
 use Rattle.walks.proofs.Walk.{alloc0, alloc1, and-then, bin, enter, fld, forget, free0, free1, from, hop, init, land-last, lit, load, look}
@@ -50,10 +50,7 @@ stayed = (
         stay-dropped (shrSliceOf (3 ∷ []) tt (plain (λ _. u8))) yes,
         (
           stay-dropped (plain (λ _. F.the-row)) yes,
-          (
-            stay-dropped (plain (λ _. usize)) yes,
-            (stay-slice (4 ∷ []) tt (plain (λ _. u32)), (stay-slice (5 ∷ []) tt (plain (λ _. i32)), (stay-slice (6 ∷ []) tt (plain (λ _. u8)), tt))),
-          ),
+          (stay-slice (4 ∷ []) tt (plain (λ _. u32)), (stay-slice (5 ∷ []) tt (plain (λ _. i32)), (stay-slice (6 ∷ []) tt (plain (λ _. u8)), tt))),
         ),
       ),
     ),
@@ -64,14 +61,14 @@ abbrev Step : {M : Type 1} (𝓤 : URA M) (H : Heap 𝓤) (A : Atoms 𝓤) (at-m
 Step 𝓤 H A at-mem run = tripleOf 𝓤 H A st.signature (st.spec 𝓤 H A at-mem run)
 
 abbrev Lasts : Type 0
-Lasts = Running × (Unit {0} × (Unit {0} × (Unit {0} × (Unit {0} × (Unit {0} × (List ℕ × (List ℤ × (List ℕ × Unit {0}))))))))
+Lasts = Running × (Unit {0} × (Unit {0} × (Unit {0} × (Unit {0} × (List ℕ × (List ℤ × (List ℕ × Unit {0})))))))
 
 -- what is left of a run, as an order on ways
-abbrev Less : (hd : Held) (x₀ : Slices) (r₀ : Running) (limit : ℕ) → Way hd x₀ r₀ limit → Way hd x₀ r₀ limit → Type 0
-Less hd x₀ r₀ limit u w = rest hd x₀ r₀ limit u < rest hd x₀ r₀ limit w
+abbrev Less : (hd : Held) (x₀ : Slices) (r₀ : Running) → Way hd x₀ r₀ → Way hd x₀ r₀ → Type 0
+Less hd x₀ r₀ u w = rest hd x₀ r₀ u < rest hd x₀ r₀ w
 
-less-wf : (hd : Held) (x₀ : Slices) (r₀ : Running) (limit : ℕ) → WellFounded (Less hd x₀ r₀ limit)
-less-wf hd x₀ r₀ limit = InvImage·wf (rest hd x₀ r₀ limit) (Nat·lt-wfRel .wf)
+less-wf : (hd : Held) (x₀ : Slices) (r₀ : Running) → WellFounded (Less hd x₀ r₀)
+less-wf hd x₀ r₀ = InvImage·wf (rest hd x₀ r₀) (Nat·lt-wfRel .wf)
 
 not-over : (n : ℕ) → n ≡ 0 → Holds (not (eqb n 0)) → ⊥
 not-over n z t = subst (λ (m : ℕ). Holds (not (eqb m 0))) z t
@@ -99,7 +96,7 @@ module _ {M : Type 1} (𝓤 : URA M) (H : Heap 𝓤) (A : Atoms 𝓤) (W : Given
   Post = walkOf 𝓤 H A run′.ended stayed (run′.clauses 𝓤 H A at-mem run) .post bound
 
   abbrev On : Type 0
-  On = Way (heldOf s) (slicesOf s) h (s .limit)
+  On = Way (heldOf s) (slicesOf s) h
 
   -- what is owned of r and of the slices
   abbrev Rn : Lft → GName → Running → Fml
@@ -156,7 +153,6 @@ module _ {M : Type 1} (𝓤 : URA M) (H : Heap 𝓤) (A : Atoms 𝓤) (W : Given
       plan = s .plan;
       levels = s .levels;
       f = s .f;
-      limit = s .limit;
       words = renamed (s .words) δ₄ (w .words);
       values = renamed (s .values) δ₅ (w .values);
       lines = renamed (s .lines) δ₆ (w .board);
@@ -174,13 +170,13 @@ module _ {M : Type 1} (𝓤 : URA M) (H : Heap 𝓤) (A : Atoms 𝓤) (W : Given
     abbrev Owned : Fml
     Owned = owns (MutRef (named 0) (ν ∷ []) R.the-row ∷ Rest on-step) args (vptr b o ∷ [], valsOf s)
 
-    goes-step : Startable (heldOf s) (slicesAt (heldOf s) (slicesOf s) h (s .limit) w) (w .running) (s .limit)
+    goes-step : Startable (heldOf s) (slicesAt (heldOf s) (slicesOf s) h w) (w .running)
         → ent 𝓤 (sep 𝓤 (⋆ 𝓤 H A (Toks ∷ [])) (sem 𝓤 H A Owned)) (Step 𝓤 H A at-mem run .pre to-step)
     goes-step pre = qed W (Toks ∷ ‵ Owned ∷ []) ∵ says ! pre $ done !
 
     abbrev After : Running → List ℕ → List ℤ → List ℕ → ℕ → Type 0
     After r ws vs ls c =
-        Turns (heldOf s) (slicesAt (heldOf s) (slicesOf s) h (s .limit) w) (slices ws (s .levels .now) vs ls) (w .running) (s .limit) (stepped c r)
+        Turns (heldOf s) (slicesAt (heldOf s) (slicesOf s) h w) (slices ws (s .levels .now) vs ls) (w .running) (stepped c r)
 
   abbrev Left : On → List (Item 𝓤)
   Left w =
@@ -192,37 +188,36 @@ module _ {M : Type 1} (𝓤 : URA M) (H : Heap 𝓤) (A : Atoms 𝓤) (W : Given
   exits w n =
       qed W (Left w) ∵
       suffices ! _ (ends-at 𝓤 H A run′.ended stayed (run′.clauses 𝓤 H A at-mem run) W bound (vint w8 (w .ending)) (w .ending)
-      (w .running, (tt, (tt, (tt, (tt, (tt, (w .words, (w .values, (w .board, tt)))))))))
-      (tt, (tt, (tt, (tt, (tt, (tt, (w .long-words, (w .long-values, (w .long-board, tt)))))))))) $ says ! (w .over n) $ nothing ! $
+      (w .running, (tt, (tt, (tt, (tt, (w .words, (w .values, (w .board, tt))))))))
+      (tt, (tt, (tt, (tt, (tt, (w .long-words, (w .long-values, (w .long-board, tt))))))))) $ says ! (w .over n) $ nothing ! $
       move ! (11 ∷ 0 ∷ []) $ join ! $ move ! (10 ∷ 0 ∷ []) $ join ! $ move ! (9 ∷ 0 ∷ []) $ join ! $ move ! (8 ∷ 0 ∷ []) $ join ! $
       move ! (7 ∷ 0 ∷ []) $ join ! $ move ! (6 ∷ 0 ∷ []) $ join ! $ move ! (5 ∷ 0 ∷ []) $ join ! $ frame ! $ nothing ! $
       move ! (4 ∷ 0 ∷ []) $ fjoin ! $ move ! (3 ∷ 0 ∷ []) $ fjoin ! $ move ! (2 ∷ 0 ∷ []) $ fjoin ! $ nothing ! $ fjoin ! $ nothing ! $
-      fjoin ! $ nothing ! $ fjoin ! $ nothing ! $ fjoin ! $ nothing ! $ fjoin ! $ move ! (1 ∷ 0 ∷ []) $ fjoin ! $ frame ! $
+      fjoin ! $ nothing ! $ fjoin ! $ nothing ! $ fjoin ! $ move ! (1 ∷ 0 ∷ []) $ fjoin ! $ frame ! $
       owned ! u8 (Is u8) (uint-makes 𝓤 H A W w8) (w .ending) _ (refl, w .small) $ done !
 
   module _ (𝓣 : Tables 𝓤 H) (known : Triple 𝓤 (𝓣 .C #step) (Step 𝓤 H A at-mem run)) where
     -- the loop's invariant
-    abbrev At : (l₀ l₁ l₂ l₃ l₄ l₅ l₆ l₇ l₈ l₉ l₁₀ l₁₁ l₁₂ l₁₃ l₁₄ l₁₅ l₁₆ l₁₇ l₁₈ : ℕ) → On → List (Item 𝓤)
-    At l₀ l₁ l₂ l₃ l₄ l₅ l₆ l₇ l₈ l₉ l₁₀ l₁₁ l₁₂ l₁₃ l₁₄ l₁₅ l₁₆ l₁₇ l₁₈ w =
+    abbrev At : (l₀ l₁ l₂ l₃ l₄ l₅ l₆ l₇ l₈ l₉ l₁₀ l₁₁ l₁₂ l₁₃ l₁₄ l₁₅ l₁₆ l₁₇ : ℕ) → On → List (Item 𝓤)
+    At l₀ l₁ l₂ l₃ l₄ l₅ l₆ l₇ l₈ l₉ l₁₀ l₁₁ l₁₂ l₁₃ l₁₄ l₁₅ l₁₆ l₁₇ w =
         ‵ (Rn κ γ (w .running)) ∷ ‵ (Wo (s .κ₄) (s .words .name) (w .words)) ∷ ‵ (Va (s .κ₅) (s .values .name) (w .values))
         ∷ ‵ (Li (s .κ₆) (s .lines .name) (w .board)) ∷ ‵ Jo ∷ ‵ Ju ∷ ‵ Le ∷ ‵ (flft κ q) ∷ ‵ (flft (s .κ₁) (s .q₁)) ∷ ‵ (flft (s .κ₂) (s .q₂))
         ∷ ‵ (flft (s .κ₃) (s .q₃)) ∷ ‵ (flft (s .κ₄) (s .q₄)) ∷ ‵ (flft (s .κ₅) (s .q₅)) ∷ ‵ (flft (s .κ₆) (s .q₆))
-        ∷ ‵ (froom (lent-ty (tyInt w8)) l₁₈ 0) ∷ ‵ (fdies (lent-ty (tyInt w8)) l₁₈)
-        ∷ ‵ (froom (lent-ref (tyInt w8)) l₁₇ 0) ∷ ‵ (fdies (lent-ref (tyInt w8)) l₁₇)
-        ∷ ‵ (froom (lent-ty (tyInt w32)) l₁₆ 0) ∷ ‵ (fdies (lent-ty (tyInt w32)) l₁₆)
-        ∷ ‵ (froom (lent-ref (tyInt w32)) l₁₅ 0) ∷ ‵ (fdies (lent-ref (tyInt w32)) l₁₅)
-        ∷ ‵ (froom (lent-ty (tyInt w32)) l₁₄ 0) ∷ ‵ (fdies (lent-ty (tyInt w32)) l₁₄)
-        ∷ ‵ (froom (lent-ref (tyInt w32)) l₁₃ 0) ∷ ‵ (fdies (lent-ref (tyInt w32)) l₁₃)
-        ∷ ‵ (froom (tyRef erased mut (pointee (R.the-row .written))) l₁₂ 0) ∷ ‵ (fdies (tyRef erased mut (pointee (R.the-row .written))) l₁₂)
-        ∷ ‵ (froom tyBool l₁₁ 0) ∷ ‵ (fdies tyBool l₁₁)
-        ∷ ‵ (fat fullShare (tyInt w8) l₁₀ 0 (vint w8 (w .ending))) ∷ ‵ (fdies (tyInt w8) l₁₀)
-        ∷ ‵ (fat fullShare (sliceTy (tyRef (named 6) mut (tyInt w8))) l₉ 0 (sliceOf (s .lines))) ∷ ‵ (fdies (sliceTy (tyRef (named 6) mut (tyInt
-        w8))) l₉)
-        ∷ ‵ (fat fullShare (sliceTy (tyRef (named 5) mut (tyInt w32))) l₈ 0 (sliceOf (s .values))) ∷ ‵ (fdies (sliceTy (tyRef (named 5) mut (tyInt
-        w32))) l₈)
-        ∷ ‵ (fat fullShare (sliceTy (tyRef (named 4) mut (tyInt w32))) l₇ 0 (sliceOf (s .words))) ∷ ‵ (fdies (sliceTy (tyRef (named 4) mut (tyInt
+        ∷ ‵ (froom (lent-ty (tyInt w8)) l₁₇ 0) ∷ ‵ (fdies (lent-ty (tyInt w8)) l₁₇)
+        ∷ ‵ (froom (lent-ref (tyInt w8)) l₁₆ 0) ∷ ‵ (fdies (lent-ref (tyInt w8)) l₁₆)
+        ∷ ‵ (froom (lent-ty (tyInt w32)) l₁₅ 0) ∷ ‵ (fdies (lent-ty (tyInt w32)) l₁₅)
+        ∷ ‵ (froom (lent-ref (tyInt w32)) l₁₄ 0) ∷ ‵ (fdies (lent-ref (tyInt w32)) l₁₄)
+        ∷ ‵ (froom (lent-ty (tyInt w32)) l₁₃ 0) ∷ ‵ (fdies (lent-ty (tyInt w32)) l₁₃)
+        ∷ ‵ (froom (lent-ref (tyInt w32)) l₁₂ 0) ∷ ‵ (fdies (lent-ref (tyInt w32)) l₁₂)
+        ∷ ‵ (froom (tyRef erased mut (pointee (R.the-row .written))) l₁₁ 0) ∷ ‵ (fdies (tyRef erased mut (pointee (R.the-row .written))) l₁₁)
+        ∷ ‵ (froom tyBool l₁₀ 0) ∷ ‵ (fdies tyBool l₁₀)
+        ∷ ‵ (fat fullShare (tyInt w8) l₉ 0 (vint w8 (w .ending))) ∷ ‵ (fdies (tyInt w8) l₉)
+        ∷ ‵ (fat fullShare (sliceTy (tyRef (named 6) mut (tyInt w8))) l₈ 0 (sliceOf (s .lines))) ∷ ‵ (fdies (sliceTy (tyRef (named 6) mut (tyInt
+        w8))) l₈)
+        ∷ ‵ (fat fullShare (sliceTy (tyRef (named 5) mut (tyInt w32))) l₇ 0 (sliceOf (s .values))) ∷ ‵ (fdies (sliceTy (tyRef (named 5) mut (tyInt
         w32))) l₇)
-        ∷ ‵ (fat fullShare (tyInt w64) l₆ 0 (vint w64 (s .limit))) ∷ ‵ (fdies (tyInt w64) l₆)
+        ∷ ‵ (fat fullShare (sliceTy (tyRef (named 4) mut (tyInt w32))) l₆ 0 (sliceOf (s .words))) ∷ ‵ (fdies (sliceTy (tyRef (named 4) mut (tyInt
+        w32))) l₆)
         ∷ ‵ (fat fullShare F′.mir l₅ 0 (frameVal (s .f))) ∷ ‵ (fdies F′.mir l₅)
         ∷ ‵ (fat fullShare (sliceTy (tyRef (named 3) imm (tyInt w8))) l₄ 0 (sliceOf (s .levels))) ∷ ‵ (fdies (sliceTy (tyRef (named 3) imm (tyInt
         w8))) l₄)
@@ -240,23 +235,23 @@ module _ {M : Type 1} (𝓤 : URA M) (H : Heap 𝓤) (A : Atoms 𝓤) (W : Given
         qed W ((‵ (flft κ q) ⊛ Tokens s 𝓤) ∷ ‵ (owns (MutRef (named 0) κ R.the-row ∷ Rest s) a (vptr b o ∷ [], valsOf s)) ∷ []) ∵
         split ! $ move ! (1 ∷ []) $ split ! $ move ! (1 ∷ []) $ split ! $ move ! (1 ∷ []) $ split ! $ move ! (1 ∷ []) $ split ! $
         move ! (1 ∷ []) $ split ! $ move ! (1 ∷ []) $ split ! $ move ! (1 ∷ []) $ drop ! $ move ! (7 ∷ []) $ fsplit ! $ move ! (1 ∷ []) $
-        fsplit ! $ move ! (1 ∷ []) $ fsplit ! $ move ! (1 ∷ []) $ fsplit ! $ move ! (1 ∷ []) $ fsplit ! $ move ! (1 ∷ []) $ fsplit ! $
+        fsplit ! $ move ! (1 ∷ []) $ fsplit ! $ move ! (1 ∷ []) $ fsplit ! $ move ! (1 ∷ []) $ fsplit ! $
         move ! (1 ∷ []) $ fsplit ! $ move ! (1 ∷ []) $ fsplit ! $ move ! (1 ∷ []) $ fsplit ! $ move ! (1 ∷ []) $ drop ! $
-        keep ! (8 ∷ 2 ∷ 1 ∷ 0 ∷ 7 ∷ 6 ∷ 5 ∷ 15 ∷ 14 ∷ 13 ∷ 12 ∷ 11 ∷ 10 ∷ 9 ∷ []) $ enter ! (𝓣 .C) (𝓣 .Λ) code.function _ _ $
+        keep ! (7 ∷ 2 ∷ 1 ∷ 0 ∷ 6 ∷ 5 ∷ 4 ∷ 14 ∷ 13 ∷ 12 ∷ 11 ∷ 10 ∷ 9 ∷ 8 ∷ []) $ enter ! (𝓣 .C) (𝓣 .Λ) code.function _ _ $
         alloc1 ! (λ l₀. alloc1 ! (λ l₁. alloc1 ! (λ l₂. alloc1 ! (λ l₃. alloc1 ! (λ l₄. alloc1 ! (λ l₅. alloc1 ! (λ l₆. alloc1 ! (λ l₇. alloc1 ! (λ
         l₈. alloc1 ! (λ l₉. alloc1 ! (λ l₁₀. alloc1 ! (λ l₁₁. alloc1 ! (λ l₁₂. alloc1 ! (λ l₁₃. alloc1 ! (λ l₁₄. alloc1 ! (λ l₁₅. alloc1 ! (λ l₁₆.
-        alloc1 ! (λ l₁₇. alloc1 ! (λ l₁₈. alloc0 ! $ params1 ! $
-        pass1 ! (init ! 34 refl (tt, tt)) $ pass1 ! (init ! 32 refl (sized (z .job .0))) $ pass1 ! (init ! 30 refl (sized (z .plan .0))) $
-        pass1 ! (init ! 28 refl (sized (z .levels .0))) $
-        pass1 ! (init ! 26 refl (LL.lawful F.the-type F′.the-laws 𝓤 H A W .typed (s .f) _ (z .frame) .0)) $
-        pass1 ! (init ! 24 refl (tt, record { fits = z .limit })) $ pass1 ! (init ! 22 refl (sized (z .words .0))) $
+        alloc1 ! (λ l₁₇. alloc0 ! $ params1 ! $
+        pass1 ! (init ! 32 refl (tt, tt)) $ pass1 ! (init ! 30 refl (sized (z .job .0))) $ pass1 ! (init ! 28 refl (sized (z .plan .0))) $
+        pass1 ! (init ! 26 refl (sized (z .levels .0))) $
+        pass1 ! (init ! 24 refl (LL.lawful F.the-type F′.the-laws 𝓤 H A W .typed (s .f) _ (z .frame) .0)) $
+        pass1 ! (init ! 22 refl (sized (z .words .0))) $
         pass1 ! (init ! 20 refl (sized (z .values .0))) $ pass1 ! (init ! 18 refl (sized (z .lines .0))) $ pass0 ! $
         sets ! (of-opd ! (lit ! tt)) 16 refl (tt, record { fits = lit< tt }) $
-        move ! (38 ∷ 39 ∷ 40 ∷ 41 ∷ 42 ∷ 43 ∷ 44 ∷ 45 ∷ 46 ∷ 47 ∷ 48 ∷ 49 ∷ 50 ∷ 51 ∷ []) $
-        whiles ! 𝓣 (Less (heldOf s) (slicesOf s) h (s .limit)) (less-wf (heldOf s) (slicesOf s) h (s .limit)) (At l₀ l₁ l₂ l₃ l₄ l₅ l₆ l₇ l₈ l₉ l₁₀
-        l₁₁ l₁₂ l₁₃ l₁₄ l₁₅ l₁₆ l₁₇ l₁₈) (λ w P ways.
+        move ! (36 ∷ 37 ∷ 38 ∷ 39 ∷ 40 ∷ 41 ∷ 42 ∷ 43 ∷ 44 ∷ 45 ∷ 46 ∷ 47 ∷ 48 ∷ 49 ∷ []) $
+        whiles ! 𝓣 (Less (heldOf s) (slicesOf s) h) (less-wf (heldOf s) (slicesOf s) h) (At l₀ l₁ l₂ l₃ l₄ l₅ l₆ l₇ l₈ l₉ l₁₀
+        l₁₁ l₁₂ l₁₃ l₁₄ l₁₅ l₁₆ l₁₇) (λ w P ways.
         sets ! (bin ! (var ! 30 refl) (lit ! tt) tt) 28 refl (tt, tt) $ tests ! (var ! 28 refl) (λ going. let y = eqb→eq (w .ending) 0 going in
-        sets ! (addr ! (from ! (hop ! (look ! 48 refl) (stop !)))) 26 refl (tt, tt) $
+        sets ! (addr ! (from ! (hop ! (look ! 46 refl) (stop !)))) 26 refl (tt, tt) $
         sets ! (addr ! (from ! (fld ! refl (hop ! (look-in ! 36 (sub ! 0 refl (whole !))) (stop !))))) 24 refl (tt, tt) $
         sets ! (agg ! (and-then ! (var ! 24 refl) (and-then ! (load ! (from ! (fld ! refl (stop !))) (look-in ! 36 (sub ! 1 refl (whole !))))
         (no-more !)))) 22 refl (sized (z .words .0)) $
@@ -290,31 +285,30 @@ module _ {M : Type 1} (𝓤 : URA M) (H : Heap 𝓤) (A : Atoms 𝓤) (W : Given
         nothing ! $ move ! (9 ∷ 0 ∷ []) $ join ! $ move ! (11 ∷ 0 ∷ []) $ join ! $ move ! (13 ∷ 0 ∷ []) $ join ! $ move ! (18 ∷ 0 ∷ []) $
         join ! $ move ! (17 ∷ 0 ∷ []) $ join ! $ move ! (16 ∷ 0 ∷ []) $ join ! $ move ! (15 ∷ 0 ∷ []) $ join ! $ nothing ! $
         move ! (8 ∷ 0 ∷ []) $ fjoin ! $ move ! (9 ∷ 0 ∷ []) $ fjoin ! $ move ! (10 ∷ 0 ∷ []) $ fjoin ! $
-        owned ! usize (Is usize) (uint-makes 𝓤 H A W w64) (s .limit) _ (refl, z .limit) $ fjoin ! $
         owned ! F.the-row (Is F.the-row) (LL.makes F.the-type F′.the-plain 𝓤 H A) (s .f) _ (z .frame) $ fjoin ! $ move ! (3 ∷ 0 ∷ []) $
         fjoin ! $ move ! (4 ∷ 0 ∷ []) $ fjoin ! $ move ! (5 ∷ 0 ∷ []) $ fjoin ! $ move ! (8 ∷ 0 ∷ []) $ fjoin ! $ move ! (1 ∷ 0 ∷ []) $
         use2 W (raw (Step 𝓤 H A at-mem run .pre (to-step w ν ν₄ ν₅ ν₆ δ δ₄ δ₅ δ₆))) (goes-step w ν ν₄ ν₅ ν₆ δ δ₄ δ₅ δ₆ (startable (heldOf s)
-        (slicesOf s) h (s .limit) pre w y)) $
+        (slicesOf s) h pre w y)) $
         calls-at-last ! (fmOf 𝓤 H (W .laws) 𝓣) (Step 𝓤 H A at-mem run) known (to-step w ν ν₄ ν₅ ν₆ δ δ₄ δ₅ δ₆)
-        (and-then ! (var ! 20 refl) (and-then ! (var ! 40 refl) (and-then ! (var ! 38 refl) (and-then ! (var ! 36 refl) (and-then ! (var ! 34 refl)
-        (and-then ! (var ! 32 refl) (and-then ! (var ! 16 refl) (and-then ! (var ! 12 refl) (and-then ! (var ! 8 refl) (no-more !)))))))))) (λ v.
+        (and-then ! (var ! 20 refl) (and-then ! (var ! 38 refl) (and-then ! (var ! 36 refl) (and-then ! (var ! 34 refl) (and-then ! (var ! 32 refl)
+        (and-then ! (var ! 16 refl) (and-then ! (var ! 12 refl) (and-then ! (var ! 8 refl) (no-more !))))))))) (λ v.
         use1 W (later (some (λ (c : ℕ). (Toks w ν ν₄ ν₅ ν₆ δ δ₄ δ₅ δ₆ ⊛ ‵ (u8 .own c (v ∷ [])))
         ⊛ raw (ensured 𝓤 H A st.ended (st.clauses 𝓤 H A at-mem run) (ν ∷ [], lftsOf (on-step w ν ν₄ ν₅ ν₆ δ δ₄ δ₅ δ₆)) (args w ν ν₄ ν₅ ν₆ δ δ₄ δ₅ δ₆)
         tt c)))) (id⊢ 𝓤 _) $ await ! tt $ pick ! (λ c.
         split ! $ move ! (1 ∷ []) $
         use1 W (some (λ (zs : Lasts). ‵ (lasts st.ended (ν ∷ [], lftsOf (on-step w ν ν₄ ν₅ ν₆ δ δ₄ δ₅ δ₆)) (args w ν ν₄ ν₅ ν₆ δ δ₄ δ₅ δ₆) zs)
-        ⊛ raw (fact 𝓤 (After w ν ν₄ ν₅ ν₆ δ δ₄ δ₅ δ₆ (zs .0) (zs .1 .1 .1 .1 .1 .1 .0) (zs .1 .1 .1 .1 .1 .1 .1 .0) (zs .1 .1 .1 .1 .1 .1 .1 .1 .0)
+        ⊛ raw (fact 𝓤 (After w ν ν₄ ν₅ ν₆ δ δ₄ δ₅ δ₆ (zs .0) (zs .1 .1 .1 .1 .1 .0) (zs .1 .1 .1 .1 .1 .1 .0) (zs .1 .1 .1 .1 .1 .1 .1 .0)
         c)))) (id⊢ 𝓤 _) $ pick ! (λ zs.
         split ! $ move ! (1 ∷ []) $
-        heard ! (After w ν ν₄ ν₅ ν₆ δ δ₄ δ₅ δ₆ (zs .0) (zs .1 .1 .1 .1 .1 .1 .0) (zs .1 .1 .1 .1 .1 .1 .1 .0) (zs .1 .1 .1 .1 .1 .1 .1 .1 .0) c) (λ e.
-        fsplit ! $ move ! (1 ∷ []) $ fsplit ! $ drop ! $ fsplit ! $ drop ! $ fsplit ! $ drop ! $ fsplit ! $ drop ! $ fsplit ! $ drop ! $
+        heard ! (After w ν ν₄ ν₅ ν₆ δ δ₄ δ₅ δ₆ (zs .0) (zs .1 .1 .1 .1 .1 .0) (zs .1 .1 .1 .1 .1 .1 .0) (zs .1 .1 .1 .1 .1 .1 .1 .0) c) (λ e.
+        fsplit ! $ move ! (1 ∷ []) $ fsplit ! $ drop ! $ fsplit ! $ drop ! $ fsplit ! $ drop ! $ fsplit ! $ drop ! $
         fsplit ! $ fsplit ! $ move ! (1 ∷ []) $ feqL ! (λ ew. move ! (1 ∷ []) $ fsplit ! $ fsplit ! $ move ! (1 ∷ []) $ feqL ! (λ ev.
         move ! (1 ∷ []) $ fsplit ! $ fsplit ! $ move ! (1 ∷ []) $ feqL ! (λ el. move ! (1 ∷ []) $ drop ! $ move ! (4 ∷ []) $ split ! $
         move ! (1 ∷ []) $ peeks ! u8 (Is u8) (shows 𝓤 H A u8) c (v ∷ []) (λ is. drop ! $ split ! $ move ! (1 ∷ []) $ split ! $
         move ! (1 ∷ []) $ split ! $ move ! (1 ∷ []) $ split ! $ move ! (1 ∷ []) $ split ! $ move ! (1 ∷ []) $ split ! $ move ! (1 ∷ []) $
         split ! $ move ! (1 ∷ []) $ drop ! $
         -- the lifetimes of the call are over, and what was lent comes back
-        let n = stride (heldOf s) (slicesOf s) h (s .limit) w y (zs .1 .1 .1 .1 .1 .1 .0) (zs .1 .1 .1 .1 .1 .1 .1 .0) (zs .1 .1 .1 .1 .1 .1 .1 .1
+        let n = stride (heldOf s) (slicesOf s) h w y (zs .1 .1 .1 .1 .1 .0) (zs .1 .1 .1 .1 .1 .1 .0) (zs .1 .1 .1 .1 .1 .1 .1
         .0) c (zs .0) (is .1) ew ev el e in
         move ! (6 ∷ []) $ lft-end ! tt $ move ! (0 ∷ 17 ∷ 10 ∷ []) $
         use3 W (later (‵ (Rn κ γ (zs .0)) ⊛ ‵ (flft κ q))) (comes-back 𝓤 H A W R.the-row (named 0) κ (ν ∷ []) q γ b o δ (w .running) (zs .0)) $ await
@@ -336,23 +330,22 @@ module _ {M : Type 1} (𝓤 : URA M) (H : Heap 𝓤) (A : Atoms 𝓤) (W : Given
         .lines)) (w .board) δ₆ (n .board) el
         (ap (λ (m : ℕ). sliceVal (s .lines .ptr) m ∷ []) (sym (n .long-board))) (subst (Room u8) (sym (n .long-board)) (z .lines))) $ await ! tt $
         split ! $ land-last ! (from ! (stop !)) (store ! 30 refl (uint-lawful 𝓤 H A W w8 .typed c _ is .0)) $
-        rewrite ! 30 (λ (u : Val). ‵ (fat fullShare (tyInt w8) l₁₀ 0 u)) (ap only (uint-tells w8 c (v ∷ []) is)) refl $
+        rewrite ! 30 (λ (u : Val). ‵ (fat fullShare (tyInt w8) l₉ 0 u)) (ap only (uint-tells w8 c (v ∷ []) is)) refl $
         forget ! 28 refl $ forget ! 26 refl $ forget ! 24 refl $ forget ! 22 refl $ forget ! 20 refl $ forget ! 18 refl $ forget ! 16 refl $ forget !
         14 refl $
         keep ! (6 ∷ 4 ∷ 2 ∷ 0 ∷ 13 ∷ 12 ∷ 11 ∷ 7 ∷ 10 ∷ 9 ∷ 8 ∷ 5 ∷ 3 ∷ 1 ∷ 14 ∷ 15 ∷ 16 ∷ 17 ∷ 18 ∷ 19 ∷ 20 ∷ 21 ∷ 22 ∷ 23 ∷ 24 ∷ 25 ∷ 26 ∷ 27 ∷ 28
-        ∷ 29 ∷ 30 ∷ 31 ∷ 32 ∷ 33 ∷ 34 ∷ 35 ∷ 36 ∷ 37 ∷ 38 ∷ 39 ∷ 40 ∷ 41 ∷ 42 ∷ 43 ∷ 44 ∷ 45 ∷ 46 ∷ 47 ∷ 48 ∷ 49 ∷ 50 ∷ 51 ∷ []) $
-        ways .end ! $ again ! (Less (heldOf s) (slicesOf s) h (s .limit)) (At l₀ l₁ l₂ l₃ l₄ l₅ l₆ l₇ l₈ l₉ l₁₀ l₁₁ l₁₂ l₁₃ l₁₄ l₁₅ l₁₆ l₁₇ l₁₈) w n
-        (falls (heldOf s) (slicesOf s) h (s .limit) w y n (λ u. e .later u)))))))))))))))))))
-        (λ over. ways .out ! $ sets ! (of-opd ! (var ! 30 refl)) 50 refl (tt, record { fits = w .small }) $ returns ! (look ! 50 refl) $
-        forget ! 50 refl $ forget ! 48 refl $ forget ! 46 refl $ forget ! 44 refl $ forget ! 42 refl $ forget ! 40 refl $ forget ! 38 refl $
-        forget ! 36 refl $ forget ! 34 refl $ forget ! 32 refl $ forget ! 30 refl $ forget ! 28 refl $ move ! (50 ∷ 51 ∷ []) $ free1 ! $
-        move ! (48 ∷ 49 ∷ []) $ free1 ! $ move ! (46 ∷ 47 ∷ []) $ free1 ! $ move ! (44 ∷ 45 ∷ []) $ free1 ! $ move ! (42 ∷ 43 ∷ []) $ free1 ! $
+        ∷ 29 ∷ 30 ∷ 31 ∷ 32 ∷ 33 ∷ 34 ∷ 35 ∷ 36 ∷ 37 ∷ 38 ∷ 39 ∷ 40 ∷ 41 ∷ 42 ∷ 43 ∷ 44 ∷ 45 ∷ 46 ∷ 47 ∷ 48 ∷ 49 ∷ []) $
+        ways .end ! $ again ! (Less (heldOf s) (slicesOf s) h) (At l₀ l₁ l₂ l₃ l₄ l₅ l₆ l₇ l₈ l₉ l₁₀ l₁₁ l₁₂ l₁₃ l₁₄ l₁₅ l₁₆ l₁₇) w n
+        (falls (heldOf s) (slicesOf s) h w y n (λ u. e .later u)))))))))))))))))))
+        (λ over. ways .out ! $ sets ! (of-opd ! (var ! 30 refl)) 48 refl (tt, record { fits = w .small }) $ returns ! (look ! 48 refl) $
+        forget ! 48 refl $ forget ! 46 refl $ forget ! 44 refl $ forget ! 42 refl $ forget ! 40 refl $ forget ! 38 refl $
+        forget ! 36 refl $ forget ! 34 refl $ forget ! 32 refl $ forget ! 30 refl $ forget ! 28 refl $ move ! (48 ∷ 49 ∷ []) $ free1 ! $ move ! (46 ∷ 47 ∷ []) $ free1 ! $ move ! (44 ∷ 45 ∷ []) $ free1 ! $ move ! (42 ∷ 43 ∷ []) $ free1 ! $
         move ! (40 ∷ 41 ∷ []) $ free1 ! $ move ! (38 ∷ 39 ∷ []) $ free1 ! $ move ! (36 ∷ 37 ∷ []) $ free1 ! $ move ! (34 ∷ 35 ∷ []) $ free1 ! $
         move ! (32 ∷ 33 ∷ []) $ free1 ! $ move ! (30 ∷ 31 ∷ []) $ free1 ! $ move ! (28 ∷ 29 ∷ []) $ free1 ! $ move ! (26 ∷ 27 ∷ []) $ free1 ! $
         move ! (24 ∷ 25 ∷ []) $ free1 ! $ move ! (22 ∷ 23 ∷ []) $ free1 ! $ move ! (20 ∷ 21 ∷ []) $ free1 ! $ move ! (18 ∷ 19 ∷ []) $ free1 ! $
         move ! (16 ∷ 17 ∷ []) $ free1 ! $ move ! (14 ∷ 15 ∷ []) $ free1 ! $ free0 ! $
         keep ! (0 ∷ 1 ∷ 2 ∷ 3 ∷ 7 ∷ 8 ∷ 9 ∷ 10 ∷ 11 ∷ 12 ∷ 13 ∷ []) $ by ! (exits w (λ u. not-over (w .ending) u over))))
-        (outset (heldOf s) (slicesOf s) h (s .limit) pre))))))))))))))))))))
+        (outset (heldOf s) (slicesOf s) h pre)))))))))))))))))))
 
 module _ {M : Type 1} (𝓤 : URA M) (H : Heap 𝓤) (A : Atoms 𝓤) (W : Given 𝓤 H A) (at-mem : Memory → SProp 𝓤) (run : Routine → Fun 𝓤) (𝓣 : Tables 𝓤 H)
     (known : Triple 𝓤 (𝓣 .C #step) (Step 𝓤 H A at-mem run)) where
@@ -369,13 +362,10 @@ module _ {M : Type 1} (𝓤 : URA M) (H : Heap 𝓤) (A : Atoms 𝓤) (W : Given
               (
                 LL.vals F.the-type F′.the-laws,
                 (
-                  uint-vals w64,
+                  slice-vals,
                   (
                     slice-vals,
-                    (
-                      slice-vals,
-                      (slice-vals, tt),
-                    ),
+                    (slice-vals, tt),
                   ),
                 ),
               ),
@@ -394,14 +384,11 @@ module _ {M : Type 1} (𝓤 : URA M) (H : Heap 𝓤) (A : Atoms 𝓤) (W : Given
               (
                 LL.tells F.the-type F′.the-laws,
                 (
-                  uint-tells w64,
+                  mut-slice-tells (named 4) (κs .1 .1 .1 .1 .0) u32,
                   (
-                    mut-slice-tells (named 4) (κs .1 .1 .1 .1 .0) u32,
-                    (
-                      mut-slice-tells (named 5) (κs .1 .1 .1
-                          .1 .1 .0) i32,
-                      (mut-slice-tells (named 6) (κs .1 .1 .1 .1 .1 .1 .0) u8, tt),
-                    ),
+                    mut-slice-tells (named 5) (κs .1 .1 .1
+                        .1 .1 .0) i32,
+                    (mut-slice-tells (named 6) (κs .1 .1 .1 .1 .1 .1 .0) u8, tt),
                   ),
                 ),
               ),
@@ -416,11 +403,9 @@ module _ {M : Type 1} (𝓤 : URA M) (H : Heap 𝓤) (A : Atoms 𝓤) (W : Given
         plan = are .1 .1 .0 .0 .1;
         levels = are .1 .1 .1 .0 .0 .1;
         frame = are .1 .1 .1 .1 .0;
-        limit = are .1 .1 .1
-            .1 .1 .0 .1;
-        words = are .1 .1 .1 .1 .1 .1 .0 .0 .1;
-        values = are .1 .1 .1 .1 .1 .1 .1 .0 .0 .1;
-        lines = are .1 .1 .1 .1 .1 .1 .1 .1 .0 .0 .1;
+        words = are .1 .1 .1 .1 .1 .0 .0 .1;
+        values = are .1 .1 .1 .1 .1 .1 .0 .0 .1;
+        lines = are .1 .1 .1 .1 .1 .1 .1 .0 .0 .1;
       }) pre))
 
   meets : Meets 𝓤 H A run′.signature (WpFn 𝓤 H (𝓣 .C) (𝓣 .Λ) code.function) (run′.spec 𝓤 H A at-mem run)
@@ -437,14 +422,11 @@ module _ {M : Type 1} (𝓤 : URA M) (H : Heap 𝓤) (A : Atoms 𝓤) (W : Given
             goes-dropped 𝓤 H A W 7 (plain (λ _. F.the-row)) yes
                 (λ κs x f. refl),
             (
-              goes-dropped 𝓤 H A W 7 (plain (λ _. usize)) yes (λ κs x f. refl),
+              goes-slice 𝓤 H A W 7 4 tt (plain (λ _. u32)),
               (
-                goes-slice 𝓤 H A W 7 4 tt (plain (λ _. u32)),
-                (
-                  goes-slice 𝓤 H A W 7 5 tt
-                      (plain (λ _. i32)),
-                  (goes-slice 𝓤 H A W 7 6 tt (plain (λ _. u8)), tt),
-                ),
+                goes-slice 𝓤 H A W 7 5 tt
+                    (plain (λ _. i32)),
+                (goes-slice 𝓤 H A W 7 6 tt (plain (λ _. u8)), tt),
               ),
             ),
           ),

@@ -1,15 +1,14 @@
 -- `run::run_from` meets its contract: a walk of its code by hand. The record is put into a local, which is lent to `run`, to which the slices are passed
 -- on, and is read again when that has ended. Assumes nothing.
-use Prim.Native.Nat.{_-_}
 use denote.Memory.{partAt}
 use denote.Lend.{lends-ref, ref-back}
 use borrow.Table.OneValue.{part-in, part-out}
-use Rattle.walks.proofs.Walk.{_-_, ℕ, Fml, GName, fat, flent, flft, ftrue, SProp, emp, ent, exE, id⊢, sep, snd∗, Fun, fact, givenOf, tables}
-use Rattle.walks.proofs.Walk.{tablesOf, i32, u32, u8, usize, yes, Is, shows, mem, uint-lawful, uint-makes, uint-tells, uint-vals, owns, MutRef}
+use Rattle.walks.proofs.Walk.{ℕ, Fml, GName, fat, flent, flft, ftrue, SProp, emp, ent, exE, id⊢, sep, snd∗, Fun, fact, givenOf, tables}
+use Rattle.walks.proofs.Walk.{tablesOf, i32, u32, u8, yes, Is, shows, mem, uint-lawful, uint-makes, uint-tells, owns, MutRef}
 use Rattle.walks.proofs.Walk.{RefT, plain, shrSliceOf, finally, mut-slice-tells, shr-slice-tells, slice-vals, heard, nothing, owned, peeks}
 use Rattle.walks.proofs.Walk.{calls-at, ensured, lasts, onEntry, Meets, tripleOf, Contract, Triple, cited, entered, Stays, Walks, ends-at}
 use Rattle.walks.proofs.Walk.{gave-slice, goes-dropped, goes-gave-slice, needs, says, stay-dropped, walk-meets, walkOf, walked, Atoms, sem}
-use Rattle.walks.proofs.Walk.{fullShare, URA, ℤ, length, List, [], _∷_, _≡_, refl, subst, sym, named, w64, w8, Val, vptr, Memory, Routine}
+use Rattle.walks.proofs.Walk.{fullShare, URA, ℤ, length, List, [], _∷_, _≡_, refl, subst, sym, named, w8, Val, vptr, Memory, Routine}
 use Rattle.walks.proofs.Walk.{Heap, Tables, WpFn, WpFn-mono, fmOf, !, Given, Item, _$_, _∵_, _⊛_, await, by, done, drop, feqL, fjoin, frame}
 use Rattle.walks.proofs.Walk.{fsplit, join, keep, later, move, pick, qed, raw, some, split, suffices, use0, use1, use2, use3, ‵, ⋆, agg}
 use Rattle.walks.proofs.Walk.{look-in, sub, whole, addr, alloc0, alloc1, and-then, enter, fld, forget, free0, free1, from, hop, init, load}
@@ -53,10 +52,7 @@ stayed = (
         stay-dropped (shrSliceOf (2 ∷ []) tt (plain (λ _. u8))) yes,
         (
           stay-dropped (plain (λ _. F.the-row)) yes,
-          (
-            stay-dropped (plain (λ _. usize)) yes,
-            (gave-slice (3 ∷ []) tt (plain (λ _. u32)), (gave-slice (4 ∷ []) tt (plain (λ _. i32)), (gave-slice (5 ∷ []) tt (plain (λ _. u8)), tt))),
-          ),
+          (gave-slice (3 ∷ []) tt (plain (λ _. u32)), (gave-slice (4 ∷ []) tt (plain (λ _. i32)), (gave-slice (5 ∷ []) tt (plain (λ _. u8)), tt))),
         ),
       ),
     ),
@@ -64,7 +60,7 @@ stayed = (
 )
 
 abbrev Lasts : Type 0
-Lasts = Running × (Unit {0} × (Unit {0} × (Unit {0} × (Unit {0} × (Unit {0} × (List ℕ × (List ℤ × (List ℕ × Unit {0}))))))))
+Lasts = Running × (Unit {0} × (Unit {0} × (Unit {0} × (Unit {0} × (List ℕ × (List ℤ × (List ℕ × Unit {0})))))))
 
 module _ {M : Type 1} (𝓤 : URA M) (H : Heap 𝓤) (A : Atoms 𝓤) (at-mem : Memory → SProp 𝓤) (run : Routine → Fun 𝓤) where
   -- the contracts that the proof cites
@@ -91,7 +87,7 @@ module _ {M : Type 1} (𝓤 : URA M) (H : Heap 𝓤) (A : Atoms 𝓤) (W : Given
   Post = walkOf 𝓤 H A from′.ended stayed (from′.clauses 𝓤 H A at-mem run) .post bound
 
   abbrev After : List ℕ → List ℤ → List ℕ → Stepped → Type 0
-  After ws vs ls e = Runs (heldOf s) (slicesOf s) (slices ws (s .levels .now) vs ls) h (s .limit - h .steps) e
+  After ws vs ls e = Runs (heldOf s) (slicesOf s) (slices ws (s .levels .now) vs ls) h e
 
   -- the local at p, lent under δ for ν
   module _ (p ν : ℕ) (δ : GName) where
@@ -132,9 +128,9 @@ module _ {M : Type 1} (𝓤 : URA M) (H : Heap 𝓤) (A : Atoms 𝓤) (W : Given
   exits e v ws vs ls t ew ev el =
       qed W (Left e v ws vs ls) ∵
       suffices ! _ (ends-at 𝓤 H A from′.ended stayed (from′.clauses 𝓤 H A at-mem run) W bound v e
-      (tt, (tt, (tt, (tt, (tt, (tt, (ws, (vs, (ls, tt))))))))) (tt, (tt, (tt, (tt, (tt, (tt, (ew, (ev, (el, tt)))))))))) $ says ! t $
+      (tt, (tt, (tt, (tt, (tt, (ws, (vs, (ls, tt)))))))) (tt, (tt, (tt, (tt, (tt, (ew, (ev, (el, tt))))))))) $ says ! t $
       move ! (1 ∷ []) $ frame ! $ nothing ! $ move ! (4 ∷ 0 ∷ []) $ fjoin ! $ move ! (3 ∷ 0 ∷ []) $ fjoin ! $ move ! (2 ∷ 0 ∷ []) $ fjoin ! $
-      nothing ! $ fjoin ! $ nothing ! $ fjoin ! $ nothing ! $ fjoin ! $ nothing ! $ fjoin ! $ nothing ! $ fjoin ! $ nothing ! $ fjoin ! $
+      nothing ! $ fjoin ! $ nothing ! $ fjoin ! $ nothing ! $ fjoin ! $ nothing ! $ fjoin ! $ nothing ! $ fjoin ! $
       frame ! $
       done !
 
@@ -148,13 +144,13 @@ module _ {M : Type 1} (𝓤 : URA M) (H : Heap 𝓤) (A : Atoms 𝓤) (W : Given
         move ! (1 ∷ []) $ fsplit ! $ enter ! (𝓣 .C) (𝓣 .Λ) code.function _ _ $
         alloc1 ! (λ l₀. alloc1 ! (λ l₁. alloc1 ! (λ l₂. alloc1 ! (λ l₃. alloc1 ! (λ l₄. alloc1 ! (λ l₅. alloc1 ! (λ l₆. alloc1 ! (λ l₇. alloc1 ! (λ
         l₈. alloc1 ! (λ l₉. alloc1 ! (λ l₁₀. alloc1 ! (λ l₁₁. alloc1 ! (λ l₁₂. alloc1 ! (λ l₁₃. alloc1 ! (λ l₁₄. alloc1 ! (λ l₁₅. alloc1 ! (λ l₁₆.
-        alloc1 ! (λ l₁₇. alloc1 ! (λ l₁₈. alloc1 ! (λ l₁₉. alloc0 ! $ params1 ! $
-        pass1 ! (init ! 36 refl (LL.lawful R.the-type R′.the-laws 𝓤 H A W .typed h _ ish .0)) $ pass1 ! (init ! 34 refl (sized (z .job .0))) $
-        pass1 ! (init ! 32 refl (sized (z .plan .0))) $ pass1 ! (init ! 30 refl (sized (z .levels .0))) $
-        pass1 ! (init ! 28 refl (LL.lawful F.the-type F′.the-laws 𝓤 H A W .typed (s .f) _ (z .frame) .0)) $
-        pass1 ! (init ! 26 refl (tt, record { fits = z .limit })) $ pass1 ! (init ! 24 refl (sized (z .words .0))) $
+        alloc1 ! (λ l₁₇. alloc1 ! (λ l₁₈. alloc0 ! $ params1 ! $
+        pass1 ! (init ! 34 refl (LL.lawful R.the-type R′.the-laws 𝓤 H A W .typed h _ ish .0)) $ pass1 ! (init ! 32 refl (sized (z .job .0))) $
+        pass1 ! (init ! 30 refl (sized (z .plan .0))) $ pass1 ! (init ! 28 refl (sized (z .levels .0))) $
+        pass1 ! (init ! 26 refl (LL.lawful F.the-type F′.the-laws 𝓤 H A W .typed (s .f) _ (z .frame) .0)) $
+        pass1 ! (init ! 24 refl (sized (z .words .0))) $
         pass1 ! (init ! 22 refl (sized (z .values .0))) $ pass1 ! (init ! 20 refl (sized (z .lines .0))) $ pass0 ! $
-        sets ! (of-opd ! (var ! 36 refl)) 18 refl (LL.lawful R.the-type R′.the-laws 𝓤 H A W .typed h _ ish .0) $
+        sets ! (of-opd ! (var ! 34 refl)) 18 refl (LL.lawful R.the-type R′.the-laws 𝓤 H A W .typed h _ ish .0) $
         sets ! (addr ! (from ! (stop !))) 14 refl (tt, tt) $
         sets ! (addr ! (from ! (fld ! refl (hop ! (look-in ! 24 (sub ! 0 refl (whole !))) (stop !))))) 12 refl (tt, tt) $
         sets ! (agg ! (and-then ! (var ! 12 refl) (and-then ! (load ! (from ! (fld ! refl (stop !))) (look-in ! 24 (sub ! 1 refl (whole !))))
@@ -166,31 +162,31 @@ module _ {M : Type 1} (𝓤 : URA M) (H : Heap 𝓤) (A : Atoms 𝓤) (W : Given
         sets ! (agg ! (and-then ! (var ! 4 refl) (and-then ! (load ! (from ! (fld ! refl (stop !))) (look-in ! 20 (sub ! 1 refl (whole !)))) (no-more
         !)))) 2 refl (sized (z .lines .0)) $
         -- the local is lent for a lifetime ν of the call
-        move ! (18 ∷ 40 ∷ []) $ use2 W (‵ (partAt R.the-row fullShare h l₁₀ 0)) (part-in 𝓤 H A W R.the-row refl fullShare h l₁₀ 0 (mach h)) $
+        move ! (18 ∷ 38 ∷ []) $ use2 W (‵ (partAt R.the-row fullShare h l₉ 0)) (part-in 𝓤 H A W R.the-row refl fullShare h l₉ 0 (mach h)) $
         lft-new ! tt (λ ν. move ! (1 ∷ []) $
-        use1 W (later (some (λ (δ : GName). ‵ (Ref l₁₀ ν δ) ⊛ ‵ (flent (ν ∷ []) (Body (mem R.the-row) l₁₀ 0 δ)))))
-        (lends-ref 𝓤 H A W R.the-row (named 0) (ν ∷ []) h l₁₀ 0) $ await ! tt $ pick ! (λ δ. split ! $ move ! (0 ∷ 42 ∷ []) $ fjoin ! $
-        move ! (2 ∷ 42 ∷ []) $ join ! $ use2 W (raw (Run 𝓤 H A at-mem run .pre (to-run l₁₀ ν δ))) (goes-run l₁₀ ν δ pre) $
-        calls-at ! (fmOf 𝓤 H (W .laws) 𝓣) (Run 𝓤 H A at-mem run) known-run (to-run l₁₀ ν δ)
-        (and-then ! (var ! 16 refl) (and-then ! (var ! 35 refl) (and-then ! (var ! 33 refl) (and-then ! (var ! 31 refl) (and-then ! (var ! 29 refl)
-        (and-then ! (var ! 27 refl) (and-then ! (var ! 12 refl) (and-then ! (var ! 8 refl) (and-then ! (var ! 4 refl) (no-more !)))))))))) (λ v.
-        use1 W (later (some (λ (c : ℕ). (Toks l₁₀ ν δ ⊛ ‵ (u8 .own c (v ∷ [])))
-        ⊛ raw (ensured 𝓤 H A ru.ended (ru.clauses 𝓤 H A at-mem run) (ν ∷ [], lftsOf s) (args l₁₀ ν δ) tt c)))) (id⊢ 𝓤 _) $ await ! tt $ pick ! (λ c.
-        split ! $ move ! (1 ∷ []) $ use1 W (some (λ (zs : Lasts). ‵ (lasts ru.ended (ν ∷ [], lftsOf s) (args l₁₀ ν δ) zs)
-        ⊛ raw (fact 𝓤 (After (zs .1 .1 .1 .1 .1 .1 .0) (zs .1 .1 .1 .1 .1 .1 .1 .0) (zs .1 .1 .1 .1 .1 .1 .1 .1 .0) (stepped c (zs .0)))))) (id⊢ 𝓤 _)
+        use1 W (later (some (λ (δ : GName). ‵ (Ref l₉ ν δ) ⊛ ‵ (flent (ν ∷ []) (Body (mem R.the-row) l₉ 0 δ)))))
+        (lends-ref 𝓤 H A W R.the-row (named 0) (ν ∷ []) h l₉ 0) $ await ! tt $ pick ! (λ δ. split ! $ move ! (0 ∷ 40 ∷ []) $ fjoin ! $
+        move ! (2 ∷ 40 ∷ []) $ join ! $ use2 W (raw (Run 𝓤 H A at-mem run .pre (to-run l₉ ν δ))) (goes-run l₉ ν δ pre) $
+        calls-at ! (fmOf 𝓤 H (W .laws) 𝓣) (Run 𝓤 H A at-mem run) known-run (to-run l₉ ν δ)
+        (and-then ! (var ! 16 refl) (and-then ! (var ! 33 refl) (and-then ! (var ! 31 refl) (and-then ! (var ! 29 refl) (and-then ! (var ! 27 refl)
+        (and-then ! (var ! 12 refl) (and-then ! (var ! 8 refl) (and-then ! (var ! 4 refl) (no-more !))))))))) (λ v.
+        use1 W (later (some (λ (c : ℕ). (Toks l₉ ν δ ⊛ ‵ (u8 .own c (v ∷ [])))
+        ⊛ raw (ensured 𝓤 H A ru.ended (ru.clauses 𝓤 H A at-mem run) (ν ∷ [], lftsOf s) (args l₉ ν δ) tt c)))) (id⊢ 𝓤 _) $ await ! tt $ pick ! (λ c.
+        split ! $ move ! (1 ∷ []) $ use1 W (some (λ (zs : Lasts). ‵ (lasts ru.ended (ν ∷ [], lftsOf s) (args l₉ ν δ) zs)
+        ⊛ raw (fact 𝓤 (After (zs .1 .1 .1 .1 .1 .0) (zs .1 .1 .1 .1 .1 .1 .0) (zs .1 .1 .1 .1 .1 .1 .1 .0) (stepped c (zs .0)))))) (id⊢ 𝓤 _)
         $ pick ! (λ zs.
         split ! $ move ! (1 ∷ []) $
-        heard ! (After (zs .1 .1 .1 .1 .1 .1 .0) (zs .1 .1 .1 .1 .1 .1 .1 .0) (zs .1 .1 .1 .1 .1 .1 .1 .1 .0) (stepped c (zs .0))) (λ e.
-        fsplit ! $ move ! (1 ∷ []) $ fsplit ! $ drop ! $ fsplit ! $ drop ! $ fsplit ! $ drop ! $ fsplit ! $ drop ! $ fsplit ! $ drop ! $
+        heard ! (After (zs .1 .1 .1 .1 .1 .0) (zs .1 .1 .1 .1 .1 .1 .0) (zs .1 .1 .1 .1 .1 .1 .1 .0) (stepped c (zs .0))) (λ e.
+        fsplit ! $ move ! (1 ∷ []) $ fsplit ! $ drop ! $ fsplit ! $ drop ! $ fsplit ! $ drop ! $ fsplit ! $ drop ! $
         fsplit ! $ fsplit ! $ move ! (1 ∷ []) $ feqL ! (λ ew. move ! (1 ∷ []) $ fsplit ! $ fsplit ! $ move ! (1 ∷ []) $ feqL ! (λ ev.
         move ! (1 ∷ []) $ fsplit ! $ fsplit ! $ move ! (1 ∷ []) $ feqL ! (λ el. move ! (1 ∷ []) $ drop ! $ move ! (4 ∷ []) $ split ! $
         move ! (1 ∷ []) $ peeks ! u8 (Is u8) (shows 𝓤 H A u8) c (v ∷ []) (λ isc. drop ! $
         result ! 22 refl (uint-lawful 𝓤 H A W w8 .typed c _ isc .0) $ split ! $
         -- the lifetime is over, and the local is read
         lft-end ! tt $ move ! (0 ∷ 6 ∷ 5 ∷ []) $
-        use3 W (later (‵ (partAt R.the-row fullShare (zs .0) l₁₀ 0))) (ref-back 𝓤 H A W R.the-row (ν ∷ []) δ (zs .0) l₁₀ 0) $ await ! tt $
-        use1 W (some (λ (u : Val). ‵ (fat fullShare R′.mir l₁₀ 0 u) ⊛ ‵ (R.the-row .own (zs .0) (u ∷ []))))
-        (part-out 𝓤 H A W R.the-row refl fullShare (zs .0) l₁₀ 0) $ pick ! (λ u. split ! $ move ! (1 ∷ []) $
+        use3 W (later (‵ (partAt R.the-row fullShare (zs .0) l₉ 0))) (ref-back 𝓤 H A W R.the-row (ν ∷ []) δ (zs .0) l₉ 0) $ await ! tt $
+        use1 W (some (λ (u : Val). ‵ (fat fullShare R′.mir l₉ 0 u) ⊛ ‵ (R.the-row .own (zs .0) (u ∷ []))))
+        (part-out 𝓤 H A W R.the-row refl fullShare (zs .0) l₉ 0) $ pick ! (λ u. split ! $ move ! (1 ∷ []) $
         peeks ! R.the-row (Is R.the-row) (shows 𝓤 H A R.the-row) (zs .0) (u ∷ []) (λ isr. drop ! $
         sets ! (of-opd ! (var ! 0 refl)) 5 refl (LL.lawful R.the-type R′.the-laws 𝓤 H A W .typed (zs .0) _ isr .0) $
         use0 W (raw (Halted 𝓤 H A at-mem run .pre (to-halted c (zs .0) v u))) (goes-halted c (zs .0) v u isc isr) $
@@ -201,17 +197,17 @@ module _ {M : Type 1} (𝓤 : URA M) (H : Heap 𝓤) (A : Atoms 𝓤) (W : Given
         split ! $ move ! (1 ∷ []) $
         use1 W (raw (fact 𝓤 (e₂ ≡ stepped c (zs .0)))) (halted-is 𝓤 H A at-mem run c (zs .0) e₂) $ heard ! (e₂ ≡ stepped c (zs .0)) (λ es.
         split ! $ drop ! $ peeks ! S.the-row (Is S.the-row) (shows 𝓤 H A S.the-row) e₂ (v₂ ∷ []) (λ iss.
-        result ! 43 refl (LL.lawful S.the-type S′.the-laws 𝓤 H A W .typed e₂ _ iss .0) $ returns ! (look ! 43 refl) $ forget ! 43 refl $
+        result ! 41 refl (LL.lawful S.the-type S′.the-laws 𝓤 H A W .typed e₂ _ iss .0) $ returns ! (look ! 41 refl) $
         forget ! 41 refl $ forget ! 39 refl $ forget ! 37 refl $ forget ! 35 refl $ forget ! 33 refl $ forget ! 31 refl $ forget ! 29 refl $
         forget ! 27 refl $ forget ! 25 refl $ forget ! 1 refl $ forget ! 22 refl $ forget ! 20 refl $ forget ! 18 refl $ forget ! 16 refl $
-        forget ! 14 refl $ forget ! 12 refl $ forget ! 10 refl $ forget ! 8 refl $ forget ! 6 refl $ move ! (43 ∷ 44 ∷ []) $ free1 ! $
+        forget ! 14 refl $ forget ! 12 refl $ forget ! 10 refl $ forget ! 8 refl $ forget ! 6 refl $
         move ! (41 ∷ 42 ∷ []) $ free1 ! $ move ! (39 ∷ 40 ∷ []) $ free1 ! $ move ! (37 ∷ 38 ∷ []) $ free1 ! $ move ! (35 ∷ 36 ∷ []) $ free1 ! $
         move ! (33 ∷ 34 ∷ []) $ free1 ! $ move ! (31 ∷ 32 ∷ []) $ free1 ! $ move ! (29 ∷ 30 ∷ []) $ free1 ! $ move ! (27 ∷ 28 ∷ []) $ free1 ! $
         move ! (25 ∷ 26 ∷ []) $ free1 ! $ move ! (1 ∷ 24 ∷ []) $ free1 ! $ move ! (21 ∷ 22 ∷ []) $ free1 ! $ move ! (19 ∷ 20 ∷ []) $ free1 ! $
         move ! (17 ∷ 18 ∷ []) $ free1 ! $ move ! (15 ∷ 16 ∷ []) $ free1 ! $ move ! (13 ∷ 14 ∷ []) $ free1 ! $ move ! (11 ∷ 12 ∷ []) $ free1 ! $
         move ! (9 ∷ 10 ∷ []) $ free1 ! $ move ! (7 ∷ 8 ∷ []) $ free1 ! $ move ! (5 ∷ 6 ∷ []) $ free1 ! $ free0 ! $
         keep ! (0 ∷ 1 ∷ 4 ∷ 3 ∷ 2 ∷ []) $
-        by ! (exits e₂ v₂ _ _ _ (subst (After _ _ _) (sym es) e) ew ev el)))))))))))))))))))))))))))))))))))))
+        by ! (exits e₂ v₂ _ _ _ (subst (After _ _ _) (sym es) e) ew ev el))))))))))))))))))))))))))))))))))))
 
 module _ {M : Type 1} (𝓤 : URA M) (H : Heap 𝓤) (A : Atoms 𝓤) (W : Given 𝓤 H A) (at-mem : Memory → SProp 𝓤) (run : Routine → Fun 𝓤) (𝓣 : Tables 𝓤 H)
     (k₁ : Triple 𝓤 (𝓣 .C #run) (Run 𝓤 H A at-mem run)) (k₂ : Triple 𝓤 (𝓣 .C #halted) (Halted 𝓤 H A at-mem run)) where
@@ -228,11 +224,8 @@ module _ {M : Type 1} (𝓤 : URA M) (H : Heap 𝓤) (A : Atoms 𝓤) (W : Given
               (
                 LL.vals F.the-type F′.the-laws,
                 (
-                  uint-vals w64,
-                  (
-                    slice-vals,
-                    (slice-vals, (slice-vals, tt)),
-                  ),
+                  slice-vals,
+                  (slice-vals, (slice-vals, tt)),
                 ),
               ),
             ),
@@ -250,14 +243,11 @@ module _ {M : Type 1} (𝓤 : URA M) (H : Heap 𝓤) (A : Atoms 𝓤) (W : Given
               (
                 LL.tells F.the-type F′.the-laws,
                 (
-                  uint-tells w64,
+                  mut-slice-tells (named 3) (κs .1 .1 .1 .0) u32,
                   (
-                    mut-slice-tells (named 3) (κs .1 .1 .1 .0) u32,
-                    (
-                      mut-slice-tells (named 4) (κs .1 .1 .1 .1
-                          .0) i32,
-                      (mut-slice-tells (named 5) (κs .1 .1 .1 .1 .1 .0) u8, tt),
-                    ),
+                    mut-slice-tells (named 4) (κs .1 .1 .1 .1
+                        .0) i32,
+                    (mut-slice-tells (named 5) (κs .1 .1 .1 .1 .1 .0) u8, tt),
                   ),
                 ),
               ),
@@ -272,11 +262,9 @@ module _ {M : Type 1} (𝓤 : URA M) (H : Heap 𝓤) (A : Atoms 𝓤) (W : Given
         plan = are .1 .1 .0 .0 .1;
         levels = are .1 .1 .1 .0 .0 .1;
         frame = are .1 .1 .1 .1 .0;
-        limit = are .1 .1 .1
-            .1 .1 .0 .1;
-        words = are .1 .1 .1 .1 .1 .1 .0 .0 .1;
-        values = are .1 .1 .1 .1 .1 .1 .1 .0 .0 .1;
-        lines = are .1 .1 .1 .1 .1 .1 .1 .1 .0 .0 .1;
+        words = are .1 .1 .1 .1 .1 .0 .0 .1;
+        values = are .1 .1 .1 .1 .1 .1 .0 .0 .1;
+        lines = are .1 .1 .1 .1 .1 .1 .1 .0 .0 .1;
       }) pre))
 
   meets : Meets 𝓤 H A from′.signature (WpFn 𝓤 H (𝓣 .C) (𝓣 .Λ) code.function) (from′.spec 𝓤 H A at-mem run)
@@ -293,14 +281,11 @@ module _ {M : Type 1} (𝓤 : URA M) (H : Heap 𝓤) (A : Atoms 𝓤) (W : Given
             goes-dropped 𝓤 H A W 6 (plain (λ _. F.the-row)) yes
                 (λ κs x f. refl),
             (
-              goes-dropped 𝓤 H A W 6 (plain (λ _. usize)) yes (λ κs x f. refl),
+              goes-gave-slice 𝓤 H A W 6 3 tt (plain (λ _. u32)),
               (
-                goes-gave-slice 𝓤 H A W 6 3 tt (plain (λ _. u32)),
-                (
-                  goes-gave-slice 𝓤 H A W 6
-                      4 tt (plain (λ _. i32)),
-                  (goes-gave-slice 𝓤 H A W 6 5 tt (plain (λ _. u8)), tt),
-                ),
+                goes-gave-slice 𝓤 H A W 6
+                    4 tt (plain (λ _. i32)),
+                (goes-gave-slice 𝓤 H A W 6 5 tt (plain (λ _. u8)), tt),
               ),
             ),
           ),

@@ -1,12 +1,12 @@
 -- `run::step` meets its contract: a walk of its code by hand. The borrow of r is opened, the record is copied and passed by value to `turn`, to which
 -- the slices are passed on; what that gives is stored, and the borrow is closed at it. Assumes nothing.
 use Rattle.walks.proofs.Walk.{_<_, _^_, ℕ, Fml, GName, Lft, Share, fat, fbor, flft, fobs, SProp, ent, id⊢, sep, Fun, fact, givenOf, tables}
-use Rattle.walks.proofs.Walk.{tablesOf, i32, u32, u8, usize, yes, Is, shows, mem, uint-makes, uint-tells, uint-vals, owns, MutRef, RefT}
+use Rattle.walks.proofs.Walk.{tablesOf, i32, u32, u8, yes, Is, shows, mem, uint-makes, owns, MutRef, RefT}
 use Rattle.walks.proofs.Walk.{mut-tells, ptr-vals, plain, shrSliceOf, finally, mut-slice-tells, shr-slice-tells, slice-vals, closes, heard}
 use Rattle.walks.proofs.Walk.{nothing, only, opens, owned, peeks, spelt, calls-at, ensured, lasts, onEntry, Meets, tripleOf, Contract, Triple}
 use Rattle.walks.proofs.Walk.{cited, entered, Stays, Walks, ends-at, gave-slice, goes-dropped, goes-gave-slice, goes-ref, needs, says}
 use Rattle.walks.proofs.Walk.{stay-dropped, stay-ref, walk-meets, walkOf, walked, Atoms, sem, fullShare, URA, ℤ, length, List, [], _∷_, _≡_}
-use Rattle.walks.proofs.Walk.{ap, refl, named, w64, w8, Val, vint, vptr, Memory, Routine, Heap, Tables, WpFn, WpFn-mono, fmOf, !, Given, Item}
+use Rattle.walks.proofs.Walk.{ap, refl, named, w8, Val, vint, vptr, Memory, Routine, Heap, Tables, WpFn, WpFn-mono, fmOf, !, Given, Item}
 use Rattle.walks.proofs.Walk.{_$_, _∵_, _⊛_, await, by, done, drop, feqI, feqL, fjoin, fjoin3, frame, fsplit, fsplit3, join, keep, later, move}
 use Rattle.walks.proofs.Walk.{pick, qed, raw, rewrite, some, split, suffices, use1, use2, ‵, ⋆, agg, look-in, sub, whole, addr, alloc0, alloc1}
 use Rattle.walks.proofs.Walk.{and-then, assigns, enter, fld, forget, free0, free1, from, hop, init, load, look, look-raw, no-more, of-opd}
@@ -45,10 +45,7 @@ stayed = (
         stay-dropped (shrSliceOf (3 ∷ []) tt (plain (λ _. u8))) yes,
         (
           stay-dropped (plain (λ _. F.the-row)) yes,
-          (
-            stay-dropped (plain (λ _. usize)) yes,
-            (gave-slice (4 ∷ []) tt (plain (λ _. u32)), (gave-slice (5 ∷ []) tt (plain (λ _. i32)), (gave-slice (6 ∷ []) tt (plain (λ _. u8)), tt))),
-          ),
+          (gave-slice (4 ∷ []) tt (plain (λ _. u32)), (gave-slice (5 ∷ []) tt (plain (λ _. i32)), (gave-slice (6 ∷ []) tt (plain (λ _. u8)), tt))),
         ),
       ),
     ),
@@ -63,7 +60,7 @@ abbrev Turn : {M : Type 1} (𝓤 : URA M) (H : Heap 𝓤) (A : Atoms 𝓤) (at-m
 Turn 𝓤 H A at-mem run = tripleOf 𝓤 H A tu.signature (tu.spec 𝓤 H A at-mem run)
 
 abbrev Lasts : Type 0
-Lasts = Unit {0} × (Unit {0} × (Unit {0} × (Unit {0} × (Unit {0} × (Unit {0} × (List ℕ × (List ℤ × (List ℕ × Unit {0}))))))))
+Lasts = Unit {0} × (Unit {0} × (Unit {0} × (Unit {0} × (Unit {0} × (List ℕ × (List ℤ × (List ℕ × Unit {0})))))))
 
 -- r is behind (b, o) under γ, with h
 module _ {M : Type 1} (𝓤 : URA M) (H : Heap 𝓤) (A : Atoms 𝓤) (W : Given 𝓤 H A) (at-mem : Memory → SProp 𝓤) (run : Routine → Fun 𝓤) (κ : Lft) (q :
@@ -84,7 +81,7 @@ module _ {M : Type 1} (𝓤 : URA M) (H : Heap 𝓤) (A : Atoms 𝓤) (W : Given
   Owned = owns (R.the-row ∷ Rest s) (h, argsOf s) (mach h ∷ [], valsOf s)
 
   abbrev After : List ℕ → List ℤ → List ℕ → Stepped → Type 0
-  After ws vs ls c = Turns (heldOf s) (slicesOf s) (slices ws (s .levels .now) vs ls) h (s .limit) c
+  After ws vs ls c = Turns (heldOf s) (slicesOf s) (slices ws (s .levels .now) vs ls) h c
 
   goes-turn : Before s h → ent 𝓤 (sep 𝓤 (⋆ 𝓤 H A (Tokens s 𝓤 ∷ [])) (sem 𝓤 H A Owned)) (Turn 𝓤 H A at-mem run .pre to-turn)
   goes-turn pre = qed W (Tokens s 𝓤 ∷ ‵ Owned ∷ []) ∵ says ! pre $ done !
@@ -101,10 +98,10 @@ module _ {M : Type 1} (𝓤 : URA M) (H : Heap 𝓤) (A : Atoms 𝓤) (W : Given
   exits c ws vs ls e ew ev el fits =
       qed W (Left (c .running) ws vs ls) ∵
       suffices ! _ (ends-at 𝓤 H A step′.ended stayed (step′.clauses 𝓤 H A at-mem run) W bound (vint w8 (c .stop)) (c .stop)
-      (c .running, (tt, (tt, (tt, (tt, (tt, (ws, (vs, (ls, tt))))))))) (tt, (tt, (tt, (tt, (tt, (tt, (ew, (ev, (el, tt)))))))))) $ says ! e $
+      (c .running, (tt, (tt, (tt, (tt, (ws, (vs, (ls, tt)))))))) (tt, (tt, (tt, (tt, (tt, (ew, (ev, (el, tt))))))))) $ says ! e $
       move ! (2 ∷ 3 ∷ []) $ join ! $ frame ! $ feqI ! (List Val) (vptr b o ∷ []) (vptr b o ∷ []) refl $ fjoin3 ! $ nothing ! $
       move ! (4 ∷ 0 ∷ []) $ fjoin ! $ move ! (3 ∷ 0 ∷ []) $ fjoin ! $ move ! (2 ∷ 0 ∷ []) $ fjoin ! $ nothing ! $ fjoin ! $ nothing ! $
-      fjoin ! $ nothing ! $ fjoin ! $ nothing ! $ fjoin ! $ nothing ! $ fjoin ! $ move ! (1 ∷ 0 ∷ []) $ fjoin ! $ frame ! $
+      fjoin ! $ nothing ! $ fjoin ! $ nothing ! $ fjoin ! $ move ! (1 ∷ 0 ∷ []) $ fjoin ! $ frame ! $
       owned ! u8 (Is u8) (uint-makes 𝓤 H A W w8) (c .stop) _ (refl, fits) $ done !
 
   module _ (𝓣 : Tables 𝓤 H) (known : Triple 𝓤 (𝓣 .C #turn) (Turn 𝓤 H A at-mem run)) where
@@ -115,18 +112,18 @@ module _ {M : Type 1} (𝓤 : URA M) (H : Heap 𝓤) (A : Atoms 𝓤) (W : Given
         split ! $ move ! (2 ∷ []) $ fsplit ! $ enter ! (𝓣 .C) (𝓣 .Λ) code.function _ _ $
         alloc1 ! (λ l₀. alloc1 ! (λ l₁. alloc1 ! (λ l₂. alloc1 ! (λ l₃. alloc1 ! (λ l₄. alloc1 ! (λ l₅. alloc1 ! (λ l₆. alloc1 ! (λ l₇. alloc1 ! (λ
         l₈. alloc1 ! (λ l₉. alloc1 ! (λ l₁₀. alloc1 ! (λ l₁₁. alloc1 ! (λ l₁₂. alloc1 ! (λ l₁₃. alloc1 ! (λ l₁₄. alloc1 ! (λ l₁₅. alloc1 ! (λ l₁₆.
-        alloc1 ! (λ l₁₇. alloc1 ! (λ l₁₈. alloc0 ! $ params1 ! $
-        pass1 ! (init ! 34 refl (tt, tt)) $ pass1 ! (init ! 32 refl (sized (z .job .0))) $ pass1 ! (init ! 30 refl (sized (z .plan .0))) $
-        pass1 ! (init ! 28 refl (sized (z .levels .0))) $
-        pass1 ! (init ! 26 refl (LL.lawful F.the-type F′.the-laws 𝓤 H A W .typed (s .f) _ (z .frame) .0)) $
-        pass1 ! (init ! 24 refl (tt, record { fits = z .limit })) $ pass1 ! (init ! 22 refl (sized (z .words .0))) $
-        pass1 ! (init ! 20 refl (sized (z .values .0))) $ pass1 ! (init ! 18 refl (sized (z .lines .0))) $ pass0 ! $ move ! (38 ∷ []) $
-        fsplit3 ! $ drop ! $ move ! (0 ∷ 1 ∷ 41 ∷ []) $ opens ! tt R.the-row {h = h} b o (λ us.
+        alloc1 ! (λ l₁₇. alloc0 ! $ params1 ! $
+        pass1 ! (init ! 32 refl (tt, tt)) $ pass1 ! (init ! 30 refl (sized (z .job .0))) $ pass1 ! (init ! 28 refl (sized (z .plan .0))) $
+        pass1 ! (init ! 26 refl (sized (z .levels .0))) $
+        pass1 ! (init ! 24 refl (LL.lawful F.the-type F′.the-laws 𝓤 H A W .typed (s .f) _ (z .frame) .0)) $
+        pass1 ! (init ! 22 refl (sized (z .words .0))) $
+        pass1 ! (init ! 20 refl (sized (z .values .0))) $ pass1 ! (init ! 18 refl (sized (z .lines .0))) $ pass0 ! $ move ! (36 ∷ []) $
+        fsplit3 ! $ drop ! $ move ! (0 ∷ 1 ∷ 39 ∷ []) $ opens ! tt R.the-row {h = h} b o (λ us.
         spelt ! R.the-row (Is R.the-row) (shows 𝓤 H A R.the-row) (LL.vals R.the-type R′.the-laws) (LL.tells R.the-type R′.the-laws) fullShare h us b
         o $
         move ! (1 ∷ []) $ peeks ! R.the-row (Is R.the-row) (shows 𝓤 H A R.the-row) h (mach h ∷ []) (λ g.
         -- the record is copied, and the slices are passed on
-        sets ! (of-opd ! (load ! (from ! (hop ! (look ! 39 refl) (stop !))) (look-raw ! 1 refl))) 21 refl (LL.lawful R.the-type R′.the-laws 𝓤 H A W
+        sets ! (of-opd ! (load ! (from ! (hop ! (look ! 37 refl) (stop !))) (look-raw ! 1 refl))) 21 refl (LL.lawful R.the-type R′.the-laws 𝓤 H A W
         .typed h _ g .0) $
         sets ! (addr ! (from ! (fld ! refl (hop ! (look-in ! 27 (sub ! 0 refl (whole !))) (stop !))))) 15 refl (tt, tt) $
         sets ! (agg ! (and-then ! (var ! 15 refl) (and-then ! (load ! (from ! (fld ! refl (stop !))) (look-in ! 27 (sub ! 1 refl (whole !))))
@@ -137,18 +134,18 @@ module _ {M : Type 1} (𝓤 : URA M) (H : Heap 𝓤) (A : Atoms 𝓤) (W : Given
         sets ! (addr ! (from ! (fld ! refl (hop ! (look-in ! 23 (sub ! 0 refl (whole !))) (stop !))))) 7 refl (tt, tt) $
         sets ! (agg ! (and-then ! (var ! 7 refl) (and-then ! (load ! (from ! (fld ! refl (stop !))) (look-in ! 23 (sub ! 1 refl (whole !)))) (no-more
         !)))) 5 refl (sized (z .lines .0)) $
-        owned ! R.the-row (Is R.the-row) (LL.makes R.the-type R′.the-plain 𝓤 H A) h (mach h ∷ []) g $ move ! (0 ∷ 44 ∷ []) $ fjoin ! $
-        move ! (44 ∷ 0 ∷ []) $ use2 W (raw (Turn 𝓤 H A at-mem run .pre to-turn)) (goes-turn pre) $
+        owned ! R.the-row (Is R.the-row) (LL.makes R.the-type R′.the-plain 𝓤 H A) h (mach h ∷ []) g $ move ! (0 ∷ 42 ∷ []) $ fjoin ! $
+        move ! (42 ∷ 0 ∷ []) $ use2 W (raw (Turn 𝓤 H A at-mem run .pre to-turn)) (goes-turn pre) $
         calls-at ! (fmOf 𝓤 H (W .laws) 𝓣) (Turn 𝓤 H A at-mem run) known to-turn
-        (and-then ! (var ! 22 refl) (and-then ! (var ! 38 refl) (and-then ! (var ! 36 refl) (and-then ! (var ! 34 refl) (and-then ! (var ! 32 refl)
-        (and-then ! (var ! 30 refl) (and-then ! (var ! 14 refl) (and-then ! (var ! 10 refl) (and-then ! (var ! 6 refl) (no-more !)))))))))) (λ v.
+        (and-then ! (var ! 22 refl) (and-then ! (var ! 36 refl) (and-then ! (var ! 34 refl) (and-then ! (var ! 32 refl) (and-then ! (var ! 30 refl)
+        (and-then ! (var ! 14 refl) (and-then ! (var ! 10 refl) (and-then ! (var ! 6 refl) (no-more !))))))))) (λ v.
         use1 W (later (some (λ (c : Stepped). (Tokens s 𝓤 ⊛ ‵ (S.the-row .own c (v ∷ [])))
         ⊛ raw (ensured 𝓤 H A tu.ended (tu.clauses 𝓤 H A at-mem run) (lftsOf s) (h, argsOf s) tt c)))) (id⊢ 𝓤 _) $ await ! tt $ pick ! (λ c.
         split ! $ move ! (1 ∷ []) $ use1 W (some (λ (zs : Lasts). ‵ (lasts tu.ended (lftsOf s) (h, argsOf s) zs)
-        ⊛ raw (fact 𝓤 (After (zs .1 .1 .1 .1 .1 .1 .0) (zs .1 .1 .1 .1 .1 .1 .1 .0) (zs .1 .1 .1 .1 .1 .1 .1 .1 .0) c)))) (id⊢ 𝓤 _) $ pick ! (λ zs.
+        ⊛ raw (fact 𝓤 (After (zs .1 .1 .1 .1 .1 .0) (zs .1 .1 .1 .1 .1 .1 .0) (zs .1 .1 .1 .1 .1 .1 .1 .0) c)))) (id⊢ 𝓤 _) $ pick ! (λ zs.
         split ! $ move ! (1 ∷ []) $
-        heard ! (After (zs .1 .1 .1 .1 .1 .1 .0) (zs .1 .1 .1 .1 .1 .1 .1 .0) (zs .1 .1 .1 .1 .1 .1 .1 .1 .0) c) (λ e. fsplit ! $ drop ! $
-        fsplit ! $ drop ! $ fsplit ! $ drop ! $ fsplit ! $ drop ! $ fsplit ! $ drop ! $ fsplit ! $ drop ! $ fsplit ! $ fsplit ! $
+        heard ! (After (zs .1 .1 .1 .1 .1 .0) (zs .1 .1 .1 .1 .1 .1 .0) (zs .1 .1 .1 .1 .1 .1 .1 .0) c) (λ e. fsplit ! $ drop ! $
+        fsplit ! $ drop ! $ fsplit ! $ drop ! $ fsplit ! $ drop ! $ fsplit ! $ drop ! $ fsplit ! $ fsplit ! $
         move ! (1 ∷ []) $ feqL ! (λ ew. move ! (1 ∷ []) $ fsplit ! $ fsplit ! $ move ! (1 ∷ []) $ feqL ! (λ ev. move ! (1 ∷ []) $ fsplit ! $
         fsplit ! $ move ! (1 ∷ []) $ feqL ! (λ el. move ! (1 ∷ []) $ drop ! $ move ! (3 ∷ []) $ split ! $ move ! (1 ∷ []) $
         peeks ! S.the-row (Is S.the-row) (shows 𝓤 H A S.the-row) c (v ∷ []) (λ is.
@@ -156,25 +153,25 @@ module _ {M : Type 1} (𝓤 : URA M) (H : Heap 𝓤) (A : Atoms 𝓤) (W : Given
         let typed = LL.lawful R.the-type R′.the-laws 𝓤 H A W .typed (c .running) _ (parts .1 .0) .0 in
         -- what came back is stored, and the borrow is closed at it
         result ! 24 refl (LL.lawful S.the-type S′.the-laws 𝓤 H A W .typed c _ is .0) $
-        rewrite ! 24 (λ (u : Val). ‵ (fat fullShare S′.mir l₁₁ 0 u)) (ap only (LL.tells S.the-type S′.the-laws c (v ∷ []) is)) refl $
+        rewrite ! 24 (λ (u : Val). ‵ (fat fullShare S′.mir l₁₀ 0 u)) (ap only (LL.tells S.the-type S′.the-laws c (v ∷ []) is)) refl $
         sets ! (of-opd ! (load ! (from ! (fld ! refl (stop !))) (look-in ! 24 (sub ! 1 refl (whole !))))) 22 refl typed $
-        assigns ! (of-opd ! (var ! 22 refl)) (from ! (hop ! (look ! 44 refl) (stop !))) (store-raw ! 6 refl typed) $
+        assigns ! (of-opd ! (var ! 22 refl)) (from ! (hop ! (look ! 42 refl) (stop !))) (store-raw ! 6 refl typed) $
         owned ! R.the-row (Is R.the-row) (LL.makes R.the-type R′.the-plain 𝓤 H A) (c .running) (inner c ∷ []) (parts .1 .0) $
         keep ! (0 ∷ 2 ∷ 3 ∷ 4 ∷ 5 ∷ 7 ∷ 8 ∷ 9 ∷ 10 ∷ 11 ∷ 12 ∷ 13 ∷ 14 ∷ 15 ∷ 16 ∷ 17 ∷ 18 ∷ 19 ∷ 20 ∷ 21 ∷ 22 ∷ 23 ∷ 24 ∷ 25 ∷ 26 ∷ 27 ∷ 28 ∷ 29 ∷
-        30 ∷ 31 ∷ 32 ∷ 33 ∷ 34 ∷ 35 ∷ 36 ∷ 37 ∷ 38 ∷ 39 ∷ 40 ∷ 41 ∷ 42 ∷ 43 ∷ 44 ∷ 45 ∷ 46 ∷ 47 ∷ 48 ∷ []) $
+        30 ∷ 31 ∷ 32 ∷ 33 ∷ 34 ∷ 35 ∷ 36 ∷ 37 ∷ 38 ∷ 39 ∷ 40 ∷ 41 ∷ 42 ∷ 43 ∷ 44 ∷ 45 ∷ 46 ∷ []) $
         move ! (5 ∷ 0 ∷ 6 ∷ 7 ∷ 8 ∷ []) $ closes ! tt R.the-row (c .running) (inner c ∷ []) b o $
-        sets ! (of-opd ! (load ! (from ! (fld ! refl (stop !))) (look-in ! 21 (sub ! 0 refl (whole !))))) 43 refl (tt, record { fits = parts .0 .1 })
+        sets ! (of-opd ! (load ! (from ! (fld ! refl (stop !))) (look-in ! 21 (sub ! 0 refl (whole !))))) 41 refl (tt, record { fits = parts .0 .1 })
         $
-        returns ! (look ! 43 refl) $ forget ! 43 refl $ forget ! 41 refl $ forget ! 39 refl $ forget ! 37 refl $ forget ! 35 refl $
+        returns ! (look ! 41 refl) $ forget ! 41 refl $ forget ! 39 refl $ forget ! 37 refl $ forget ! 35 refl $
         forget ! 33 refl $ forget ! 31 refl $ forget ! 29 refl $ forget ! 27 refl $ forget ! 25 refl $ forget ! 23 refl $ forget ! 21 refl $
         forget ! 19 refl $ forget ! 17 refl $ forget ! 15 refl $ forget ! 13 refl $ forget ! 11 refl $ forget ! 9 refl $ forget ! 7 refl $
-        move ! (43 ∷ 44 ∷ []) $ free1 ! $ move ! (41 ∷ 42 ∷ []) $ free1 ! $ move ! (39 ∷ 40 ∷ []) $ free1 ! $ move ! (37 ∷ 38 ∷ []) $ free1 ! $
+        move ! (41 ∷ 42 ∷ []) $ free1 ! $ move ! (39 ∷ 40 ∷ []) $ free1 ! $ move ! (37 ∷ 38 ∷ []) $ free1 ! $
         move ! (35 ∷ 36 ∷ []) $ free1 ! $ move ! (33 ∷ 34 ∷ []) $ free1 ! $ move ! (31 ∷ 32 ∷ []) $ free1 ! $ move ! (29 ∷ 30 ∷ []) $ free1 ! $
         move ! (27 ∷ 28 ∷ []) $ free1 ! $ move ! (25 ∷ 26 ∷ []) $ free1 ! $ move ! (23 ∷ 24 ∷ []) $ free1 ! $ move ! (21 ∷ 22 ∷ []) $ free1 ! $
         move ! (19 ∷ 20 ∷ []) $ free1 ! $ move ! (17 ∷ 18 ∷ []) $ free1 ! $ move ! (15 ∷ 16 ∷ []) $ free1 ! $ move ! (13 ∷ 14 ∷ []) $ free1 ! $
         move ! (11 ∷ 12 ∷ []) $ free1 ! $ move ! (9 ∷ 10 ∷ []) $ free1 ! $ move ! (7 ∷ 8 ∷ []) $ free1 ! $ free0 ! $
         keep ! (0 ∷ 1 ∷ 2 ∷ 3 ∷ 6 ∷ 5 ∷ 4 ∷ []) $
-        by ! (exits c _ _ _ e ew ev el (parts .0 .1)))))))))))))))))))))))))))))))
+        by ! (exits c _ _ _ e ew ev el (parts .0 .1))))))))))))))))))))))))))))))
 
 module _ {M : Type 1} (𝓤 : URA M) (H : Heap 𝓤) (A : Atoms 𝓤) (W : Given 𝓤 H A) (at-mem : Memory → SProp 𝓤) (run : Routine → Fun 𝓤) (𝓣 : Tables 𝓤 H)
     (known : Triple 𝓤 (𝓣 .C #turn) (Turn 𝓤 H A at-mem run)) where
@@ -191,13 +188,10 @@ module _ {M : Type 1} (𝓤 : URA M) (H : Heap 𝓤) (A : Atoms 𝓤) (W : Given
               (
                 LL.vals F.the-type F′.the-laws,
                 (
-                  uint-vals w64,
+                  slice-vals,
                   (
                     slice-vals,
-                    (
-                      slice-vals,
-                      (slice-vals, tt),
-                    ),
+                    (slice-vals, tt),
                   ),
                 ),
               ),
@@ -216,14 +210,11 @@ module _ {M : Type 1} (𝓤 : URA M) (H : Heap 𝓤) (A : Atoms 𝓤) (W : Given
               (
                 LL.tells F.the-type F′.the-laws,
                 (
-                  uint-tells w64,
+                  mut-slice-tells (named 4) (κs .1 .1 .1 .1 .0) u32,
                   (
-                    mut-slice-tells (named 4) (κs .1 .1 .1 .1 .0) u32,
-                    (
-                      mut-slice-tells (named 5) (κs .1 .1 .1
-                          .1 .1 .0) i32,
-                      (mut-slice-tells (named 6) (κs .1 .1 .1 .1 .1 .1 .0) u8, tt),
-                    ),
+                    mut-slice-tells (named 5) (κs .1 .1 .1
+                        .1 .1 .0) i32,
+                    (mut-slice-tells (named 6) (κs .1 .1 .1 .1 .1 .1 .0) u8, tt),
                   ),
                 ),
               ),
@@ -238,11 +229,9 @@ module _ {M : Type 1} (𝓤 : URA M) (H : Heap 𝓤) (A : Atoms 𝓤) (W : Given
         plan = are .1 .1 .0 .0 .1;
         levels = are .1 .1 .1 .0 .0 .1;
         frame = are .1 .1 .1 .1 .0;
-        limit = are .1 .1 .1
-            .1 .1 .0 .1;
-        words = are .1 .1 .1 .1 .1 .1 .0 .0 .1;
-        values = are .1 .1 .1 .1 .1 .1 .1 .0 .0 .1;
-        lines = are .1 .1 .1 .1 .1 .1 .1 .1 .0 .0 .1;
+        words = are .1 .1 .1 .1 .1 .0 .0 .1;
+        values = are .1 .1 .1 .1 .1 .1 .0 .0 .1;
+        lines = are .1 .1 .1 .1 .1 .1 .1 .0 .0 .1;
       }) pre))
 
   meets : Meets 𝓤 H A step′.signature (WpFn 𝓤 H (𝓣 .C) (𝓣 .Λ) code.function) (step′.spec 𝓤 H A at-mem run)
@@ -259,14 +248,11 @@ module _ {M : Type 1} (𝓤 : URA M) (H : Heap 𝓤) (A : Atoms 𝓤) (W : Given
             goes-dropped 𝓤 H A W 7 (plain (λ _. F.the-row)) yes
                 (λ κs x f. refl),
             (
-              goes-dropped 𝓤 H A W 7 (plain (λ _. usize)) yes (λ κs x f. refl),
+              goes-gave-slice 𝓤 H A W 7 4 tt (plain (λ _. u32)),
               (
-                goes-gave-slice 𝓤 H A W 7 4 tt (plain (λ _. u32)),
-                (
-                  goes-gave-slice 𝓤 H A W 7
-                      5 tt (plain (λ _. i32)),
-                  (goes-gave-slice 𝓤 H A W 7 6 tt (plain (λ _. u8)), tt),
-                ),
+                goes-gave-slice 𝓤 H A W 7
+                    5 tt (plain (λ _. i32)),
+                (goes-gave-slice 𝓤 H A W 7 6 tt (plain (λ _. u8)), tt),
               ),
             ),
           ),
