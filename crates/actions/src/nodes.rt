@@ -83,8 +83,8 @@ fn secret_if(t: bool) -> u8
     }
 }
 
-// A new node on a side, in front of what stands there, with the expression whose value and level are e.
-fn insert_on(
+// Commands 11 and 12: a new node on a side, in front of what stands there, with the expression whose value and level are e.
+pub fn insert_on(
     side: usize,
     mark: u8,
     e: Valued,
@@ -125,27 +125,6 @@ fn insert_on(
     onward(r, next)
 }
 
-// Commands 11 and 12, by the side. In each call the side is a constant: there is code for each side, which asks for none.
-pub fn insert(
-    side: usize,
-    mark: u8,
-    e: Valued,
-    words: &mut [u32],
-    places: usize,
-    pc: u8,
-    r: Running,
-) -> Stepped
-    requires { ⌜ Timely r × (Within (now words) places (r .memory .cursor) × (side < 2)) ⌝ }
-    ensures { λ a. ⌜ ((l b : List ℕ) (v : List ℤ) (vars : ℕ) (x : Expression) → Evaluates (now (words .entry)) l v places vars (r .memory) x e
-        → Acts places vars (slices (now (words .entry)) l v b) (slices (now (words .exit)) l v b) r a
-        (λ μ. Run.insertAt pc μ places (to (sideOf side) (μ .cursor)) (up (to (sideOf side) (μ .cursor))) mark x)) ⌝ }
-{
-    if side == table::FIRST {
-        return insert_on(table::FIRST, mark, e, words, places, pc, r);
-    }
-    insert_on(table::RIGHT, mark, e, words, places, pc, r)
-}
-
 // The first node on a side goes, with its subtree.
 fn remove_on(side: usize, words: &mut [u32], places: usize, pc: u8, r: Running) -> Stepped
     requires { ⌜ Timely r × (Within (now words) places (r .memory .cursor) × (side < 2)) ⌝ }
@@ -165,7 +144,7 @@ fn remove_on(side: usize, words: &mut [u32], places: usize, pc: u8, r: Running) 
     onward(r, next)
 }
 
-// Commands 13 and 14, by the side, in the same way.
+// Commands 13 and 14, by the side. In each call the side is a constant: there is code for each side, which asks for none.
 pub fn remove(side: usize, words: &mut [u32], places: usize, pc: u8, r: Running) -> Stepped
     requires { ⌜ Timely r × (Within (now words) places (r .memory .cursor) × (side < 2)) ⌝ }
     ensures { λ a. ⌜ ((l : List ℕ) (v : List ℤ) (b : List ℕ) (vars : ℕ) → Acts places vars (slices (now (words .entry)) l v b)

@@ -137,7 +137,7 @@ pub fn carry_out(
             r,
         ),
         7..=10 => moves::go(command, words, places, pc, r),
-        11..=12 => nodes::insert(
+        11..=12 => nodes::insert_on(
             side(command, 11),
             target(job, base, at),
             evaluate(

@@ -165,8 +165,8 @@ evaluate-requires-6 c κs =
     let i = inside-by _ (p .0) _ _ (p .1 .0) _ (c .before .before .before .before .before .before .before .before .code .ensures) (omega (arith, c .before .before .before .before .before .if2 .taken)) in
     expressed _ (p .0) _ _ (p .1 .0) i _ (coded-by _ (p .0) _ _ (p .1 .0) _ (c .before .before .before .before .before .before .before .before .code .ensures) i) _ (c .before .before .fields-at6 .ensures) (insert-row _ (c .before .before .before .before .before .before .if1 .left) (c .before .before .before .before .before .if2 .taken))
 
-insert-requires : tie.Need-insert-requires
-insert-requires c κs =
+insert-on-requires : tie.Need-insert-on-requires
+insert-on-requires c κs =
     let p = c .before .before .before .before .before .before .before .before .before .before .before .before .before .before .before .before .before .before .before .pre in
     let i = inside-by _ (p .0) _ _ (p .1 .0) _ (c .before .before .before .before .before .before .before .before .before .before .code .ensures) (omega (arith, c .before .before .before .before .before .before .before .if2 .taken)) in
     (timely _ (p .0) _ _ (p .1 .0) i (p .1 .1), (at-cursor _ (p .0) _ _ (p .1 .0) i, omega (arith, c .before .before .before .before .before .before .side .ensures, c .before .before .before .before .before .before .before .before .if1 .left, c .before .before .before .before .before .before .before .if2 .taken)))
@@ -250,7 +250,7 @@ returns-11 c =
     let p = c .before .before .before .before .before .before .before .before .before .before .before .before .before .before .before .before .before .before .before .before .before .before .pre in
     let i = inside-by _ (p .0) _ _ (p .1 .0) _ (c .before .before .before .before .before .before .before .before .before .before .before .before .before .code .ensures) (omega (arith, c .before .before .before .before .before .before .before .before .before .before .if2 .taken)) in
     as-step _ _ _ _ _ i (inserts _ (p .0) _ _ (p .1 .0) i _ (coded-by _ (p .0) _ _ (p .1 .0) _ (c .before .before .before .before .before .before .before .before .before .before .before .before .before .code .ensures) i) _ refl _ _ _ (c .before .before .before .before .before .before .before .before .before .before .before .before .before .before .before .top .ensures) (record { words = c .before .words2 .given; levels = refl; values = refl; board = refl }) _ _ (c .before .before .before .before .before .before .before .before .target2 .ensures)
-    (omega (arith, c .before .before .before .before .before .before .before .before .before .side .ensures, c .before .before .before .before .before .before .before .before .before .before .before .if1 .left)) (omega (arith, c .before .before .before .before .before .before .before .before .before .side .ensures, c .before .before .before .before .before .before .before .before .before .before .before .if1 .left, c .before .before .before .before .before .before .before .before .before .before .if2 .taken)) (c .before .before .insert .ensures _ _ _ _ _ (evaluated _ (p .0) _ _ (p .1 .0) i _ (coded-by _ (p .0) _ _ (p .1 .0) _ (c .before .before .before .before .before .before .before .before .before .before .before .before .before .code .ensures) i) _ (c .before .before .before .before .before .before .before .fields-at6 .ensures) (c .before .before .before .before .evaluate6 .ensures))))
+    (omega (arith, c .before .before .before .before .before .before .before .before .before .side .ensures, c .before .before .before .before .before .before .before .before .before .before .before .if1 .left)) (omega (arith, c .before .before .before .before .before .before .before .before .before .side .ensures, c .before .before .before .before .before .before .before .before .before .before .before .if1 .left, c .before .before .before .before .before .before .before .before .before .before .if2 .taken)) (c .before .before .insert-on .ensures _ _ _ _ _ (evaluated _ (p .0) _ _ (p .1 .0) i _ (coded-by _ (p .0) _ _ (p .1 .0) _ (c .before .before .before .before .before .before .before .before .before .before .before .before .before .code .ensures) i) _ (c .before .before .before .before .before .before .before .fields-at6 .ensures) (c .before .before .before .before .evaluate6 .ensures))))
 
 returns-12 : tie.Need-returns-12
 returns-12 c =
@@ -266,4 +266,4 @@ returns-13 c =
     as-end _ _ _ _ (outside-by _ (p .0) _ _ (p .1 .0) _ (c .before .before .before .before .before .code .ensures) (from-seventeen _ (c .before .if3 .left) (m .0 .1) (m .1))) (c .halt .ensures)
 
 pub carry-out-spec : {M : Type 1} → statement M
-carry-out-spec = tie.close (tie.spec (λ c κs. search needs) (λ c. search needs) shared-slice-read-word (λ c κs. search needs) onward-requires target-requires fields-at-requires evaluate-requires assign-requires fields-at-requires-2 evaluate-requires-2 (λ c κs. search needs) enter-if-requires (λ c κs. search needs) jump-requires fields-at-requires-3 evaluate-requires-3 (λ c κs. search needs) enter-while-requires (λ c κs. search needs) leave-requires fields-at-requires-4 evaluate-requires-4 output-requires fields-at-requires-5 evaluate-requires-5 write-requires raise-requires go-requires (λ c κs. search needs) target-requires-2 fields-at-requires-6 evaluate-requires-6 insert-requires (λ c κs. search needs) remove-requires (λ c κs. search needs) returns (λ c. search needs) (λ c. search needs) returns-2 (λ c. search needs) (λ c. search needs) returns-3 returns-4 (λ c. search needs) (λ c. search needs) returns-5 returns-6 (λ c. search needs) (λ c. search needs) (λ c. search needs) returns-7 (λ c. search needs) (λ c. search needs) returns-8 returns-9 (λ c. search needs) returns-10 (λ c. search needs) (λ c. search needs) returns-11 (λ c. search needs) returns-12 returns-13)
+carry-out-spec = tie.close (tie.spec (λ c κs. search needs) (λ c. search needs) shared-slice-read-word (λ c κs. search needs) onward-requires target-requires fields-at-requires evaluate-requires assign-requires fields-at-requires-2 evaluate-requires-2 (λ c κs. search needs) enter-if-requires (λ c κs. search needs) jump-requires fields-at-requires-3 evaluate-requires-3 (λ c κs. search needs) enter-while-requires (λ c κs. search needs) leave-requires fields-at-requires-4 evaluate-requires-4 output-requires fields-at-requires-5 evaluate-requires-5 write-requires raise-requires go-requires (λ c κs. search needs) target-requires-2 fields-at-requires-6 evaluate-requires-6 insert-on-requires (λ c κs. search needs) remove-requires (λ c κs. search needs) returns (λ c. search needs) (λ c. search needs) returns-2 (λ c. search needs) (λ c. search needs) returns-3 returns-4 (λ c. search needs) (λ c. search needs) returns-5 returns-6 (λ c. search needs) (λ c. search needs) (λ c. search needs) returns-7 (λ c. search needs) (λ c. search needs) returns-8 returns-9 (λ c. search needs) returns-10 (λ c. search needs) (λ c. search needs) returns-11 (λ c. search needs) returns-12 returns-13)
