@@ -22,27 +22,31 @@ use Rattle.rules.proofs.View.{view, seenCursor}
 
 module _ (o : Level) where
   -- two levels with a value each: equal, with the same value where that is visible; or both hidden
-  pub data Agrees (l₁ l₂ : Level) (z₁ z₂ : ℤ) : Type 0 where
+  pub data Agrees {A : Type 0} (l₁ l₂ : Level) (z₁ z₂ : A) : Type 0 where
     same : l₁ ≡ l₂ → (visible o l₁ ≡ true → z₁ ≡ z₂) → Agrees l₁ l₂ z₁ z₂
     dark : visible o l₁ ≡ false → visible o l₂ ≡ false → Agrees l₁ l₂ z₁ z₂
 
-  pub agree-value : {l₁ l₂ : Level} {z₁ z₂ : ℤ} → Agrees l₁ l₂ z₁ z₂ → visible o l₁ ≡ true → z₁ ≡ z₂
+  pub agree-value : {A : Type 0} {l₁ l₂ : Level} {z₁ z₂ : A} → Agrees l₁ l₂ z₁ z₂ → visible o l₁ ≡ true → z₁ ≡ z₂
   agree-value (same l z) e = z e
   agree-value (dark a b) e = clash e a
 
-  pub agree-level : {l₁ l₂ : Level} {z₁ z₂ : ℤ} → Agrees l₁ l₂ z₁ z₂ → visible o l₁ ≡ true → l₁ ≡ l₂
+  pub agree-level : {A : Type 0} {l₁ l₂ : Level} {z₁ z₂ : A} → Agrees l₁ l₂ z₁ z₂ → visible o l₁ ≡ true → l₁ ≡ l₂
   agree-level (same l z) e = l
   agree-level (dark a b) e = clash e a
 
-  pub agree-hidden : {l₁ l₂ : Level} {z₁ z₂ : ℤ} → Agrees l₁ l₂ z₁ z₂ → visible o l₁ ≡ false → visible o l₂ ≡ false
+  pub agree-hidden : {A : Type 0} {l₁ l₂ : Level} {z₁ z₂ : A} → Agrees l₁ l₂ z₁ z₂ → visible o l₁ ≡ false → visible o l₂ ≡ false
   agree-hidden (same l z) e = rw l at e
   agree-hidden (dark a b) e = b
 
-  joined : {k₁ k₂ l₁ l₂ : Level} {y₁ y₂ z₁ z₂ : ℤ} (f : ℤ → ℤ → ℤ) → Agrees k₁ k₂ y₁ y₂ → Agrees l₁ l₂ z₁ z₂
+  joined : {A : Type 0} {k₁ k₂ l₁ l₂ : Level} {y₁ y₂ z₁ z₂ : ℤ} (f : ℤ → ℤ → A) → Agrees k₁ k₂ y₁ y₂ → Agrees l₁ l₂ z₁ z₂
       → Agrees (join k₁ l₁) (join k₂ l₂) (f y₁ z₁) (f y₂ z₂)
   joined f (same a b) (same c d) = same (rw (a, c)) (λ e. rw (b (vis-left o _ _ e), d (vis-right o _ _ e)))
   joined f (dark a b) k = dark (hid-left o _ _ a) (hid-left o _ _ b)
   joined f (same a b) (dark c d) = dark (hid-right o _ _ c) (hid-right o _ _ d)
+
+  agree-map : {A B : Type 0} {l₁ l₂ : Level} {z₁ z₂ : A} (f : A → B) → Agrees l₁ l₂ z₁ z₂ → Agrees l₁ l₂ (f z₁) (f z₂)
+  agree-map f (same a b) = same a (λ e. ap f (b e))
+  agree-map f (dark a b) = dark a b
 
   variable-agrees : (v w : Variable) → seenVariable o v ≡ seenVariable o w → Agrees (v .level) (w .level) (v .value) (w .value)
   unfolding seenVariable seenValue
@@ -151,7 +155,7 @@ module _ (o : Level) where
 
     pub expressions : (e : Expression) → Agrees (levelOf m₁ e) (levelOf m₂ e) (value m₁ e) (value m₂ e)
     unfolding levelOf value
-    expressions (alone a) = operands a
+    expressions (alone a) = agree-map some (operands a)
     expressions (both f a b) = joined (apply f) (operands a) (operands b)
 
     level-eq : visible o (m₁ .level) ≡ true → m₁ .cursor ≡ m₂ .cursor → m₁ .level ≡ m₂ .level → (x : Operand) → operandLevel m₁ x ≡ operandLevel m₂ x

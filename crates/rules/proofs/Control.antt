@@ -6,6 +6,7 @@ use native.Mathlib.Omega.{arith}
 use mathlib.Core.Bool.{Bool, true, false, cond}
 use mathlib.Core.List.{List, [], _∷_, tail}
 use lib.ListN.{length}
+use lib.IntN.{ℤ}
 use lib.Dec.{eqb}
 use borrow.Author.Tests.{eqb-false, ltb-true}
 use Rattle.rules.specs.Level.{isLevel}
@@ -13,13 +14,13 @@ use Rattle.rules.specs.Number.{isZero}
 use Rattle.rules.specs.Tree.{child, sibling}
 use Rattle.rules.specs.Script.{Expression, Action, Command, act, actionNumber, number, fetch, numberAt}
 use Rattle.rules.specs.Blocks.{blockRule, goesTo}
-use Rattle.rules.specs.Run.{Memory, Block, State, Buffers, context, value, levelOf, stepped, pushed, enterIf, enterWhile, carried, step}
+use Rattle.rules.specs.Run.{Memory, Block, State, Buffers, context, levelOf, stepped, pushed, enterIf, enterWhile, carried, step}
 use Rattle.rules.proofs.Tests.{Test, holds, fails, test}
 use Rattle.rules.proofs.Lattice.{na-right, level-below, level-join}
 use Rattle.rules.proofs.Parts.{Plain, if-opens, while-opens}
 use Rattle.rules.proofs.Nests.{nest, nest-open, nest-plain}
 use Rattle.rules.proofs.Exits.{if-exit, while-exit, else-exit, end-exit, goes-within}
-use Rattle.rules.proofs.Results.{Good, good-map, good-onward, Stops, stops-onward}
+use Rattle.rules.proofs.Results.{Good, good-given, good-map, good-onward, Stops, stops-given, stops-onward}
 use Rattle.rules.proofs.Runs.{more}
 use Rattle.rules.proofs.Sound.{Sound, effect-sound, expression-level, High, effect-high}
 
@@ -107,18 +108,18 @@ module _ (lent : Buffers) (cs : List Command) (closed : Closed cs) (s : State) (
   land-if e true k = by-jump _ (opens-one e refl (if-exit (numberAt cs) (length cs) (closed .blocks) (s .at) inside k))
   land-if e false k = to-next _ _ (valid .memory) (opens-one e refl (nest-open (numberAt cs) (s .at) (if-opens _ k)))
 
-  land-while : (e : Expression) → numberAt cs (s .at) ≡ 4 → Test (isZero (value (s .memory) e)) → Lands (enterWhile s jump e)
+  land-while : (e : Expression) (z : ℤ) → numberAt cs (s .at) ≡ 4 → Test (isZero z) → Lands (enterWhile s jump e z)
   unfolding enterWhile stepped jump
-  land-while e k (holds z) = rw z (by-jump _ (keeps refl (while-exit (numberAt cs) (length cs) (closed .blocks) (s .at) inside k)))
-  land-while e k (fails z) = rw z (to-next _ _ (valid .memory) (opens-one e refl (nest-open (numberAt cs) (s .at) (while-opens _ k))))
+  land-while e y k (holds z) = rw z (by-jump _ (keeps refl (while-exit (numberAt cs) (length cs) (closed .blocks) (s .at) inside k)))
+  land-while e y k (fails z) = rw z (to-next _ _ (valid .memory) (opens-one e refl (nest-open (numberAt cs) (s .at) (while-opens _ k))))
 
   land : (c : Command) → fetch cs (s .at) ≡ c → Good Lands (carried s lent jump c)
   unfolding carried stepped enterIf number jump
   land (act a) f =
       good-onward Sound Lands s (λ m h. to-next m _ h (keeps refl (nest-plain (numberAt cs) (s .at) (rw (numbered (act a) f) (action-plain a))))) _
       (effect-sound (s .memory) (valid .memory) _ (valid .guards) lent a)
-  land (Command.if e) f = land-if e (isZero (value (s .memory) e)) (numbered _ f)
-  land (Command.while e) f = land-while e (numbered _ f) (test _)
+  land (Command.if e) f = good-given Lands _ _ λ z. land-if e (isZero z) (numbered _ f)
+  land (Command.while e) f = good-given Lands _ _ λ z. land-while e z (numbered _ f) (test _)
   land Command.else f = by-jump _ (keeps refl (else-exit (numberAt cs) (length cs) (closed .blocks) (s .at) inside (numbered _ f)))
   land Command.end f =
       by-jump _ (leaves-one (numbered _ f) refl refl (end-exit (numberAt cs) (length cs) (closed .blocks) (s .at) inside (numbered _ f)))
@@ -156,8 +157,8 @@ module _ (lent : Buffers) (cs : List Command) (closed : Closed cs) (s : State) (
   high : (c : Command) → Stops High (carried s lent jump c)
   unfolding carried jump
   high (act a) = stops-onward High s _ (effect-high (s .memory) (valid .memory) _ (valid .guards) lent a)
-  high (Command.if e) = tt
-  high (Command.while e) = tt
+  high (Command.if e) = stops-given High _ _ tt λ _. tt
+  high (Command.while e) = stops-given High _ _ tt λ _. tt
   high Command.else = tt
   high Command.end = tt
 

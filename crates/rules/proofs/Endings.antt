@@ -4,7 +4,7 @@ use Prim.Native.Nat.{ℕ}
 use native.Mathlib.Omega.{arith}
 use mathlib.Core.List.{List}
 use Rattle.rules.specs.Check.{Checked, accepted, refused}
-use Rattle.rules.specs.Run.{State, Buffers, Stop, flow, absent, tableFull, boardFull, spent, low, stopNumber, Ending, finished, stopped}
+use Rattle.rules.specs.Run.{State, Buffers, Stop, flow, absent, tableFull, boardFull, spent, low, overflow, stopNumber, Ending, finished, stopped}
 use Rattle.rules.specs.Outcome.{checkJob, Outcome, rejected, ran, runJob, endingNumber, answer, LowNeverGiven}
 use Rattle.rules.specs.Public.{Finishes}
 use Rattle.rules.proofs.Checks.{refuses-with, Numbered, job-numbered}
@@ -21,6 +21,7 @@ stop-number tableFull e = omega arith
 stop-number boardFull e = omega arith
 stop-number spent e = omega arith
 stop-number low e = omega arith
+stop-number overflow e = omega arith
 
 ends : (k : Ending) → endingNumber k ≡ 0 → k ≡ finished
 unfolding endingNumber
@@ -36,6 +37,7 @@ high-number (stopped tableFull) h e = omega arith
 high-number (stopped boardFull) h e = omega arith
 high-number (stopped spent) h e = omega arith
 high-number (stopped low) h e = h
+high-number (stopped overflow) h e = omega arith
 
 -- an outcome is turned back with a number of its own, or is not stopped by 26
 abbrev pub Among : Outcome → Type 0

@@ -2,6 +2,7 @@
 pub mod Computed
 pub mod Trials
 pub mod Traps
+pub mod Overflow
 pub mod Tests
 pub mod Number
 pub mod Machine

@@ -7,8 +7,8 @@ use lib.IntN.{ℤ}
 use Rattle.rules.specs.Level.{Level}
 use Rattle.rules.specs.Tree.{Place}
 use Rattle.rules.specs.Script.{Expression, Action, Command, act, fetch}
-use Rattle.rules.specs.Run.{Memory, State, Buffers, value, withVariables, withTree, withCursor, withLine, assign, output, moveTo, goTo, insertAt, removeAt, write, effect, stepped, enterIf, enterWhile, carried, step, run}
-use Rattle.rules.proofs.Results.{Good, good-need, good-map, good-onward}
+use Rattle.rules.specs.Run.{Memory, State, Buffers, withVariables, withTree, withCursor, withLine, assign, output, moveTo, goTo, insertAt, removeAt, write, effect, stepped, enterIf, enterWhile, carried, step, run}
+use Rattle.rules.proofs.Results.{Good, good-need, good-given, good-map, good-onward}
 use Rattle.rules.proofs.Runs.{run-keeps}
 
 -- a record, so that the lists can be read off
@@ -36,20 +36,21 @@ module _ (pc : Level) (m : Memory) where
   unfolding Longer insertAt withTree
   insert-lines places p none mark e = tt
   insert-lines places p (some q) mark e =
-      good-need (Longer m) _ _ _ λ _. good-need (Longer m) _ _ _ λ _. good-need (Longer m) _ _ _ λ _. good-need (Longer m) _ _ _ λ _. extends-refl refl
+      good-need (Longer m) _ _ _ λ _. good-need (Longer m) _ _ _ λ _. good-given (Longer m) _ _ λ _.
+      good-need (Longer m) _ _ _ λ _. good-need (Longer m) _ _ _ λ _. extends-refl refl
 
   effect-lines : (lent : Buffers) (a : Action) → Good (Longer m) (effect lent pc m a)
   unfolding Longer effect assign output moveTo removeAt write withVariables withTree withCursor withLine
   effect-lines lent Action.skip = extends-refl refl
-  effect-lines lent (Action.assign i e) = good-need (Longer m) _ _ _ λ _. extends-refl refl
+  effect-lines lent (Action.assign i e) = good-need (Longer m) _ _ _ λ _. good-given (Longer m) _ _ λ _. extends-refl refl
   effect-lines lent (Action.output e) =
-      good-need (Longer m) _ _ _ λ _. good-need (Longer m) _ _ _ λ _. record { prefix = (value m e ∷ [], refl) }
+      good-need (Longer m) _ _ _ λ _. good-given (Longer m) _ _ λ z. good-need (Longer m) _ _ _ λ _. record { prefix = (z ∷ [], refl) }
   effect-lines lent Action.goRoot = good-need (Longer m) _ _ _ λ _. extends-refl refl
   effect-lines lent Action.goParent = go-lines _
   effect-lines lent (Action.go d) = go-lines _
   effect-lines lent (Action.insert d mark e) = insert-lines _ _ _ mark e
   effect-lines lent (Action.remove d) = good-need (Longer m) _ _ _ λ _. good-need (Longer m) _ _ _ λ _. extends-refl refl
-  effect-lines lent (Action.write e) = good-need (Longer m) _ _ _ λ _. extends-refl refl
+  effect-lines lent (Action.write e) = good-need (Longer m) _ _ _ λ _. good-given (Longer m) _ _ λ _. extends-refl refl
   effect-lines lent Action.raise = good-need (Longer m) _ _ _ λ _. extends-refl refl
 
 module _ (lent : Buffers) (cs : List Command) where
@@ -60,8 +61,8 @@ module _ (lent : Buffers) (cs : List Command) where
   carried-lines : (s : State) (j : ℕ) (c : Command) → Good (Later s) (carried s lent j c)
   unfolding Longer Later carried enterIf enterWhile stepped
   carried-lines s j (act a) = good-onward (Longer (s .memory)) (Later s) s (λ m h. h) _ (effect-lines _ (s .memory) lent a)
-  carried-lines s j (Command.if e) = extends-refl refl
-  carried-lines s j (Command.while e) = extends-refl refl
+  carried-lines s j (Command.if e) = good-given (Later s) _ _ λ _. extends-refl refl
+  carried-lines s j (Command.while e) = good-given (Later s) _ _ λ _. extends-refl refl
   carried-lines s j Command.else = extends-refl refl
   carried-lines s j Command.end = extends-refl refl
 

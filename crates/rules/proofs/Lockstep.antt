@@ -3,7 +3,7 @@
 use mathlib.Core.Path.{_≡_, refl, sym, _∙_, ap}
 use Prim.Native.Nat.{ℕ, zero, suc}
 use mathlib.Core.Bool.{Bool, true, false, cond}
-use mathlib.Core.Option.{Option, none, some}
+use mathlib.Core.Option.{Option, none, some, Option·some-injective}
 use mathlib.Core.List.{List, [], _∷_, _++_, map}
 use lib.ListN.{set}
 use lib.IntN.{ℤ, pos}
@@ -17,7 +17,7 @@ use Rattle.rules.specs.Public.{seenVariable, seenValue}
 use Rattle.rules.proofs.Tests.{Test, holds, fails, test, clash}
 use Rattle.rules.proofs.Lattice.{level-secret, vis-public, vis-down, vis-both, vis-left, hid-up, hid-right}
 use Rattle.rules.proofs.Cut.{mask, cutLabel, cut, cut-change, insert-seen, remove-seen, set-seen, Heads, seen, hidden, heads}
-use Rattle.rules.proofs.Results.{Good, Good₂, good₂-need, good₂-stop, good₂-of}
+use Rattle.rules.proofs.Results.{Good, Good₂, good₂-need, good₂-given, good₂-stop, good₂-of}
 use Rattle.rules.proofs.Sound.{Sound, there}
 use Rattle.rules.proofs.View.{view, seenCursor, Kept, kept-go, kept-insert, kept-remove, kept-write}
 use Rattle.rules.proofs.Alike.{Agrees, agree-value, expressions, levels-eq, existence-eq, content-eq, tree-eq, variables-eq, variable-eq, Cursors, seenBoth, seenNeither, cursors, subs, Nodes, nodes}
@@ -56,10 +56,15 @@ module _ (o : Level) where
   module _
       (lent₁ lent₂ : Buffers) (pc : Level) (light : visible o pc ≡ true) (m₁ m₂ : Memory) (s₁ : Sound m₁) (s₂ : Sound m₂) (v : view o m₁ ≡ view o m₂)
     where
-      -- where the flow is visible, the value is one
-      value-eq : (e : Expression) (l : Level) → notAbove (flowOf pc m₁ e) l ≡ true → visible o l ≡ true → value m₁ e ≡ value m₂ e
+      -- two values that an expression has, one where its level is visible
+      one-value : (e : Expression) (y z : ℤ) → value m₁ e ≡ some y → value m₂ e ≡ some z → visible o (levelOf m₁ e) ≡ true → y ≡ z
+      one-value e y z a b k = Option·some-injective y z (sym a ∙ agree-value o (expressions o m₁ m₂ s₁ s₂ v e) k ∙ b)
+
+      -- and so where the flow is visible
+      value-eq : (e : Expression) (y z : ℤ) → value m₁ e ≡ some y → value m₂ e ≡ some z → (l : Level) → notAbove (flowOf pc m₁ e) l ≡ true
+          → visible o l ≡ true → y ≡ z
       unfolding flowOf
-      value-eq e l h k = agree-value o (expressions o m₁ m₂ s₁ s₂ v e) (vis-left o _ _ (vis-down o _ _ h k))
+      value-eq e y z a b l h k = one-value e y z a b (vis-left o _ _ (vis-down o _ _ h k))
 
       view-tree : (t u : Forest) → cut o t ≡ cut o u → SameView (withTree m₁ t) (withTree m₂ u)
       unfolding SameView view withTree
@@ -87,8 +92,8 @@ module _ (o : Level) where
           → Good₂ SameView (assign pc m₁ i (variableAt (m₁ .variables) i) e) (assign pc m₂ i (variableAt (m₂ .variables) i) e)
       unfolding assign SameView view withVariables
       lock-assign i e =
-          good₂-need SameView _ _ _ _ _ _ λ h _.
-          let w = variable-same _ _ (value m₁ e) (value m₂ e) (variable-eq o m₁ m₂ s₁ s₂ v i) (value-eq e _ h) in
+          good₂-need SameView _ _ _ _ _ _ λ h _. good₂-given SameView _ _ _ _ λ y z a b.
+          let w = variable-same _ _ y z (variable-eq o m₁ m₂ s₁ s₂ v i) (value-eq e y z a b _ h) in
           let k = map-set (seenVariable o) (m₁ .variables) i _ ∙ (λ j. set (variables-eq o m₁ m₂ s₁ s₂ v j) i (w j)) ∙ sym (map-set (seenVariable o) (m₂ .variables) i _) in
           λ j. record { variables = k j; tree = (v j) .tree; cursor = (v j) .cursor; lines = (v j) .lines }
 
@@ -96,9 +101,9 @@ module _ (o : Level) where
       lock-output : (n₁ n₂ : ℕ) (e : Expression) → Good₂ SameView (output pc m₁ n₁ e) (output pc m₂ n₂ e)
       unfolding output SameView view withLine
       lock-output n₁ n₂ e =
-          good₂-need SameView _ _ _ _ _ _ λ h _. good₂-need SameView _ _ _ _ _ _ λ _ _.
-          let z = value-eq e public h (vis-public o) in
-          λ j. record { variables = (v j) .variables; tree = (v j) .tree; cursor = (v j) .cursor; lines = (v j) .lines ++ (z j ∷ []) }
+          good₂-need SameView _ _ _ _ _ _ λ h _. good₂-given SameView _ _ _ _ λ y z a b. good₂-need SameView _ _ _ _ _ _ λ _ _.
+          let w = value-eq e y z a b public h (vis-public o) in
+          λ j. record { variables = (v j) .variables; tree = (v j) .tree; cursor = (v j) .cursor; lines = (v j) .lines ++ (w j ∷ []) }
 
       -- 7
       lock-root : Good₂ SameView (moveTo pc m₁ root pc) (moveTo pc m₂ root pc)
@@ -154,20 +159,19 @@ module _ (o : Level) where
       position-hidden m e = hid-right o _ _ e
 
       -- 11 and 12
-      new-eq : visible o (m₁ .level) ≡ true → m₁ .cursor ≡ m₂ .cursor → m₁ .level ≡ m₂ .level → (mark : ℕ) (e : Expression)
-          → cutLabel o (newLabel pc m₁ mark e) ≡ cutLabel o (newLabel pc m₂ mark e)
+      new-eq : visible o (m₁ .level) ≡ true → m₁ .cursor ≡ m₂ .cursor → m₁ .level ≡ m₂ .level → (mark : ℕ) (e : Expression) (y z : ℤ)
+          → value m₁ e ≡ some y → value m₂ e ≡ some z → cutLabel o (newLabel pc m₁ mark e y) ≡ cutLabel o (newLabel pc m₂ mark e z)
       unfolding cutLabel withValue newLabel flowOf
-      new-eq a p l mark e =
+      new-eq a p l mark e y z d g =
           let h = position-eq l in
           let c : join (flowOf pc m₁ e) (secretIf _) ≡ join (flowOf pc m₂ e) (secretIf _) =
           λ i. join (join (levels-eq o m₁ m₂ s₁ s₂ v a p l e i) (h i)) (secretIf (lib.Dec.eqb (Prim.Native.Nat._%_ mark 2) 1)) in
-          let z = mask-eq _ _ (value m₁ e) (value m₂ e) c
-          (λ q. agree-value o (expressions o m₁ m₂ s₁ s₂ v e) (vis-left o _ _ (vis-left o _ _ q))) in
-          λ i. record { value = z i; existence = h i; content = c i; structure = join (h i) (secretIf (lib.Dec.leb 2 mark)) }
+          let w = mask-eq _ _ y z c (λ q. one-value e y z d g (vis-left o _ _ (vis-left o _ _ q))) in
+          λ i. record { value = w i; existence = h i; content = c i; structure = join (h i) (secretIf (lib.Dec.leb 2 mark)) }
 
-      new-seen : (m : Memory) (mark : ℕ) (e : Expression) → visible o (position pc m) ≡ true → visible o ((newLabel pc m mark e) .existence) ≡ true
+      new-seen : (m : Memory) (mark : ℕ) (e : Expression) (z : ℤ) → visible o (position pc m) ≡ true → visible o ((newLabel pc m mark e z) .existence) ≡ true
       unfolding newLabel
-      new-seen m mark e h = h
+      new-seen m mark e z h = h
 
       insert-seen-at : (n₁ n₂ : ℕ) (p q : Place) (c d : Option Place) (mark : ℕ) (e : Expression) → p ≡ q → visible o (m₁ .level) ≡ true
           → m₁ .cursor ≡ m₂ .cursor → m₁ .level ≡ m₂ .level → Good₂ SameView (insertAt pc m₁ n₁ p c mark e) (insertAt pc m₂ n₂ q d mark e)
@@ -175,11 +179,11 @@ module _ (o : Level) where
       insert-seen-at n₁ n₂ p q none d mark e w a u l = tt
       insert-seen-at n₁ n₂ p q (some c) none mark e w a u l = good₂-stop SameView (insertAt pc m₁ n₁ p (some c) mark e) absent
       insert-seen-at n₁ n₂ p q (some c) (some d) mark e w a u l =
-          good₂-need SameView _ _ _ _ _ _ λ _ _. good₂-need SameView _ _ _ _ _ _ λ _ _.
+          good₂-need SameView _ _ _ _ _ _ λ _ _. good₂-need SameView _ _ _ _ _ _ λ _ _. good₂-given SameView _ _ _ _ λ y z f g.
           good₂-need SameView _ _ _ _ _ _ λ _ _. good₂-need SameView _ _ _ _ _ _ λ _ _.
           view-tree _ _
-          (cut-eq p q _ _ _ _ w (ap Tree.insert (new-eq a u l mark e)) (insert-seen o _ _ (new-seen m₁ mark e (position-seen a)))
-          (insert-seen o _ _ (new-seen m₂ mark e (rw (← position-eq l) (position-seen a)))))
+          (cut-eq p q _ _ _ _ w (ap Tree.insert (new-eq a u l mark e y z f g)) (insert-seen o _ _ (new-seen m₁ mark e y (position-seen a)))
+          (insert-seen o _ _ (new-seen m₂ mark e z (rw (← position-eq l) (position-seen a)))))
 
       lock-insert : (d : Side) (mark : ℕ) (e : Expression) → Good₂ SameView (effect lent₁ pc m₁ (Action.insert d mark e)) (effect lent₂ pc m₂ (Action.insert d mark e))
       unfolding effect
@@ -204,10 +208,10 @@ module _ (o : Level) where
       lock-write e =
           by-cursor (λ lent m. write pc m e)
           (λ a p l.
-          good₂-need SameView _ _ _ _ _ _ λ h _.
+          good₂-need SameView _ _ _ _ _ _ λ h _. good₂-given SameView _ _ _ _ λ y z f g.
           let c = content-eq o _ _ ((nodes o m₁ m₂ s₁ s₂ v a p) .labels) in
           view-tree _ _
-          (cut-eq _ _ _ _ _ _ p (ap setValue (mask-eq _ _ (value m₁ e) (value m₂ e) c (value-eq e _ h))) (set-seen o _ _) (set-seen o _ _)))
+          (cut-eq _ _ _ _ _ _ p (ap setValue (mask-eq _ _ y z c (value-eq e y z f g _ h))) (set-seen o _ _) (set-seen o _ _)))
           (λ lent m s a. kept-write o pc m s (position-hidden m a) e)
 
       pub lockstep : (a : Action) → Good₂ SameView (effect lent₁ pc m₁ a) (effect lent₂ pc m₂ a)

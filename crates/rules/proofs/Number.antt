@@ -1,18 +1,18 @@
--- Laws of signed 32-bit numbers: what fits is what its bits spell, 32 bits are those of what they spell, a turn of 2 ^ 32 leaves
--- the bits alone, and what an operator gives fits. `signed` and `bits` read and write as the machine does, whose laws are the
--- library's; the rest is by the signs. Assumes nothing.
+-- Laws of signed 32-bit numbers: what fits is what its bits spell, 32 bits are those of what they spell, and what an operator gives fits.
+-- `signed` and `bits` read and write as the machine does, whose laws are the library's; the rest is by the signs. Assumes nothing.
 use mathlib.Core.Path.{_≡_, refl, sym, ap, subst, _∙_}
 use mathlib.Core.Bool.{Bool, true, false, cond}
+use mathlib.Core.Option.{none, some, Option·some-injective, Option·none-ne-some}
 use Prim.Native.Nat.{ℕ, zero, suc, _+_, _-_, _<_, _≤_}
 use native.Mathlib.Omega.{arith}
-use borrow.Author.Tests.{ltb-true, ltb-false, lt-ltb, le-ltb, eq-eqb, ne-eqb}
+use borrow.Author.Tests.{ltb-true, lt-ltb, le-ltb, eq-eqb, ne-eqb}
 use lib.Dec.{ltb}
-use lib.IntN.{ℤ, pos, negsuc, negℤ, natAbs, subℕ, _+ℤ_, _-ℤ_, -ℤ-+ℤ-cancel}
+use lib.IntN.{ℤ, pos, negsuc, negℤ, natAbs, subℕ, _+ℤ_, _-ℤ_}
 use lib.Signed.{mag, natAbs-le, ltZ, shrZ}
 use mir.Syntax.{w32}
 use mir.Val.{SFits, sel, toZ, ofZ}
 use mir.Facts.{sfits-toZ, toZ-ofZ, ofZ-toZ}
-use Rattle.rules.specs.Number.{half-range, range, bits, signed, wrap, sum, difference, same, truth, equal, less, mean}
+use Rattle.rules.specs.Number.{half-range, range, bits, signed, fitting, same, truth, equal, less, mean}
 use Rattle.rules.proofs.Tests.{Test, holds, fails, test}
 
 -- ---- bits
@@ -54,35 +54,23 @@ sub-less a b h = rw (lt-ltb a b h)
 pub sub-more : (a b : ℕ) → b ≤ a → subℕ a b ≡ pos (a - b)
 sub-more a b h = rw (le-ltb a b h)
 
--- one turn
-pub bits-turn : (z : ℤ) → bits (z +ℤ pos range) ≡ bits z
-unfolding bits
-bits-turn (pos n) = omega arith
-bits-turn (negsuc n) = by (test (ltb range (suc n)))
+-- what fits, and what does not
+
+pub fitting-in : (z : ℤ) → SFits w32 z → fitting z ≡ some z
+unfolding fitting
+fitting-in z h = rw (lt-ltb (mag z) half-range (h .sfits))
+
+pub fitting-out : (z : ℤ) → half-range ≤ mag z → fitting z ≡ none
+unfolding fitting
+fitting-out z h = rw (le-ltb (mag z) half-range h)
+
+pub fitting-fits : (z y : ℤ) → fitting z ≡ some y → SFits w32 y
+unfolding fitting
+fitting-fits z y e = by (test (ltb (mag z) half-range))
   where
-    by : Test (ltb range (suc n)) → bits (subℕ range (suc n)) ≡ bits (negsuc n)
-    by (holds t) = let h = ltb-true range (suc n) t in rw (sub-less range (suc n) h) (omega arith)
-    by (fails t) = let h = ltb-false range (suc n) t in rw (sub-more range (suc n) h) (omega arith)
-
-pub bits-turn-back : (z : ℤ) → bits (z -ℤ pos range) ≡ bits z
-bits-turn-back z = sym (bits-turn (z -ℤ pos range)) ∙ ap bits (-ℤ-+ℤ-cancel z (pos range))
-
--- so whatever fits and has the bits of a number is that number wrapped
-pub wrapped : {y : ℤ} (z : ℤ) → SFits w32 y → bits y ≡ bits z → y ≡ wrap z
-unfolding wrap
-wrapped z h e = sym (signed-bits h) ∙ ap signed e
-
-pub wrap-fits : (z : ℤ) → SFits w32 (wrap z)
-unfolding wrap
-wrap-fits z = signed-fits (bits z) (bits-below z)
-
-pub sum-fits : (a b : ℤ) → SFits w32 (sum a b)
-unfolding sum
-sum-fits a b = wrap-fits (a +ℤ b)
-
-pub difference-fits : (a b : ℤ) → SFits w32 (difference a b)
-unfolding difference
-difference-fits a b = wrap-fits (a -ℤ b)
+    by : Test (ltb (mag z) half-range) → SFits w32 y
+    by (holds t) = subst (SFits w32) (Option·some-injective z y (rw t at e)) (record { sfits = ltb-true (mag z) half-range t })
+    by (fails t) = let k : none ≡ some y = rw t at e in absurd (Option·none-ne-some y k)
 
 mag-sub : (a b k : ℕ) → a < k → b ≤ k → mag (subℕ a b) < k
 mag-sub a b k h g = by (ltb a b)

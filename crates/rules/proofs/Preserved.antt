@@ -14,9 +14,9 @@ use Rattle.rules.specs.Level.{Level}
 use Rattle.rules.specs.Tree as Tree
 use Rattle.rules.specs.Tree.{Label, Forest, nil, tree, Side, child, sibling, Place, root, to, up, exists, count, size, along, sub, onSide, change, setValue}
 use Rattle.rules.specs.Script.{Expression, Action, Command, act, fetch}
-use Rattle.rules.specs.Run.{Memory, State, Buffers, withVariables, withTree, withCursor, withLine, value, newLabel, assign, output, moveTo, goTo, insertAt, removeAt, write, effect, stepped, enterIf, enterWhile, carried, step, run}
+use Rattle.rules.specs.Run.{Memory, State, Buffers, withVariables, withTree, withCursor, withLine, newLabel, assign, output, moveTo, goTo, insertAt, removeAt, write, effect, stepped, enterIf, enterWhile, carried, step, run}
 use Rattle.rules.proofs.Tests.{clash}
-use Rattle.rules.proofs.Results.{Good, good-need, good-onward}
+use Rattle.rules.proofs.Results.{Good, good-need, good-given, good-onward}
 use Rattle.rules.proofs.Runs.{more, run-keeps}
 
 -- what every action keeps of the memory, a run keeps
@@ -27,8 +27,8 @@ module _ (lent : Buffers) (cs : List Command) (P : Memory → Type 0) (keep : (p
   carried-keeps : (s : State) (j : ℕ) (c : Command) → P (s .memory) → Good On (carried s lent j c)
   unfolding On carried enterIf enterWhile stepped
   carried-keeps s j (act a) h = good-onward P On s (λ m k. k) _ (keep _ (s .memory) a h)
-  carried-keeps s j (Command.if e) h = h
-  carried-keeps s j (Command.while e) h = h
+  carried-keeps s j (Command.if e) h = good-given On _ _ λ _. h
+  carried-keeps s j (Command.while e) h = good-given On _ _ λ _. h
   carried-keeps s j Command.else h = h
   carried-keeps s j Command.end h = h
 
@@ -143,12 +143,12 @@ module _ (lent : Buffers) (places : lent .places ≤ maxNodes) (v : ℕ) (pc : L
   unfolding insertAt withTree
   insert-held d none mark e w = tt
   insert-held d (some q) mark e w =
-      good-need (Held v) _ _ _ λ _. good-need (Held v) _ _ _ λ _. good-need (Held v) _ _ _ λ _. good-need (Held v) _ _ _ λ u.
+      good-need (Held v) _ _ _ λ _. good-need (Held v) _ _ _ λ _. good-given (Held v) _ _ λ z. good-need (Held v) _ _ _ λ _. good-need (Held v) _ _ _ λ u.
       record {
         variables = h .variables;
         rooted = under-count (to d (m .cursor)) q _ (m .tree) w ∙ h .rooted;
         small =
-            let a = ltb-true (size (m .tree)) (lent .places) u in let c = change-size 1 (to d (m .cursor)) (Tree.insert (newLabel pc m mark e)) (m .tree) (insert-size _) in omega (arith, a, c, places);
+            let a = ltb-true (size (m .tree)) (lent .places) u in let c = change-size 1 (to d (m .cursor)) (Tree.insert (newLabel pc m mark e z)) (m .tree) (insert-size _) in omega (arith, a, c, places);
       }
 
   remove-held : (d : Side) → Good (Held v) (removeAt pc m (to d (m .cursor)))
@@ -164,20 +164,20 @@ module _ (lent : Buffers) (places : lent .places ≤ maxNodes) (v : ℕ) (pc : L
   write-held : (e : Expression) → Good (Held v) (write pc m e)
   unfolding write withTree
   write-held e =
-      good-need (Held v) _ _ _ λ _.
+      good-need (Held v) _ _ _ λ _. good-given (Held v) _ _ λ z.
       record {
         variables = h .variables;
         rooted = change-count (m .cursor) _ (m .tree) (value-count _) ∙ h .rooted;
-        small = let a = h .small in let c = change-size 0 (m .cursor) (setValue (value m e)) (m .tree) (value-size _) in omega (arith, a, c);
+        small = let a = h .small in let c = change-size 0 (m .cursor) (setValue z) (m .tree) (value-size z) in omega (arith, a, c);
       }
 
   pub effect-held : (a : Action) → Good (Held v) (effect lent pc m a)
   unfolding effect assign output moveTo withVariables withLine
   effect-held Action.skip = h
   effect-held (Action.assign i e) =
-      good-need (Held v) _ _ _ λ _. record { variables = length-set (m .variables) i _ ∙ h .variables; rooted = h .rooted; small = h .small }
+      good-need (Held v) _ _ _ λ _. good-given (Held v) _ _ λ _. record { variables = length-set (m .variables) i _ ∙ h .variables; rooted = h .rooted; small = h .small }
   effect-held (Action.output e) =
-      good-need (Held v) _ _ _ λ _. good-need (Held v) _ _ _ λ _. record { variables = h .variables; rooted = h .rooted; small = h .small }
+      good-need (Held v) _ _ _ λ _. good-given (Held v) _ _ λ _. good-need (Held v) _ _ _ λ _. record { variables = h .variables; rooted = h .rooted; small = h .small }
   effect-held Action.goRoot = good-need (Held v) _ _ _ λ _. moved _ _
   effect-held Action.goParent = go-held _
   effect-held (Action.go d) = go-held _

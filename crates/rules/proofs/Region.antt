@@ -14,14 +14,14 @@ use Rattle.rules.specs.Level.{Level, visible}
 use Rattle.rules.specs.Number.{isZero}
 use Rattle.rules.specs.Script.{Expression, Command, act, number, fetch, numberAt}
 use Rattle.rules.specs.Blocks.{opens, goesTo}
-use Rattle.rules.specs.Run.{Memory, Block, State, Buffers, Stop, spent, Result, context, value, levelOf, stepped, pushed, enterIf, enterWhile, carried, step, run}
+use Rattle.rules.specs.Run.{Memory, Block, State, Buffers, Stop, spent, Result, context, levelOf, stepped, pushed, enterIf, enterWhile, carried, step, run}
 use Rattle.rules.proofs.Tests.{Test, holds, fails, test, clash}
 use Rattle.rules.proofs.Lattice.{hid-left, hid-right}
 use Rattle.rules.proofs.Parts.{if-opens, while-opens}
 use Rattle.rules.proofs.Nests.{nest, nest-done}
 use Rattle.rules.proofs.Ends.{endOf}
 use Rattle.rules.proofs.Exits.{exitOf, end-goes, while-target}
-use Rattle.rules.proofs.Results.{Good, good-onward, good-next}
+use Rattle.rules.proofs.Results.{Good, good-given, good-onward, good-next}
 use Rattle.rules.proofs.View.{view, Kept, confined}
 use Rattle.rules.proofs.Alike.{agree-hidden, expressions}
 use Rattle.rules.proofs.Runs.{more, halted, run-spent, Turn, stops, goes, turn}
@@ -64,8 +64,8 @@ module _ (o : Level) (lent : Buffers) (cs : List Command) (closed : Closed cs) w
   unfolding SameMemory carried enterIf enterWhile stepped Kept
   carried-dark s h d j (act a) =
       good-onward (Kept o (s .memory)) (SameMemory s) s (λ m k. k) _ (confined o (context (s .blocks)) (s .memory) (h .memory) d lent a)
-  carried-dark s h d j (Command.if e) = refl
-  carried-dark s h d j (Command.while e) = refl
+  carried-dark s h d j (Command.if e) = good-given (SameMemory s) _ _ λ _. refl
+  carried-dark s h d j (Command.while e) = good-given (SameMemory s) _ _ λ _. refl
   carried-dark s h d j Command.else = refl
   carried-dark s h d j Command.end = refl
 
@@ -160,21 +160,23 @@ module _ (o : Level) (lent : Buffers) (cs : List Command) (closed : Closed cs) w
     skipped : s′ .memory ≡ s .memory → s′ .blocks ≡ s .blocks → s′ .at ≡ suc (endOf (numberAt cs) (length cs) (s .at)) → Guarded s e s′
     entered : s′ .memory ≡ s .memory → s′ .blocks ≡ pushed s e → Guarded s e s′
 
-  while-guarded : (s : State) (e : Expression) → s .at < length cs → numberAt cs (s .at) ≡ 4
-      → Guarded s e (enterWhile s (goesTo (numberAt cs) (length cs) (s .at)) e)
+  while-guarded : (s : State) (e : Expression) (y : ℤ) → s .at < length cs → numberAt cs (s .at) ≡ 4
+      → Guarded s e (enterWhile s (goesTo (numberAt cs) (length cs) (s .at)) e y)
   unfolding enterWhile stepped
-  while-guarded s e h k = pick (test (isZero (value (s .memory) e)))
+  while-guarded s e y h k = pick (test (isZero y))
     where
-      pick : Test (isZero (value (s .memory) e)) → Guarded s e (enterWhile s (goesTo (numberAt cs) (length cs) (s .at)) e)
+      pick : Test (isZero y) → Guarded s e (enterWhile s (goesTo (numberAt cs) (length cs) (s .at)) e y)
       pick (holds z) = skipped refl (rw z) (rw z (while-target (numberAt cs) (length cs) (closed .blocks) (s .at) h k))
       pick (fails z) = entered refl (rw z)
 
   guarded : (s : State) (e : Expression) → s .at < length cs → IsGuard (fetch cs (s .at)) e → Good (Guarded s e) (step lent cs s)
   unfolding step carried enterIf stepped numberAt number
   guarded s e h (isIf f) =
-      subst (λ c. Good (Guarded s e) (carried s lent (goesTo (numberAt cs) (length cs) (s .at)) c)) (sym f) (entered refl refl)
+      subst (λ c. Good (Guarded s e) (carried s lent (goesTo (numberAt cs) (length cs) (s .at)) c)) (sym f)
+      (good-given (Guarded s e) _ _ λ _. entered refl refl)
   guarded s e h (isWhile f) =
-      subst (λ c. Good (Guarded s e) (carried s lent (goesTo (numberAt cs) (length cs) (s .at)) c)) (sym f) (while-guarded s e h (ap number f))
+      subst (λ c. Good (Guarded s e) (carried s lent (goesTo (numberAt cs) (length cs) (s .at)) c)) (sym f)
+      (good-given (Guarded s e) _ _ λ y. while-guarded s e y h (ap number f))
 
   -- a block that was entered
   opened : (s s′ : State) (e : Expression) → Moves cs s s′ → s′ .blocks ≡ pushed s e → open-at cs (s′ .at) ≡ s .at ∷ open-at cs (s .at)

@@ -1,7 +1,9 @@
 -- What holds of the results of steps: of one, wherever it goes on or stops, and of two, wherever both go on. Assumes nothing.
 use mathlib.Core.Path.{_≡_, refl}
 use mathlib.Core.Bool.{Bool, true, false}
-use Rattle.rules.specs.Run.{Memory, State, Stop, Result, next, stop, need, stepped, onward}
+use mathlib.Core.Option.{Option, none, some}
+use lib.IntN.{ℤ}
+use Rattle.rules.specs.Run.{Memory, State, Stop, overflow, Result, next, stop, need, given, stepped, onward}
 
 module _ {A : Type 0} where
   -- P holds of what a result goes on with
@@ -13,6 +15,11 @@ module _ {A : Type 0} where
   unfolding need
   good-need P k true r h = h refl
   good-need P k false r h = tt
+
+  pub good-given : (P : A → Type 0) (v : Option ℤ) (r : ℤ → Result A) → ((z : ℤ) → Good P (r z)) → Good P (given v r)
+  unfolding given
+  good-given P (some z) r h = h z
+  good-given P none r h = tt
 
   pub good-map : (P Q : A → Type 0) → ((a : A) → P a → Q a) → (r : Result A) → Good P r → Good Q r
   good-map P Q f (next a) h = f a h
@@ -30,6 +37,11 @@ module _ {A : Type 0} where
   unfolding need
   stops-need K k true r h g = g
   stops-need K k false r h g = h refl
+
+  pub stops-given : (K : Stop → Type 0) (v : Option ℤ) (r : ℤ → Result A) → K overflow → ((z : ℤ) → Stops K (r z)) → Stops K (given v r)
+  unfolding given
+  stops-given K (some z) r h g = g z
+  stops-given K none r h g = h
 
   pub stops-with : (K : Stop → Type 0) (r : Result A) (k : Stop) → r ≡ stop k → Stops K r → K k
   stops-with K r k e h = rw e at h
@@ -50,6 +62,13 @@ module _ {A : Type 0} where
   good₂-need R j k true true r q h = h refl refl
   good₂-need R j k true false r q h = good₂-stop R r k
   good₂-need R j k false c r q h = tt
+
+  pub good₂-given : (R : A → A → Type 0) (v w : Option ℤ) (r q : ℤ → Result A)
+      → ((y z : ℤ) → v ≡ some y → w ≡ some z → Good₂ R (r y) (q z)) → Good₂ R (given v r) (given w q)
+  unfolding given
+  good₂-given R (some y) (some z) r q h = h y z refl refl
+  good₂-given R (some y) none r q h = good₂-stop R (r y) _
+  good₂-given R none w r q h = tt
 
   pub good₂-of : (P Q : A → Type 0) (R : A → A → Type 0) → ((a b : A) → P a → Q b → R a b) → (r q : Result A) → Good P r → Good Q q → Good₂ R r q
   good₂-of P Q R f (next a) (next b) h k = f a b h k

@@ -5,8 +5,10 @@ use mathlib.Core.Logic.{inl, inr}
 use Prim.Native.Nat.{ℕ, zero, suc, _+_, _<_}
 use native.Mathlib.Omega.{arith}
 use mathlib.Core.Bool.{Bool, true, false, cond}
+use mathlib.Core.Option.{some, Option·some-injective}
 use mathlib.Core.List.{List, [], _∷_, tail}
 use lib.ListN.{length}
+use lib.IntN.{ℤ}
 use borrow.Author.Tests.{ltb-true}
 use Rattle.rules.specs.Level.{Level, visible}
 use Rattle.rules.specs.Number.{isZero}
@@ -18,7 +20,7 @@ use Rattle.rules.specs.Public.{AgreeVariables, Finishes, Same, Indisting
 use Rattle.rules.proofs.Tests.{Test, holds, fails, test, clash}
 use Rattle.rules.proofs.Lattice.{vis-both, vis-right}
 use Rattle.rules.proofs.ByPlace.{places-agree}
-use Rattle.rules.proofs.Results.{Good₂, good₂-onward, good₂-next, good-next}
+use Rattle.rules.proofs.Results.{Good₂, good₂-given, good₂-onward, good₂-next, good-next}
 use Rattle.rules.proofs.View.{view}
 use Rattle.rules.proofs.Alike.{agree-value, agree-level, agree-hidden, expressions, tree-eq, variables-eq}
 use Rattle.rules.proofs.Lockstep.{SameView, lockstep}
@@ -114,8 +116,9 @@ module _ (o : Level) where
     guard-eq : (e : Expression) → visible o (levelOf (s .memory) e) ≡ true → levelOf (s .memory) e ≡ levelOf (t .memory) e
     guard-eq e = agree-level o (expressions o (s .memory) (t .memory) (hs .memory) (ht .memory) (w .seen) e)
 
-    value-eq : (e : Expression) → visible o (levelOf (s .memory) e) ≡ true → value (s .memory) e ≡ value (t .memory) e
-    value-eq e = agree-value o (expressions o (s .memory) (t .memory) (hs .memory) (ht .memory) (w .seen) e)
+    value-eq : (e : Expression) → visible o (levelOf (s .memory) e) ≡ true → (y z : ℤ) → value (s .memory) e ≡ some y → value (t .memory) e ≡ some z → y ≡ z
+    value-eq e v y z a b =
+        Option·some-injective y z (sym a ∙ agree-value o (expressions o (s .memory) (t .memory) (hs .memory) (ht .memory) (w .seen) e) v ∙ b)
 
     pushed-eq : (e : Expression) → visible o (levelOf (s .memory) e) ≡ true → pushed s e ≡ pushed t e
     unfolding pushed
@@ -136,18 +139,20 @@ module _ (o : Level) where
         (subst (λ bs. Good₂ (SameView o) (effect lent₁ (context (s .blocks)) (s .memory) a) (effect lent₂ (context bs) (t .memory) a)) (w .blocks)
         (lockstep o lent₁ lent₂ (context (s .blocks)) (w .light) (s .memory) (t .memory) (hs .memory) (ht .memory) (w .seen) a))
     carried-twins j (Command.if e) v =
+        good₂-given Twins _ _ _ _ λ y z a b.
         record {
           seen = w .seen;
           blocks = pushed-eq e v;
-          at = λ i. cond (isZero (value-eq e v i)) j (suc (w .at i));
+          at = λ i. cond (isZero (value-eq e v y z a b i)) j (suc (w .at i));
           light = pushed-light e v;
         }
     carried-twins j (Command.while e) v =
+        good₂-given Twins _ _ _ _ λ y z a b.
         record {
           seen = w .seen;
-          blocks = λ i. cond (isZero (value-eq e v i)) (w .blocks i) (pushed-eq e v i);
-          at = λ i. cond (isZero (value-eq e v i)) j (suc (w .at i));
-          light = either-light (isZero (value (s .memory) e)) e v;
+          blocks = λ i. cond (isZero (value-eq e v y z a b i)) (w .blocks i) (pushed-eq e v i);
+          at = λ i. cond (isZero (value-eq e v y z a b i)) j (suc (w .at i));
+          light = either-light (isZero y) e v;
         }
     carried-twins j Command.else l = record { seen = w .seen; blocks = w .blocks; at = refl; light = w .light }
     carried-twins j Command.end l = record { seen = w .seen; blocks = ap tail (w .blocks); at = refl; light = tail-light (s .blocks) (w .light) }

@@ -13,11 +13,11 @@ use Rattle.rules.specs.Tree.{Forest, nil, tree, Side, Place, root, to, u
 use Rattle.rules.specs.Script.{Operand, Expression, alone, Action}
 use Rattle.rules.specs.Script as Script
 use Rattle.rules.specs.Job.{Variable, allLevels}
-use Rattle.rules.specs.Run.{Memory, Buffers, Stop, flow, absent, tableFull, boardFull, spent, low, noVariable, variableAt, current, operandLevel, levelOf, value, withVariables, withTree, withCursor, withLine, secretIf, position, flowOf, assign, output, moveTo, goTo, mayTouch, newLabel, insertAt, removeAt, write, effect}
+use Rattle.rules.specs.Run.{Memory, Buffers, Stop, flow, absent, tableFull, boardFull, spent, low, overflow, noVariable, variableAt, current, operandLevel, levelOf, value, withVariables, withTree, withCursor, withLine, secretIf, position, flowOf, assign, output, moveTo, goTo, mayTouch, newLabel, insertAt, removeAt, write, effect}
 use Rattle.rules.proofs.Tests.{both, clash}
 use Rattle.rules.proofs.Lattice.{na-public, na-trans, na-left, na-right, level-secret, level-public, secret-level, level-join}
 use Rattle.rules.proofs.Trees.{loAt, hiAt, fits-sub, fits-change, fit-first, hi-parent, fits-remove, fits-value, sub-change, exists-sub, on-exists, on-label}
-use Rattle.rules.proofs.Results.{Good, good-need, Stops, stops-need}
+use Rattle.rules.proofs.Results.{Good, good-need, good-given, Stops, stops-need, stops-given}
 
 -- every stop but 26
 abbrev pub High : Stop → Type 0
@@ -27,6 +27,7 @@ High tableFull = Unit {0}
 High boardFull = Unit {0}
 High spent = Unit {0}
 High low = ⊥
+High overflow = Unit {0}
 
 all-at : (vs : List Variable) (i : ℕ) → allLevels vs ≡ true → isLevel ((variableAt vs i) .level) ≡ true
 unfolding variableAt noVariable allLevels
@@ -136,10 +137,10 @@ module _ (m : Memory) (sound : Sound m) where
         let f = k .0 in
         (record { levels = f .levels; above = h; under = f .under; content = f .content; structure = f .structure }, k .1, k .2)
 
-    new-fits : (lo hi : Level) (mark : ℕ) (e : Expression) (x : Forest) → notAbove lo (position pc m) ≡ true → notAbove (position pc m) hi ≡ true
-        → mayTouch pc m x ≡ true → Fits lo hi x → Fits lo hi (Tree.insert (newLabel pc m mark e) x)
+    new-fits : (lo hi : Level) (mark : ℕ) (e : Expression) (z : ℤ) (x : Forest) → notAbove lo (position pc m) ≡ true → notAbove (position pc m) hi ≡ true
+        → mayTouch pc m x ≡ true → Fits lo hi x → Fits lo hi (Tree.insert (newLabel pc m mark e z) x)
     unfolding Tree.insert newLabel flowOf
-    new-fits lo hi mark e x a u h k = (
+    new-fits lo hi mark e z x a u h k = (
       record {
         levels =
             record {
@@ -166,8 +167,8 @@ module _ (m : Memory) (sound : Sound m) where
     unfolding insertAt
     insert-sound d places mark e none w = tt
     insert-sound d places mark e (some q) w =
-        good-need Sound _ _ _ λ u. good-need Sound _ _ _ λ h. good-need Sound _ _ _ λ _. good-need Sound _ _ _ λ _.
-        beside d _ (new-fits _ _ mark e _ never-low (rw (hi-parent (to d (m .cursor)) q (m .tree) public w) u) h (fits-beside d))
+        good-need Sound _ _ _ λ u. good-need Sound _ _ _ λ h. good-given Sound _ _ λ z. good-need Sound _ _ _ λ _. good-need Sound _ _ _ λ _.
+        beside d _ (new-fits _ _ mark e z _ never-low (rw (hi-parent (to d (m .cursor)) q (m .tree) public w) u) h (fits-beside d))
 
     remove-sound : (d : Side) → Good Sound (removeAt pc m (to d (m .cursor)))
     unfolding removeAt
@@ -176,14 +177,14 @@ module _ (m : Memory) (sound : Sound m) where
     write-sound : (e : Expression) → Good Sound (write pc m e)
     unfolding write
     write-sound e =
-        good-need Sound _ _ _ λ _.
-        changed (setValue (value m e)) (set-exists _) (set-existence _)
+        good-need Sound _ _ _ λ _. good-given Sound _ _ λ z.
+        changed (setValue z) (set-exists _) (set-existence _)
         (fits-change (m .cursor) _ (m .tree) public public (sound .rules) (fits-value _ _ _ _ (there (m .cursor))))
 
     assign-sound : (i : ℕ) (e : Expression) → Good Sound (assign pc m i (variableAt (m .variables) i) e)
     unfolding assign withVariables current
     assign-sound i e =
-        good-need Sound _ _ _ λ _.
+        good-need Sound _ _ _ λ _. good-given Sound _ _ λ _.
         record {
           rules = sound .rules;
           stands = sound .stands;
@@ -195,7 +196,7 @@ module _ (m : Memory) (sound : Sound m) where
     output-sound : (capacity : ℕ) (e : Expression) → Good Sound (output pc m capacity e)
     unfolding output withLine current
     output-sound capacity e =
-        good-need Sound _ _ _ λ _. good-need Sound _ _ _ λ _.
+        good-need Sound _ _ _ λ _. good-given Sound _ _ λ _. good-need Sound _ _ _ λ _.
         record { rules = sound .rules; stands = sound .stands; covered = sound .covered; cursor = sound .cursor; variables = sound .variables }
 
     go-sound : (q : Option Place) → Good Sound (goTo pc m q)
@@ -235,7 +236,8 @@ module _ (m : Memory) (sound : Sound m) where
     insert-high places p none mark e = tt
     insert-high places p (some q) mark e =
         stops-need High _ _ _ (λ _. tt)
-        (stops-need High _ _ _ (λ _. tt) (stops-need High _ _ _ (λ f. clash never-low f) (stops-need High _ _ _ (λ _. tt) tt)))
+        (stops-need High _ _ _ (λ _. tt)
+        (stops-given High _ _ tt λ z. stops-need High _ _ _ (λ f. clash never-low f) (stops-need High _ _ _ (λ _. tt) tt)))
 
     go-high : (q : Option Place) → Stops High (goTo pc m q)
     unfolding goTo moveTo
@@ -245,12 +247,12 @@ module _ (m : Memory) (sound : Sound m) where
     pub effect-high : (lent : Buffers) (a : Action) → Stops High (effect lent pc m a)
     unfolding effect assign output moveTo removeAt write
     effect-high lent Action.skip = tt
-    effect-high lent (Action.assign i e) = stops-need High _ _ _ (λ _. tt) tt
-    effect-high lent (Action.output e) = stops-need High _ _ _ (λ _. tt) (stops-need High _ _ _ (λ _. tt) tt)
+    effect-high lent (Action.assign i e) = stops-need High _ _ _ (λ _. tt) (stops-given High _ _ tt λ _. tt)
+    effect-high lent (Action.output e) = stops-need High _ _ _ (λ _. tt) (stops-given High _ _ tt λ _. stops-need High _ _ _ (λ _. tt) tt)
     effect-high lent Action.goRoot = stops-need High _ _ _ (λ _. tt) tt
     effect-high lent Action.goParent = go-high _
     effect-high lent (Action.go d) = go-high _
     effect-high lent (Action.insert d mark e) = insert-high _ _ _ mark e
     effect-high lent (Action.remove d) = stops-need High _ _ _ (λ _. tt) (stops-need High _ _ _ (λ _. tt) tt)
-    effect-high lent (Action.write e) = stops-need High _ _ _ (λ _. tt) tt
+    effect-high lent (Action.write e) = stops-need High _ _ _ (λ _. tt) (stops-given High _ _ tt λ _. tt)
     effect-high lent Action.raise = stops-need High _ _ _ (λ _. tt) tt

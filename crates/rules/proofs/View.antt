@@ -16,7 +16,7 @@ use Rattle.rules.specs.Public.{SeenVariable, seenVariable, seenValue}
 use Rattle.rules.proofs.Tests.{Test, holds, fails, test, clash}
 use Rattle.rules.proofs.Lattice.{level-secret, vis-public, vis-down, vis-left, vis-right, hid-up, hid-left, hid-right}
 use Rattle.rules.proofs.Cut.{cut, cut-kept, cut-hidden, insert-hidden, remove-hidden, set-hidden}
-use Rattle.rules.proofs.Results.{Good, good-need}
+use Rattle.rules.proofs.Results.{Good, good-need, good-given}
 use Rattle.rules.proofs.Sound.{Sound, there}
 
 pub record Cursor : Type 0 where
@@ -73,9 +73,9 @@ module _ (o : Level) where
     cut-touched nil h = refl
     cut-touched (tree l c r) h = rw (hid-up o _ _ h dark)
 
-    new-hidden : (mark : ℕ) (e : Expression) → visible o ((newLabel pc m mark e) .existence) ≡ false
+    new-hidden : (mark : ℕ) (e : Expression) (z : ℤ) → visible o ((newLabel pc m mark e z) .existence) ≡ false
     unfolding newLabel
-    new-hidden mark e = dark
+    new-hidden mark e z = dark
 
     flow-hidden : (e : Expression) → visible o (flowOf pc m e) ≡ false
     unfolding flowOf
@@ -85,8 +85,9 @@ module _ (o : Level) where
     unfolding insertAt
     kept-insert places p none mark e = tt
     kept-insert places p (some q) mark e =
-        good-need (Kept m) _ _ _ λ _. good-need (Kept m) _ _ _ λ h. good-need (Kept m) _ _ _ λ _. good-need (Kept m) _ _ _ λ _.
-        kept-tree m _ (cut-kept o p _ (m .tree) (insert-hidden o _ _ (new-hidden mark e) (cut-touched _ h)))
+        good-need (Kept m) _ _ _ λ _. good-need (Kept m) _ _ _ λ h. good-given (Kept m) _ _ λ z.
+        good-need (Kept m) _ _ _ λ _. good-need (Kept m) _ _ _ λ _.
+        kept-tree m _ (cut-kept o p _ (m .tree) (insert-hidden o _ _ (new-hidden mark e z) (cut-touched _ h)))
 
     pub kept-remove : (p : Place) → Good (Kept m) (removeAt pc m p)
     unfolding removeAt
@@ -97,13 +98,13 @@ module _ (o : Level) where
     pub kept-write : (e : Expression) → Good (Kept m) (write pc m e)
     unfolding write current
     kept-write e =
-        good-need (Kept m) _ _ _ λ h.
+        good-need (Kept m) _ _ _ λ h. good-given (Kept m) _ _ λ _.
         kept-tree m _ (cut-kept o (m .cursor) _ (m .tree) (set-hidden o _ _ (hid-up o _ _ h (flow-hidden e))))
 
     kept-assign : (i : ℕ) (e : Expression) → Good (Kept m) (assign pc m i (variableAt (m .variables) i) e)
     unfolding assign variableAt Kept view withVariables
     kept-assign i e =
-        good-need (Kept m) _ _ _ λ h.
+        good-need (Kept m) _ _ _ λ h. good-given (Kept m) _ _ λ _.
         let k = map-set (seenVariable o) (m .variables) i _ noVariable (hidden-variable _ _ (hid-up o _ _ h (flow-hidden e))) in
         λ j. record { variables = k j; tree = (view m) .tree; cursor = (view m) .cursor; lines = m .lines }
 

@@ -2,6 +2,7 @@
 pub mod Limits
 pub mod Level
 pub mod Number
+pub mod Answers
 pub mod Tree
 pub mod Script
 pub mod Blocks

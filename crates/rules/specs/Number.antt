@@ -1,9 +1,10 @@
 -- Signed 32-bit numbers: their bits, and what each operator makes of two of them. Assumes nothing.
-use Prim.Native.Nat.{ℕ, _-_, _%_}
+use Prim.Native.Nat.{ℕ, _-_, _%_, _<_}
 use mathlib.Core.Bool.{Bool, true, false, cond}
+use mathlib.Core.Option.{Option, none, some}
 use lib.Dec.{eqb, ltb}
 use lib.IntN.{ℤ, pos, negsuc, _+ℤ_, _-ℤ_}
-use lib.Signed.{ltZ, shrZ}
+use lib.Signed.{mag, ltZ, shrZ}
 
 -- 2 ^ 31: the first number that is too large
 abbrev pub half-range : ℕ
@@ -22,17 +23,21 @@ bits (negsuc n) = range - 1 - n % range
 unfoldable pub signed : ℕ → ℤ
 signed w = cond (ltb w half-range) (pos w) (negsuc (range - 1 - w))
 
--- "Sums and differences wrap at 32 bits."
-unfoldable pub wrap : ℤ → ℤ
-wrap z = signed (bits z)
+-- a signed 32-bit number: `mag` is z from 0 on, and -1 - z below
+abbrev pub Fits : ℤ → Type 0
+Fits z = mag z < half-range
+
+-- an exact result, or none where it is "outside signed 32 bits"
+unfoldable pub fitting : ℤ → Option ℤ
+fitting z = cond (ltb (mag z) half-range) (some z) none
 
 -- operator 1
-unfoldable pub sum : ℤ → ℤ → ℤ
-sum a b = wrap (a +ℤ b)
+unfoldable pub sum : ℤ → ℤ → Option ℤ
+sum a b = fitting (a +ℤ b)
 
 -- operator 2: "left minus right"
-unfoldable pub difference : ℤ → ℤ → ℤ
-difference a b = wrap (a -ℤ b)
+unfoldable pub difference : ℤ → ℤ → Option ℤ
+difference a b = fitting (a -ℤ b)
 
 -- whether two numbers are one
 unfoldable pub same : ℤ → ℤ → Bool

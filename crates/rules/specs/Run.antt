@@ -41,7 +41,7 @@ pub record Buffers : Type 0 where
 
 -- why a run stops
 pub data Stop : Type 0 where
-  flow absent tableFull boardFull spent low : Stop
+  flow absent tableFull boardFull spent low overflow : Stop
 
 -- "Ways a job can end": the number of a stop
 unfoldable pub stopNumber : Stop → ℕ
@@ -51,6 +51,7 @@ stopNumber tableFull = 23
 stopNumber boardFull = 24
 stopNumber spent = 25
 stopNumber low = 26
+stopNumber overflow = 27
 
 -- what a step gives: something to go on with, or a stop
 pub data Result (A : Type 0) : Type 0 where
@@ -61,6 +62,11 @@ pub data Result (A : Type 0) : Type 0 where
 unfoldable pub need : {A : Type 0} → Stop → Bool → Result A → Result A
 need k true r = r
 need k false r = stop k
+
+-- "a sum or difference that leaves the range ends the command": the rest with the value of an expression, or the stop 27 where it has none
+unfoldable pub given : {A : Type 0} → Option ℤ → (ℤ → Result A) → Result A
+given (some z) r = r z
+given none r = stop overflow
 
 -- no variable
 unfoldable pub noVariable : Variable
@@ -94,9 +100,9 @@ module _ (m : Memory) where
   operandLevel Operand.value = join (m .level) ((label current) .content)
   operandLevel Operand.children = join (m .level) ((label current) .structure)
 
-  -- the value of an expression
-  unfoldable pub value : Expression → ℤ
-  value (alone a) = operandValue a
+  -- the value of an expression, if it has one
+  unfoldable pub value : Expression → Option ℤ
+  value (alone a) = some (operandValue a)
   value (both o a b) = apply o (operandValue a) (operandValue b)
 
   -- E: "the join over the operands read"
@@ -138,13 +144,13 @@ module _ (pc : Level) (m : Memory) where
   unfoldable pub assign : ℕ → Variable → Expression → Result Memory
   assign i v e =
       need flow (notAbove (flowOf e) (v .level))
-      (next (withVariables m (set (m .variables) i (record { level = v .level; value = value m e }))))
+      (given (value m e) λ z. next (withVariables m (set (m .variables) i (record { level = v .level; value = z }))))
 
-  -- 6: "L is 0", then 24 where the line buffer, of a capacity, is full
+  -- 6: "L is 0", then 27, then 24 where the line buffer, of a capacity, is full
   unfoldable pub output : ℕ → Expression → Result Memory
   output capacity e =
       need flow (notAbove (flowOf e) public)
-      (need boardFull (ltb (length (m .lines)) capacity) (next (withLine m (value m e))))
+      (given (value m e) λ z. need boardFull (ltb (length (m .lines)) capacity) (next (withLine m z)))
 
   -- the rule of 7 to 10 and 16: "context not above cursor level"
   unfoldable pub moveTo : Place → Level → Result Memory
@@ -162,23 +168,24 @@ module _ (pc : Level) (m : Memory) where
   mayTouch (tree l c r) = notAbove position (l .existence)
 
   -- "content is L, and 1 if the mark is odd; list is C, and 1 if the mark is 2 or 3"
-  unfoldable pub newLabel : ℕ → Expression → Label
-  newLabel mark e =
+  unfoldable pub newLabel : ℕ → Expression → ℤ → Label
+  newLabel mark e z =
       record {
-        value = value m e;
+        value = z;
         existence = position;
         content = join (flowOf e) (secretIf (eqb (mark % 2) 1));
         structure = join position (secretIf (leb 2 mark));
       }
 
-  -- 11 and 12: a new node at the place p under the parent at q, in a table of places; 22 with no parent, 21, 26, then 23
+  -- 11 and 12: a new node at the place p under the parent at q, in a table of places; 22 with no parent, 21, 27, 26, then 23
   unfoldable pub insertAt : ℕ → Place → Option Place → ℕ → Expression → Result Memory
   insertAt places p none mark e = stop absent
   insertAt places p (some q) mark e =
       need flow (notAbove position ((label (sub q (m .tree))) .structure))
       (need flow (mayTouch (sub p (m .tree)))
-      (need low (notAbove ((label (current m)) .existence) position)
-      (need tableFull (ltb (size (m .tree)) places) (next (withTree m (change p (Tree.insert (newLabel mark e)) (m .tree)))))))
+      (given (value m e) λ z.
+      need low (notAbove ((label (current m)) .existence) position)
+      (need tableFull (ltb (size (m .tree)) places) (next (withTree m (change p (Tree.insert (newLabel mark e z)) (m .tree)))))))
 
   -- 13 and 14: 22, then "C not above its existence"
   unfoldable pub removeAt : Place → Result Memory
@@ -190,7 +197,7 @@ module _ (pc : Level) (m : Memory) where
   unfoldable pub write : Expression → Result Memory
   write e =
       need flow (notAbove (flowOf e) ((label (current m)) .content))
-      (next (withTree m (change (m .cursor) (setValue (value m e)) (m .tree))))
+      (given (value m e) λ z. next (withTree m (change (m .cursor) (setValue z) (m .tree))))
 
 -- what an action does; 7 sets the cursor level to the context, 16 (cover) to 1
 unfoldable pub effect : Buffers → Level → Memory → Action → Result Memory
@@ -220,20 +227,18 @@ module _ (s : State) where
   pushed e = record { guard = levelOf (s .memory) e } ∷ s .blocks
 
   -- 2: "push E; zero goes past else, or to end if none", which is the record j
-  unfoldable pub enterIf : ℕ → Expression → State
-  enterIf j e = stepped (s .memory) (pushed e) (cond (isZero (value (s .memory) e)) j (suc (s .at)))
+  unfoldable pub enterIf : ℕ → Expression → ℤ → State
+  enterIf j e z = stepped (s .memory) (pushed e) (cond (isZero z) j (suc (s .at)))
 
   -- 4: "nonzero: push E; zero: go past end, no push", which is the record j
-  unfoldable pub enterWhile : ℕ → Expression → State
-  enterWhile j e =
-      let zero? = isZero (value (s .memory) e) in
-      stepped (s .memory) (cond zero? (s .blocks) (pushed e)) (cond zero? j (suc (s .at)))
+  unfoldable pub enterWhile : ℕ → Expression → ℤ → State
+  enterWhile j e z = stepped (s .memory) (cond (isZero z) (s .blocks) (pushed e)) (cond (isZero z) j (suc (s .at)))
 
   -- one record carried out, which jumps to j if it jumps; 3: "when reached, go to end"; 5: "pop; of a while: back to it"
   unfoldable pub carried : Buffers → ℕ → Command → Result State
   carried lent j (act a) = onward (effect lent (context (s .blocks)) (s .memory) a)
-  carried lent j (Command.if e) = next (enterIf j e)
-  carried lent j (Command.while e) = next (enterWhile j e)
+  carried lent j (Command.if e) = given (value (s .memory) e) λ z. next (enterIf j e z)
+  carried lent j (Command.while e) = given (value (s .memory) e) λ z. next (enterWhile j e z)
   carried lent j Command.else = next (stepped (s .memory) (s .blocks) j)
   carried lent j Command.end = next (stepped (s .memory) (tail (s .blocks)) j)
 

@@ -1,6 +1,7 @@
 -- The script: operands, expressions, commands with their numbers, and the table of seventeen rows. Assumes nothing.
 use Prim.Native.Nat.{ℕ}
 use mathlib.Core.Bool.{Bool, true, false}
+use mathlib.Core.Option.{Option, some}
 use mathlib.Core.List.{List, [], _∷_}
 use lib.ListN.{getD}
 use lib.IntN.{ℤ}
@@ -40,13 +41,13 @@ pub data Command : Type 0 where
   if while : Expression → Command
   else end : Command
 
--- what an operator makes of two numbers
-unfoldable pub apply : Operator → ℤ → ℤ → ℤ
+-- what an operator makes of two numbers, if that is a number
+unfoldable pub apply : Operator → ℤ → ℤ → Option ℤ
 apply sum a b = Number.sum a b
 apply difference a b = Number.difference a b
-apply equal a b = Number.equal a b
-apply less a b = Number.less a b
-apply mean a b = Number.mean a b
+apply equal a b = some (Number.equal a b)
+apply less a b = some (Number.less a b)
+apply mean a b = some (Number.mean a b)
 
 -- the commands in the order of their numbers, with a target and an expression
 unfoldable pub commands : ℕ → Expression → List Command

@@ -172,5 +172,5 @@ trials =
     (stops 25 1 1 (pos 10 ∷ []) (values (pos 0) (pos 0)) same)  -- 11
     ∷ trial (try (pos 0) (both 6 0 5 (number (negsuc 2)) (number (pos 0)) ∷ [])) (finishes 1 (negsuc 1 ∷ []) (values (pos 0) (pos 0)) same)  -- 12, mean of -3 and 0
     ∷ trial (try (pos 0) (both 6 0 1 (number (pos 2147483647)) (number (pos 1)) ∷ []))
-    (finishes 1 (negsuc 2147483647 ∷ []) (values (pos 0) (pos 0)) same)  -- 12, 2147483647 plus 1
+    (stops 27 0 0 [] (values (pos 0) (pos 0)) same)  -- 12, 2147483647 plus 1
     ∷ []

@@ -1,8 +1,9 @@
 // Signed 32-bit numbers: their bits, and what each operator makes of two of them.
 ghost use mathlib.Core.Path.{_≡_};
-ghost use Prim.Native.Nat.{_<_};
-ghost use lib.Signed.{mag, shrZ};
-ghost use Rattle.rules.specs.Number.{range, bits, signed, wrap, sum, difference, truth, equal, less, mean, isZero};
+ghost use lib.IntN.{_+ℤ_, _-ℤ_};
+ghost use lib.Signed.{shrZ};
+ghost use Rattle.rules.specs.Number.{Fits, bits, signed, fitting, truth, equal, less, mean, isZero};
+ghost use Rattle.rules.specs.Answers.{valueOf};
 
 // 2 ^ 32: how many numbers there are.
 const RANGE: i64 = 4294967296;
@@ -18,54 +19,70 @@ pub fn bits(v: i32) -> u32
     }
 }
 
-// The number that the low 32 bits of `z` spell, which is at most one turn away.
-fn wrap(z: i64) -> i32
-    requires { ⌜ mag z < range ⌝ }
-    ensures { λ r. ⌜ r ≡ wrap z ⌝ }
-{
-    if z > 2147483647 {
-        (z - RANGE) as i32
-    } else if z < -2147483648 {
-        (z + RANGE) as i32
-    } else {
-        z as i32
-    }
-}
-
-// 32 bits as a signed number: they are the low bits of the number that they spell unsigned.
+// 32 bits as a signed number: from 2 ^ 31 on they stand for the number 2 ^ 32 below.
 pub fn signed(w: u32) -> i32
     ensures { λ r. ⌜ r ≡ signed w ⌝ }
 {
-    wrap(w as i64)
+    if w < 2147483648 {
+        w as i32
+    } else {
+        ((w as i64) - RANGE) as i32
+    }
 }
 
-// Sums and differences wrap at 32 bits; 64 bits hold them exactly.
-pub fn sum(a: i32, b: i32) -> i32
-    ensures { λ r. ⌜ r ≡ sum a b ⌝ }
+// A number in 64 bits, which hold the sum and the difference of any two exactly.
+pub fn wide(v: i32) -> i64
+    ensures { λ r. ⌜ r ≡ v ⌝ }
 {
-    wrap((a as i64) + (b as i64))
+    v as i64
 }
 
-pub fn difference(a: i32, b: i32) -> i32
-    ensures { λ r. ⌜ r ≡ difference a b ⌝ }
+// What an exact result comes to: a number, or one outside signed 32 bits, which is none.
+pub enum Number {
+    Fits(i32),
+    Over,
+}
+
+pub fn fitting(z: i64) -> Number
+    ensures { λ r. ⌜ valueOf r ≡ fitting z ⌝ }
 {
-    wrap((a as i64) - (b as i64))
+    if z > 2147483647 {
+        Number::Over
+    } else if z < -2147483648 {
+        Number::Over
+    } else {
+        Number::Fits(z as i32)
+    }
+}
+
+pub fn sum(a: i64, b: i64) -> i64
+    requires { ⌜ Fits a × Fits b ⌝ }
+    ensures { λ r. ⌜ r ≡ a +ℤ b ⌝ }
+{
+    a + b
+}
+
+pub fn difference(a: i64, b: i64) -> i64
+    requires { ⌜ Fits a × Fits b ⌝ }
+    ensures { λ r. ⌜ r ≡ a -ℤ b ⌝ }
+{
+    a - b
 }
 
 // A test as a number, 1 or 0.
-fn truth(t: bool) -> i32
+fn truth(t: bool) -> i64
     ensures { λ r. ⌜ r ≡ truth t ⌝ }
 {
     if t { 1 } else { 0 }
 }
 
-pub fn equal(a: i32, b: i32) -> i32
+pub fn equal(a: i64, b: i64) -> i64
     ensures { λ r. ⌜ r ≡ equal a b ⌝ }
 {
     truth(a == b)
 }
 
-pub fn less(a: i32, b: i32) -> i32
+pub fn less(a: i64, b: i64) -> i64
     ensures { λ r. ⌜ r ≡ less a b ⌝ }
 {
     truth(a < b)
@@ -79,10 +96,11 @@ fn half(s: i64) -> i64
 }
 
 // Rounded down, below zero too, of the exact sum.
-pub fn mean(a: i32, b: i32) -> i32
+pub fn mean(a: i64, b: i64) -> i64
+    requires { ⌜ Fits a × Fits b ⌝ }
     ensures { λ r. ⌜ r ≡ mean a b ⌝ }
 {
-    half((a as i64) + (b as i64)) as i32
+    half(a + b)
 }
 
 pub fn is_zero(a: i32) -> bool

@@ -1,19 +1,13 @@
--- `numbers::difference` meets its contract: the exact difference of two numbers of 32 bits fits 64, and is less than one turn out of range.
--- Assumes nothing.
-use Rattle.rules.specs.Number.{difference}
-use Rattle.rules.proofs.Machine.{widens, exact-difference, exact-fits, exact-near, exact-wrapped}
+-- `numbers::difference` meets its contract: 64 bits hold the exact difference of two numbers of 32. Assumes nothing.
+use Rattle.rules.proofs.Machine.{exact-difference, exact-fits, exact}
 use Rattle.rules.proofs.numbers.difference.Statement.{statement}
 use Rattle.rules.proofs.numbers.difference.Tie as tie
 
 returns : tie.Need-returns
-unfolding difference
-returns c = exact-wrapped (exact-difference (c .before .fits .a) (c .before .fits .b)) (c .wrap .ensures)
+returns c = exact (exact-difference (c .args .a) (c .args .b) (c .pre))
 
-sub-wrap : tie.Need-sub-wrap
-sub-wrap c = exact-fits (exact-difference (c .fits .a) (c .fits .b))
-
-wrap-requires : tie.Need-wrap-requires
-wrap-requires c κs = exact-near (exact-difference (c .fits .a) (c .fits .b))
+sub-result : tie.Need-sub-result
+sub-result c = exact-fits (exact-difference (c .args .a) (c .args .b) (c .pre))
 
 pub difference-spec : {M : Type 1} → statement M
-difference-spec = tie.close (tie.spec (λ c. widens (c .fits .a)) (λ c. widens (c .fits .b)) sub-wrap wrap-requires returns)
+difference-spec = tie.close (tie.spec sub-result returns)

@@ -5,7 +5,7 @@ use lib.Signed.{ltZ}
 use mir.Facts.{toZ-ofZ}
 use Rattle.rules.specs.Number.{truth, less}
 use Rattle.rules.proofs.Number.{less-fits}
-use Rattle.rules.proofs.Machine.{read-as}
+use Rattle.rules.proofs.Machine.{read-as, in-wide}
 use Rattle.rules.proofs.numbers.less.Statement.{statement}
 use Rattle.rules.proofs.numbers.less.Tie as tie
 
@@ -13,7 +13,7 @@ returns : tie.Need-returns
 unfolding less
 returns c =
     let s = c .before in
-    read-as (c .truth .ensures ∙ ap truth (ap₂ ltZ (toZ-ofZ (s .fits .a)) (toZ-ofZ (s .fits .b)))) (less-fits (s .args .a) (s .args .b))
+    read-as (c .truth .ensures ∙ ap truth (ap₂ ltZ (toZ-ofZ (s .fits .a)) (toZ-ofZ (s .fits .b)))) (in-wide (less-fits (s .args .a) (s .args .b)))
 
 pub less-spec : {M : Type 1} → statement M
 less-spec = tie.close (tie.spec (λ c κs. search needs) returns)
