@@ -1,6 +1,6 @@
 // What the node at a place shows, and a new value for it.
 ghost use mathlib.Core.Path.{_≡_};
-ghost use Prim.Native.Nat.{ℕ, _≤_};
+ghost use Prim.Native.Nat.{ℕ, _<_, _≤_};
 ghost use Rattle.rules.specs.Number.{signed};
 ghost use Rattle.rules.specs.Tree.{Forest, Place, sub, label, count, along, child, change, setValue};
 ghost use Rattle.table.specs.Cells.{cells, Within};
@@ -43,6 +43,25 @@ pub fn children(words: &[u32], places: usize, at: usize) -> u32
     ensures { λ r. ⌜ Whenever (cells (now (words .entry))) places at (λ t p. (count (along child (sub p t)) ≡ r) × (r ≤ places)) ⌝ }
 {
     cells::get(words, places, at, cells::CHILDREN)
+}
+
+// What an operand of kind 2 or 3 reads of the node: its value as 32 bits, or how many children it has. Their words lie side by side, as do those of their
+// levels, so no branch tells them apart.
+pub fn read(words: &[u32], places: usize, at: usize, kind: usize) -> u32
+    requires { ⌜ Within (now words) places at × ((1 < kind) × (kind < 4)) ⌝ }
+    ensures { λ r. ⌜ Whenever (cells (now (words .entry))) places at (λ t p. (kind ≡ 2 → label (sub p t) .value ≡ signed r)
+        × (kind ≡ 3 → (count (along child (sub p t)) ≡ r) × (r ≤ places))) ⌝ }
+{
+    cells::get(words, places, at, cells::VALUE - 2 + kind)
+}
+
+// The level of that: the content or the structure level.
+pub fn level_read(words: &[u32], places: usize, at: usize, kind: usize) -> u8
+    requires { ⌜ Within (now words) places at × ((1 < kind) × (kind < 4)) ⌝ }
+    ensures { λ r. ⌜ Whenever (cells (now (words .entry))) places at (λ t p. (kind ≡ 2 → label (sub p t) .content ≡ r)
+        × (kind ≡ 3 → label (sub p t) .structure ≡ r)) ⌝ }
+{
+    cells::level(words, places, at, cells::CONTENT - 2 + kind)
 }
 
 // Sets the value, given as its 32 bits.
