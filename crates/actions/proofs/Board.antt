@@ -8,12 +8,11 @@ use native.Mathlib.Nat.{div-div-eq-div-mul, mod-add-div}
 use lib.ListN.{length, getD, set, take, drop, length-append, length-drop, take-append-drop}
 use lib.Seq.{length-take-le, take-at, drop-at, getD-append-add, sets-eq}
 use lib.IntN.{ℤ, pos}
-use Rattle.rules.specs.Number.{range, bits, signed, wrap}
+use Rattle.rules.specs.Number.{Fits, range, bits, signed}
 use Rattle.rules.specs.Bytes.{full}
 use Rattle.rules.proofs.Number.{bits-below, signed-bits}
 use Rattle.actions.specs.Board.{fourBytes, spell, written, replaced}
 use Rattle.actions.specs.Shows.{Lines}
-use Rattle.actions.specs.Acts.{Fits}
 
 -- ---- four bytes
 
@@ -77,8 +76,8 @@ pub spell-prefix : (ls ks : List ℤ) → IsPrefix ls ks → IsPrefix (spell ls)
 spell-prefix ls ks p = (spell (p .0), sym (spell-append ls (p .0)) ∙ ap spell (p .1))
 
 -- line i, read from the bytes as the rules read a number, has the bits of the line that was put out
-pub line-read : (ls : List ℤ) (rest : List ℕ) (i : ℕ) → i < length ls → signed (full (spell ls ++ rest) (4 * i)) ≡ wrap (getD ls i (pos 0))
-unfolding spell wrap
+pub line-read : (ls : List ℤ) (rest : List ℕ) (i : ℕ) → i < length ls → signed (full (spell ls ++ rest) (4 * i)) ≡ signed (bits (getD ls i (pos 0)))
+unfolding spell
 line-read [] rest i h = absurd (omega arith)
 line-read (z ∷ zs) rest zero h = ap signed (ap (λ (r : List ℕ). full r 0) (append-assoc (fourBytes (bits z)) (spell zs) rest) ∙ four-read (bits z) (spell zs ++ rest) (bits-below z))
 line-read (z ∷ zs) rest (suc i) h =
@@ -87,7 +86,6 @@ line-read (z ∷ zs) rest (suc i) h =
 
 -- and is that line, where it is a 32-bit number
 pub line-exact : (ls : List ℤ) (rest : List ℕ) (i : ℕ) → i < length ls → Fits (getD ls i (pos 0)) → signed (full (spell ls ++ rest) (4 * i)) ≡ getD ls i (pos 0)
-unfolding wrap
 line-exact ls rest i h f = line-read ls rest i h ∙ signed-bits (record { sfits = f })
 
 -- ---- an area with lines

@@ -5,9 +5,11 @@ use mathlib.Core.Bool.{Bool, true, false, not, true≢false}
 use Prim.Native.Nat.{ℕ, suc, _*_, _<_, _≤_}
 use native.Mathlib.Numerals.{add-one}
 use native.Mathlib.Omega.{arith}
+use mathlib.Core.Option.{Option, none, some}
 use lib.ListN.{length}
+use lib.IntN.{ℤ}
 use Rattle.rules.specs.Run as Run
-use Rattle.rules.specs.Run.{State, Result, next, stop, Stop, flow, absent, tableFull, boardFull, low, stopNumber, need}
+use Rattle.rules.specs.Run.{State, Result, next, stop, Stop, flow, absent, tableFull, boardFull, low, overflow, stopNumber, need, given}
 use Rattle.actions.specs.declared.memory.Memory.{Memory}
 use Rattle.actions.specs.Shows.{Slices, Shows}
 use Rattle.actions.specs.declared.control.Running.{Running}
@@ -36,6 +38,10 @@ pub low-number : 26 ≡ stopNumber low
 unfolding stopNumber
 low-number = refl
 
+pub overflow-number : 27 ≡ stopNumber overflow
+unfolding stopNumber
+overflow-number = refl
+
 -- a test `!t` of the code, where t is what a function gave for the rules' test
 pub refused : {t u : Bool} → t ≡ u → not t ≡ true → u ≡ false
 refused {t = true} e h = absurd (true≢false (sym h))
@@ -62,6 +68,15 @@ module _ {A : Type 0} {P : A → Type 0} {n : ℕ} {a : A} where
   unfolding need
   refuses k x e i p = rw e (does-stop k i p)
 
+  -- a value that is there is passed on, and where there is none it stops
+  pub given-passes : {v : Option ℤ} {z : ℤ} (x : ℤ → Result A) → v ≡ some z → Does P n a (x z) → Does P n a (given v x)
+  unfolding given
+  given-passes x e d = rw e d
+
+  pub given-stops : {v : Option ℤ} (x : ℤ → Result A) → v ≡ none → n ≡ stopNumber overflow → P a → Does P n a (given v x)
+  unfolding given
+  given-stops x e i p = rw e (does-stop overflow i p)
+
   pub does-need : (k : Stop) (t : Bool) {x : Result A} → (t ≡ true → Does P n a x) → (t ≡ false → (n ≡ stopNumber k) × P a) → Does P n a (need k t x)
   unfolding need
   does-need k true f g = f refl
@@ -84,6 +99,7 @@ stop-number tableFull e = omega arith
 stop-number boardFull e = omega arith
 stop-number Run.spent e = omega arith
 stop-number low e = omega arith
+stop-number overflow e = omega arith
 
 -- what an action does with the memory, as an answer: with a number it stops where it was, and else it goes on
 module _ {places vars : ℕ} {x x′ : Slices} {r : Running} {m : Memory} (s : State) (st : Stands places vars x r s) where

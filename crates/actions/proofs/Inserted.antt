@@ -1,7 +1,7 @@
 -- Insertions, removals and writes as the rules give them: an action that changes the words and what leads to the free places shows the memory with the
 -- tree changed, once the tests before it, read from the table, are those of the rules. Assumes nothing.
 use mathlib.Core.Path.{_≡_, refl, sym, ap, ap₂, subst, _∙_}
-use mathlib.Core.Bool.{Bool, true, false}
+use mathlib.Core.Bool.{Bool, true, false, _&&_}
 use mathlib.Core.Option.{some}
 use mathlib.Core.List.{List}
 use Prim.Native.Nat.{ℕ, _%_, _<_, _≤_}
@@ -9,15 +9,16 @@ use native.Mathlib.Omega.{arith}
 use lib.IntN.{ℤ}
 use lib.Dec.{leb, eqb}
 use borrow.Author.Tests.{lt-ltb, le-ltb}
-use mir.Syntax.{w32}
 use Rattle.rules.specs.Number.{bits, signed}
+use Rattle.rules.specs.Answers.{valueOf}
+use Rattle.rules.specs.declared.numbers.Number.{Number}
 use Rattle.rules.specs.Level.{join, notAbove}
 use Rattle.rules.specs.Tree as Tree
 use Rattle.rules.specs.Tree.{Label, Forest, Place, to, up, sub, label, size, change, setValue}
 use Rattle.rules.specs.Script.{Expression}
 use Rattle.rules.specs.Run as Run
-use Rattle.rules.specs.Run.{Result, flow, absent, tableFull, low, need, withTree, current, value, secretIf, position, flowOf, mayTouch, newLabel, insertAt, removeAt}
-use Rattle.rules.proofs.Machine.{kept}
+use Rattle.rules.specs.Run.{Result, flow, absent, tableFull, low, stopNumber, need, withTree, current, secretIf, position, flowOf, mayTouch, newLabel, insertAt, removeAt}
+use Rattle.rules.proofs.Tests.{clash}
 use Rattle.rules.proofs.Number.{signed-bits}
 use Rattle.table.specs.Cells.{cells, sideOf, labelWith}
 use Rattle.table.specs.Holds.{Holds}
@@ -29,9 +30,9 @@ use Rattle.actions.specs.declared.control.Running.{Running}
 use Rattle.actions.specs.declared.control.Stepped.{Stepped}
 use Rattle.actions.specs.Shows.{slices, Shows, levelIn}
 use Rattle.actions.specs.Stands.{stepped, withMemory, went}
-use Rattle.actions.specs.Acts.{Does, Kept, Acts, Evaluates, ParentOn, MayTouch, MayAdd, gate}
-use Rattle.actions.proofs.Doing.{flow-number, absent-number, table-full-number, low-number, does-next, does-stop, passes, refuses, does-as, halts, goes, stays}
-use Rattle.actions.proofs.Evaluation.{read, flow-shown}
+use Rattle.actions.specs.Acts.{Does, Kept, Acts, MayFit, Evaluates, ParentOn, MayTouch, MayAdd}
+use Rattle.actions.proofs.Doing.{flow-number, absent-number, table-full-number, low-number, overflow-number, does-next, does-stop, passes, refuses, given-passes, given-stops, does-as, halts, goes, stays}
+use Rattle.actions.proofs.Evaluation.{flow-shown}
 use Rattle.actions.proofs.Touched.{there, nowhere, Under, under, no-parent, position-is}
 
 -- the memory with other places that lead to the free ones
@@ -91,21 +92,15 @@ module _ (r : Running) (pc side : ℕ) {places vars old : ℕ} {w l b : List ℕ
         passes absent (stands (there (beside _ _ _ _ (s .tree)) lt))
         (passes flow (touched s ∙ e) (does-next _ refl (with-tree s (gone _ _ _ (s .tree) (beside _ _ _ _ (s .tree)))))))
 
--- the three tests in front of an insertion
-module _ {P : Run.Memory → Type 0} {k : ℕ} {μ : Run.Memory} where
-  gate-shut : (p q r : Bool) (x : Result Run.Memory) → k ≡ gate p q r → (k ≡ 0 → ⊥) → P μ → Does P k μ (need flow p (need flow q (need low r x)))
-  unfolding gate need
-  gate-shut true true true x i ne h = absurd (ne i)
-  gate-shut true true false x i ne h = does-stop low (i ∙ low-number) h
-  gate-shut true false r x i ne h = does-stop flow (i ∙ flow-number) h
-  gate-shut false q r x i ne h = does-stop flow (i ∙ flow-number) h
+-- the two rules of an insertion, tested as one
+module _ {P : Run.Memory → Type 0} {n : ℕ} {μ : Run.Memory} where
+  both-refused : (p q : Bool) (x : Result Run.Memory) → (p && q) ≡ false → n ≡ stopNumber flow → P μ → Does P n μ (need flow p (need flow q x))
+  both-refused true q x e i h = passes flow refl (refuses flow x e i h)
+  both-refused false q x e i h = refuses flow _ refl i h
 
-  gate-open : {n : ℕ} (p q r : Bool) (x : Result Run.Memory) → k ≡ gate p q r → k ≡ 0 → Does P n μ x → Does P n μ (need flow p (need flow q (need low r x)))
-  unfolding gate need
-  gate-open true true true x i z d = d
-  gate-open true true false x i z d = absurd (omega arith)
-  gate-open true false r x i z d = absurd (omega arith)
-  gate-open false q r x i z d = absurd (omega arith)
+  both-passed : (p q : Bool) (x : Result Run.Memory) → (p && q) ≡ true → Does P n μ x → Does P n μ (need flow p (need flow q x))
+  both-passed true q x e d = passes flow refl (passes flow e d)
+  both-passed false q x e d = clash e refl
 
 -- insertions
 abbrev pub Inserts : ℕ → ℕ → ℕ → ℕ → Expression → Run.Memory → Result Run.Memory
@@ -121,81 +116,111 @@ module _ (r : Running) (pc side mark : ℕ) (e : Expression) {places vars above 
       does-as (ap (λ o. insertAt pc μ places (to (sideOf side) (μ .cursor)) o mark e) (no-parent (sideOf side) (s .tree) (on .leads _ _ (s .tree)) ge))
       (does-stop absent absent-number s))
 
-  module _ {old c k : ℕ} (beside : Beside w places (r .memory) side old) (at : c ≡ join pc (levelIn (r .memory))) (lt : above < places)
-      (may : MayAdd w places (r .memory) above old c k) where
+  module _ {old c : ℕ} {ok : Bool} (beside : Beside w places (r .memory) side old) (at : c ≡ join pc (levelIn (r .memory))) (lt : above < places)
+      (may : MayAdd w places (r .memory) above old c ok) where
     -- the parent's place
     parent : {μ : Run.Memory} → Shows places vars (slices w l v b) (r .memory) μ
         → Under (cells w) places (r .memory .used) (r .memory .free) above (μ .tree) (up (to (sideOf side) (μ .cursor)))
     parent s = under (on .leads _ _ (s .tree)) lt
 
     gated : {μ : Run.Memory} (s : Shows places vars (slices w l v b) (r .memory) μ)
-        → k ≡ gate (notAbove (position pc μ) ((label (sub (parent s .place) (μ .tree))) .structure))
-        (mayTouch pc μ (sub (to (sideOf side) (μ .cursor)) (μ .tree))) (notAbove ((label (current μ)) .existence) (position pc μ))
-    unfolding current
+        → ok ≡ (notAbove (position pc μ) ((label (sub (parent s .place) (μ .tree))) .structure) && mayTouch pc μ (sub (to (sideOf side) (μ .cursor)) (μ .tree)))
     gated {μ} s =
         let i = position-is pc at s in
-        may .add pc μ _ _ i (s .tree) (parent s .holds) (beside _ _ _ _ (s .tree))
-        ∙ ap (λ z. gate (notAbove z ((label (sub (parent s .place) (μ .tree))) .structure)) (mayTouch pc μ (sub (to (sideOf side) (μ .cursor)) (μ .tree)))
-        (notAbove ((label (sub (μ .cursor) (μ .tree))) .existence) z)) i
+        may .add pc μ _ _ i (parent s .holds) (beside _ _ _ _ (s .tree))
+        ∙ ap (λ z. notAbove z ((label (sub (parent s .place) (μ .tree))) .structure) && mayTouch pc μ (sub (to (sideOf side) (μ .cursor)) (μ .tree))) i
 
     -- the insertion under that parent
     as-under : {μ : Run.Memory} (s : Shows places vars (slices w l v b) (r .memory) μ)
         → Inserts pc side mark places e μ ≡ insertAt pc μ places (to (sideOf side) (μ .cursor)) (some (parent s .place)) mark e
     as-under {μ} s = ap (λ o. insertAt pc μ places (to (sideOf side) (μ .cursor)) o mark e) (parent s .is)
 
-    pub insert-refused : {a : Stepped} → (k ≡ 0 → ⊥) → a ≡ stepped k r → Acts places vars (slices w l v b) (slices w l v b) r a (Inserts pc side mark places e)
+    pub insert-refused : {a : Stepped} → ok ≡ false → a ≡ stepped 21 r → Acts places vars (slices w l v b) (slices w l v b) r a (Inserts pc side mark places e)
     unfolding insertAt
-    insert-refused ne is = stays inside is ne (λ μ s. does-as (as-under s) (gate-shut _ _ _ _ (gated s) ne s))
+    insert-refused shut is =
+        stays inside is (λ z. omega arith) (λ μ s. does-as (as-under s) (both-refused _ _ _ (sym (gated s) ∙ shut) flow-number s))
 
-    module _ (w′ : List ℕ) {x free used : ℕ} {new : Label} (zero : k ≡ 0)
-        (added : (t : Forest) (p : Place) → Holds (cells w) places (r .memory .used) (r .memory .free) (r .memory .cursor) t p
-        → Leads (cells w) places (r .memory .used) (r .memory .free) t (up (to (sideOf side) p)) above
-        → Added (sideOf side) new (cells w) (cells w′) places (r .memory .used) (r .memory .free) (r .memory .cursor) x free used t p)
-        (behind : Behind places (cells w) (cells w′)) where
-      result : {μ : Run.Memory} → Shows places vars (slices w l v b) (r .memory) μ
-          → Added (sideOf side) new (cells w) (cells w′) places (r .memory .used) (r .memory .free) (r .memory .cursor) x free used (μ .tree) (μ .cursor)
-      result s = added _ _ (s .tree) (on .leads _ _ (s .tree))
-
-      pub insert-full : {a : Stepped} → places ≤ x → a ≡ stepped 23 (withMemory r (withSpace (r .memory) free used))
-          → Acts places vars (slices w l v b) (slices w′ l v b) r a (Inserts pc side mark places e)
+    -- y is the value and the level of the expression e
+    module _ (may-go : ok ≡ true) {y : Valued} (x : Evaluates w l v places vars (r .memory) e y) where
+      pub insert-over : {a : Stepped} → y .value ≡ Number.Over → a ≡ stepped 27 r
+          → Acts places vars (slices w l v b) (slices w l v b) r a (Inserts pc side mark places e)
       unfolding insertAt
-      insert-full i is =
-          halts _ is (λ z. omega arith) inside (λ h. h) (words-only behind)
+      insert-over none is =
+          stays inside is (λ z. omega arith)
           (λ μ s.
-          does-as (as-under s)
-          (gate-open _ _ _ _ (gated s) zero
-          (refuses tableFull _ (sym (result s .when) ∙ le-ltb x places i) table-full-number (with-space s (result s .kept i)))))
+          does-as (as-under s) (both-passed _ _ _ (sym (gated s) ∙ may-go) (given-stops _ (x .value b μ s ∙ ap valueOf none) overflow-number s)))
 
-      pub inserted : {a : Stepped} → ((μ : Run.Memory) → Shows places vars (slices w l v b) (r .memory) μ → new ≡ newLabel pc μ mark e) → x < places
-          → a ≡ went r (withSpace (r .memory) free used) → Acts places vars (slices w l v b) (slices w′ l v b) r a (Inserts pc side mark places e)
-      unfolding insertAt
-      inserted labels i is =
-          goes _ is inside (λ h. h) (words-only behind)
-          (λ μ s.
-          does-as (as-under s)
-          (gate-open _ _ _ _ (gated s) zero
-          (passes tableFull (sym (result s .when) ∙ lt-ltb x places i)
-          (does-next _ refl
-          (with-tree s
-          (subst
-          (λ n. Holds (cells w′) places used free (r .memory .cursor) (change (to (sideOf side) (μ .cursor)) (Tree.insert n) (μ .tree)) (μ .cursor))
-          (labels μ s) (result s .done i)))))))
+      module _ {u : ℤ} (has : y .value ≡ Number.Fits u) {n : ℕ}
+          (existing : Whenever (cells w) places (r .memory .cursor) (λ t p. label (sub p t) .existence ≡ n)) where
+        exists-test : {t : Bool} → notAbove n c ≡ t → {μ : Run.Memory} → Shows places vars (slices w l v b) (r .memory) μ
+            → notAbove ((label (current μ)) .existence) (position pc μ) ≡ t
+        unfolding current
+        exists-test h s = ap₂ notAbove (existing _ _ _ _ (s .tree)) (sym (position-is pc at s)) ∙ h
+
+        pub insert-low : {a : Stepped} → notAbove n c ≡ false → a ≡ stepped 26 r
+            → Acts places vars (slices w l v b) (slices w l v b) r a (Inserts pc side mark places e)
+        unfolding insertAt
+        insert-low h is =
+            stays inside is (λ z. omega arith)
+            (λ μ s.
+            does-as (as-under s)
+            (both-passed _ _ _ (sym (gated s) ∙ may-go)
+            (given-passes _ (x .value b μ s ∙ ap valueOf has) (refuses low _ (exists-test h s) low-number s))))
+
+        module _ (w′ : List ℕ) {z free used : ℕ} {new : Label} (high : notAbove n c ≡ true)
+            (added : (t : Forest) (p : Place) → Holds (cells w) places (r .memory .used) (r .memory .free) (r .memory .cursor) t p
+            → Leads (cells w) places (r .memory .used) (r .memory .free) t (up (to (sideOf side) p)) above
+            → Added (sideOf side) new (cells w) (cells w′) places (r .memory .used) (r .memory .free) (r .memory .cursor) z free used t p)
+            (behind : Behind places (cells w) (cells w′)) where
+          result : {μ : Run.Memory} → Shows places vars (slices w l v b) (r .memory) μ
+              → Added (sideOf side) new (cells w) (cells w′) places (r .memory .used) (r .memory .free) (r .memory .cursor) z free used (μ .tree) (μ .cursor)
+          result s = added _ _ (s .tree) (on .leads _ _ (s .tree))
+
+          pub insert-full : {a : Stepped} → places ≤ z → a ≡ stepped 23 (withMemory r (withSpace (r .memory) free used))
+              → Acts places vars (slices w l v b) (slices w′ l v b) r a (Inserts pc side mark places e)
+          unfolding insertAt
+          insert-full i is =
+              halts _ is (λ z. omega arith) inside (λ h. h) (words-only behind)
+              (λ μ s.
+              does-as (as-under s)
+              (both-passed _ _ _ (sym (gated s) ∙ may-go)
+              (given-passes _ (x .value b μ s ∙ ap valueOf has)
+              (passes low (exists-test high s)
+              (refuses tableFull _ (sym (result s .when) ∙ le-ltb z places i) table-full-number (with-space s (result s .kept i)))))))
+
+          pub inserted : {a : Stepped} → ((μ : Run.Memory) → Shows places vars (slices w l v b) (r .memory) μ → new ≡ newLabel pc μ mark e u) → z < places
+              → a ≡ went r (withSpace (r .memory) free used) → Acts places vars (slices w l v b) (slices w′ l v b) r a (Inserts pc side mark places e)
+          unfolding insertAt
+          inserted labels i is =
+              goes _ is inside (λ h. h) (words-only behind)
+              (λ μ s.
+              does-as (as-under s)
+              (both-passed _ _ _ (sym (gated s) ∙ may-go)
+              (given-passes _ (x .value b μ s ∙ ap valueOf has)
+              (passes low (exists-test high s)
+              (passes tableFull (sym (result s .when) ∙ lt-ltb z places i)
+              (does-next _ refl
+              (with-tree s
+              (subst
+              (λ n. Holds (cells w′) places used free (r .memory .cursor) (change (to (sideOf side) (μ .cursor)) (Tree.insert n) (μ .tree)) (μ .cursor))
+              (labels μ s) (result s .done i)))))))))
 
 -- y is the value and the level of the expression e, and k is L
 module _ {w l : List ℕ} {v : List ℤ} {places vars k : ℕ} (r : Running) {e : Expression} {y : Valued} (pc : ℕ)
     (x : Evaluates w l v places vars (r .memory) e y) (flows : k ≡ join (y .level) (join pc (levelIn (r .memory)))) (b : List ℕ) where
   -- the value, by its bits
-  told : {n : ℕ} → n ≡ bits (kept w32 (y .value)) → (μ : Run.Memory) → Shows places vars (slices w l v b) (r .memory) μ → signed n ≡ value μ e
-  told i μ s = ap signed i ∙ ap (λ z. signed (bits z)) (read (x .fits)) ∙ signed-bits (record { sfits = x .fits }) ∙ sym (x .value b μ s)
+  told : {u : ℤ} {n : ℕ} → y .value ≡ Number.Fits u → n ≡ bits u → signed n ≡ u
+  told has i = ap signed i ∙ signed-bits (record { sfits = subst MayFit has (x .fits) })
 
   -- the label of a new node at the level c
-  pub new-label : {n c p q : ℕ} (mark : ℕ) → n ≡ bits (kept w32 (y .value)) → c ≡ join pc (levelIn (r .memory)) → p ≡ join k (secretIf (eqb (mark % 2) 1))
-      → q ≡ join c (secretIf (leb 2 mark)) → (μ : Run.Memory) → Shows places vars (slices w l v b) (r .memory) μ → labelWith n c p q ≡ newLabel pc μ mark e
+  pub new-label : {u : ℤ} {n c p q : ℕ} (mark : ℕ) → y .value ≡ Number.Fits u → n ≡ bits u → c ≡ join pc (levelIn (r .memory))
+      → p ≡ join k (secretIf (eqb (mark % 2) 1)) → q ≡ join c (secretIf (leb 2 mark)) → (μ : Run.Memory)
+      → Shows places vars (slices w l v b) (r .memory) μ → labelWith n c p q ≡ newLabel pc μ mark e u
   unfolding newLabel
-  new-label mark i at ip iq μ s =
+  new-label mark has i at ip iq μ s =
       λ j.
       record {
-        value = told i μ s j;
+        value = told has i j;
         existence = position-is pc at s j;
         content = (ip ∙ ap (λ z. join z (secretIf (eqb (mark % 2) 1))) (flows ∙ sym (flow-shown pc x b μ s))) j;
         structure = (iq ∙ ap (λ z. join z (secretIf (leb 2 mark))) (position-is pc at s)) j;
@@ -214,17 +239,25 @@ module _ {w l : List ℕ} {v : List ℤ} {places vars k : ℕ} (r : Running) {e 
     unfolding Run.write
     write-refused h is = stays inside is (λ z. omega arith) (λ μ s. refuses flow _ (content-test h μ s) flow-number s)
 
-    pub written : (w′ : List ℕ) {n : ℕ} {a : Stepped} → notAbove k c ≡ true → n ≡ bits (kept w32 (y .value))
+    pub write-over : {a : Stepped} → y .value ≡ Number.Over → notAbove k c ≡ true → a ≡ stepped 27 r
+        → Acts places vars (slices w l v b) (slices w l v b) r a (λ μ. Run.write pc μ e)
+    unfolding Run.write
+    write-over none h is =
+        stays inside is (λ z. omega arith)
+        (λ μ s. passes flow (content-test h μ s) (given-stops _ (x .value b μ s ∙ ap valueOf none) overflow-number s))
+
+    pub written : (w′ : List ℕ) {u : ℤ} {n : ℕ} {a : Stepped} → y .value ≡ Number.Fits u → notAbove k c ≡ true → n ≡ bits u
         → ((used free : ℕ) (t : Forest) (p : Place) → Holds (cells w) places used free (r .memory .cursor) t p
         → Holds (cells w′) places used free (r .memory .cursor) (change p (setValue (signed n)) t) p)
         → Behind places (cells w) (cells w′) → a ≡ went r (r .memory)
         → Acts places vars (slices w l v b) (slices w′ l v b) r a (λ μ. Run.write pc μ e)
     unfolding Run.write
-    written w′ h i set behind is =
+    written w′ has h i set behind is =
         goes (r .memory) is inside (λ z. z) (words-only behind)
         (λ μ s.
         passes flow (content-test h μ s)
+        (given-passes _ (x .value b μ s ∙ ap valueOf has)
         (does-next _ refl
         (with-tree s
-        (subst (λ z. Holds (cells w′) places (r .memory .used) (r .memory .free) (r .memory .cursor) (change (μ .cursor) (setValue z) (μ .tree)) (μ .cursor)) (told i μ s)
-        (set _ _ _ _ (s .tree))))))
+        (subst (λ z. Holds (cells w′) places (r .memory .used) (r .memory .free) (r .memory .cursor) (change (μ .cursor) (setValue z) (μ .tree)) (μ .cursor)) (told has i)
+        (set _ _ _ _ (s .tree)))))))

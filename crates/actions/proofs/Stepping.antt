@@ -10,7 +10,7 @@ use Rattle.actions.specs.declared.control.Stepped.{Stepped}
 use Rattle.actions.specs.Shows.{Slices}
 use Rattle.actions.specs.Stands.{Stands, ended}
 use Rattle.actions.specs.Acts.{Does}
-use Rattle.actions.specs.Control.{Jumps, Leaves}
+use Rattle.actions.specs.Control.{Passes, Keeps, Jumps, Leaves}
 
 -- no stop has the number that stands for the script's end
 pub stop-below : (k : Stop) → stopNumber k ≡ ended → ⊥
@@ -21,6 +21,11 @@ stop-below Run.tableFull e = omega arith
 stop-below Run.boardFull e = omega arith
 stop-below Run.spent e = omega arith
 stop-below Run.low e = omega arith
+stop-below Run.overflow e = omega arith
+
+-- a step that does not stop is counted
+pub passes-keeps : {r : Running} {a : Stepped} → Passes r a → Keeps r a
+passes-keeps p = record { memory = p .memory; counted = λ _. p .left; uncounted = λ n. absurd (n (p .stop)) }
 
 module _ (places vars : ℕ) (x x′ : Slices) (r : Running) (s : State) (st : Stands places vars x r s) where
   -- after a jump, with the slices as they were

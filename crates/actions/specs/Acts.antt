@@ -1,13 +1,14 @@
 -- What the monitor's functions promise: for every memory that the slices show, what the rules give. Assumes nothing.
 use mathlib.Core.Path.{_≡_}
-use mathlib.Core.Bool.{Bool, true, false, cond}
+use mathlib.Core.Bool.{Bool, true, false, cond, _&&_}
 use mathlib.Core.Option.{Option, none, some}
 use Prim.Native.Nat.{ℕ, zero, suc, _-_, _*_, _<_, _≤_}
 use mathlib.Core.List.{List}
 use lib.ListN.{length, getD, drop}
 use lib.IntN.{ℤ, pos}
-use lib.Signed.{mag}
-use Rattle.rules.specs.Number.{half-range}
+use Rattle.rules.specs.Number.{Fits, fitting}
+use Rattle.rules.specs.Answers.{valueOf}
+use Rattle.rules.specs.declared.numbers.Number.{Number}
 use Rattle.rules.specs.Level.{notAbove}
 use Rattle.rules.specs.Tree.{Forest, Place, root, to, up, sub, label, child, sibling}
 use Rattle.rules.specs.Script.{Operand, Expression}
@@ -19,30 +20,31 @@ use Rattle.table.specs.Holds.{Holds}
 use Rattle.table.specs.Promises.{Leads, Behind}
 use Rattle.actions.specs.declared.memory.Memory.{Memory}
 use Rattle.actions.specs.declared.evaluate.Valued.{Valued}
+use Rattle.actions.specs.declared.evaluate.Found.{Found}
 use Rattle.actions.specs.declared.control.Running.{Running}
 use Rattle.actions.specs.declared.control.Stepped.{Stepped}
 use Rattle.actions.specs.Shows.{Slices, slices, Shows, levelIn}
 use Rattle.actions.specs.Stands.{Stands, stepped, went}
 
--- a 32-bit number
-abbrev pub Fits : ℤ → Type 0
-Fits z = mag z < half-range
-
 -- r is the operand's value and level
-pub record Operates (words levels : List ℕ) (values : List ℤ) (places vars : ℕ) (m : Memory) (a : Operand) (r : Valued) : Type 0 where
+pub record Operates (words levels : List ℕ) (values : List ℤ) (places vars : ℕ) (m : Memory) (a : Operand) (r : Found) : Type 0 where
   pub fits : Fits (r .value)
   pub value : (b : List ℕ) (μ : Run.Memory) → Shows places vars (slices words levels values b) m μ → operandValue μ a ≡ r .value
   pub level : (b : List ℕ) (μ : Run.Memory) → Shows places vars (slices words levels values b) m μ → operandLevel μ a ≡ r .level
 
--- r is what the operator of a number above 0 makes of two values
-pub record Applies (operator : ℕ) (a b r : ℤ) : Type 0 where
-  pub fits : Fits a → Fits b → Fits r
-  pub is : (x y : Operand) (μ : Run.Memory) → operandValue μ x ≡ a → operandValue μ y ≡ b → value μ (expression operator x y) ≡ r
+-- a result, if it is a number, is a 32-bit number
+abbrev pub MayFit : Number → Type 0
+MayFit (Number.Fits z) = Fits z
+MayFit Number.Over = Unit {0}
 
--- r is the expression's value and level
+-- r is the exact result of what the operator of a number above 0 makes of two values
+pub record Applies (operator : ℕ) (a b r : ℤ) : Type 0 where
+  pub is : (x y : Operand) (μ : Run.Memory) → operandValue μ x ≡ a → operandValue μ y ≡ b → value μ (expression operator x y) ≡ fitting r
+
+-- r is the expression's value, if it has one, and its level
 pub record Evaluates (words levels : List ℕ) (values : List ℤ) (places vars : ℕ) (m : Memory) (e : Expression) (r : Valued) : Type 0 where
-  pub fits : Fits (r .value)
-  pub value : (b : List ℕ) (μ : Run.Memory) → Shows places vars (slices words levels values b) m μ → value μ e ≡ r .value
+  pub fits : MayFit (r .value)
+  pub value : (b : List ℕ) (μ : Run.Memory) → Shows places vars (slices words levels values b) m μ → value μ e ≡ valueOf (r .value)
   pub level : (b : List ℕ) (μ : Run.Memory) → Shows places vars (slices words levels values b) m μ → levelOf μ e ≡ r .level
 
 -- the number k and what comes after it are as a result of the rules says: 0 and what it goes on with, or the stop's number and what was before
@@ -101,14 +103,8 @@ pub record MayTouch (words : List ℕ) (places : ℕ) (m : Memory) (c place : �
   pub touch : (pc : ℕ) (μ : Run.Memory) (q : Place) → c ≡ position pc μ
       → Leads (cells words) places (m .used) (m .free) (μ .tree) (some q) place → r ≡ mayTouch pc μ (sub q (μ .tree))
 
--- 21, 26 or 0, by the three tests of an insertion
-unfoldable pub gate : Bool → Bool → Bool → ℕ
-gate a b c = cond a (cond b (cond c 0 26) 21) 21
-
--- the rules of an insertion under the node at `above`, in front of what is at `old`
-pub record MayAdd (words : List ℕ) (places : ℕ) (m : Memory) (above old c r : ℕ) : Type 0 where
+-- whether C may add a node under the one at `above`, in front of what is at `old`
+pub record MayAdd (words : List ℕ) (places : ℕ) (m : Memory) (above old c : ℕ) (r : Bool) : Type 0 where
   pub add : (pc : ℕ) (μ : Run.Memory) (q p : Place) → c ≡ position pc μ
-      → Holds (cells words) places (m .used) (m .free) (m .cursor) (μ .tree) (μ .cursor)
       → Holds (cells words) places (m .used) (m .free) above (μ .tree) q → Leads (cells words) places (m .used) (m .free) (μ .tree) (some p) old
-      → r ≡ gate (notAbove c ((label (sub q (μ .tree))) .structure)) (mayTouch pc μ (sub p (μ .tree)))
-      (notAbove ((label (sub (μ .cursor) (μ .tree))) .existence) c)
+      → r ≡ (notAbove c ((label (sub q (μ .tree))) .structure) && mayTouch pc μ (sub p (μ .tree)))

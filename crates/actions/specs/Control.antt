@@ -3,16 +3,18 @@ use mathlib.Core.Path.{_≡_}
 use Prim.Native.Nat.{ℕ, _-_, _<_, _≤_}
 use mathlib.Core.List.{List, tail}
 use lib.ListN.{length}
+use lib.IntN.{ℤ}
 use Rattle.rules.specs.Limits.{maxDepth}
+use Rattle.rules.specs.Answers.{valueOf}
 use Rattle.rules.specs.Script.{Expression}
-use Rattle.rules.specs.Run.{State, Block, value, levelOf}
+use Rattle.rules.specs.Run.{State, Block, next, given, value, levelOf}
 use Rattle.actions.specs.declared.evaluate.Valued.{Valued}
 use Rattle.actions.specs.declared.control.Running.{Running}
 use Rattle.actions.specs.declared.control.Stepped.{Stepped}
 use Rattle.actions.specs.Guards.{Holds}
 use Rattle.actions.specs.Shows.{Slices}
 use Rattle.actions.specs.Stands.{Stands}
-use Rattle.actions.specs.Acts.{Fits}
+use Rattle.actions.specs.Acts.{MayFit, Does}
 
 -- a step that does not stop and leaves the memory
 pub record Passes (r : Running) (a : Stepped) : Type 0 where
@@ -32,9 +34,16 @@ pub record Leaves (r : Running) (j : ℕ) (a : Stepped) : Type 0 where
   pub at : a .running .at ≡ j
   pub guards : (bs : List Block) → Holds (r .guards) bs → Holds (a .running .guards) (tail bs)
 
--- an if or a while with the guard's value and level v: as the rules' f does, with j to jump to
-pub record Enters (f : State → ℕ → Expression → State) (r : Running) (v : Valued) (j : ℕ) (a : Stepped) : Type 0 where
-  pub passes : Passes r a
+-- a step that leaves the memory, and stops or not
+pub record Keeps (r : Running) (a : Stepped) : Type 0 where
+  pub memory : a .running .memory ≡ r .memory
+  pub counted : a .stop ≡ 0 → a .running .left ≡ r .left - 1
+  pub uncounted : (a .stop ≡ 0 → ⊥) → a .running .left ≡ r .left
+
+-- an if or a while with the guard's value and level v: as the rules' f does with the value, with j to jump to, or 27
+pub record Enters (f : State → ℕ → Expression → ℤ → State) (r : Running) (v : Valued) (j : ℕ) (a : Stepped) : Type 0 where
+  pub keeps : Keeps r a
   pub within : (n : ℕ) → j ≤ n → r .at < n → a .running .at ≤ n
-  pub enters : (places vars : ℕ) (x : Slices) (s : State) (e : Expression) → Fits (v .value) → value (s .memory) e ≡ v .value
-      → levelOf (s .memory) e ≡ v .level → length (s .blocks) < maxDepth → Stands places vars x r s → Stands places vars x (a .running) (f s j e)
+  pub enters : (places vars : ℕ) (x : Slices) (s : State) (e : Expression) → MayFit (v .value) → value (s .memory) e ≡ valueOf (v .value)
+      → levelOf (s .memory) e ≡ v .level → length (s .blocks) < maxDepth → Stands places vars x r s
+      → Does (Stands places vars x (a .running)) (a .stop) s (given (value (s .memory) e) λ z. next (f s j e z))

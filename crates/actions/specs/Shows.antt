@@ -54,7 +54,12 @@ pub record Readable (words levels : List ℕ) (values : List ℤ) (places vars :
   pub levelled : vars ≤ length levels
   pub valued : vars ≤ length values
 
--- the variables that an expression names are there
+-- an operand is of one of the four kinds, and one that is a variable is there
+pub record Named (vars kind number : ℕ) : Type 0 where
+  pub known : kind ≤ 3
+  pub variable : kind ≡ 1 → number < vars
+
+-- the operands that an expression reads
 pub record Reads (vars : ℕ) (f : Fields) : Type 0 where
-  pub left : f .leftkind ≡ 1 → f .left < vars
-  pub right : (f .operator ≡ 0 → ⊥) → f .rightkind ≡ 1 → f .right < vars
+  pub left : Named vars (f .leftkind) (f .left)
+  pub right : (f .operator ≡ 0 → ⊥) → Named vars (f .rightkind) (f .right)

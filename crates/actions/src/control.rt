@@ -4,7 +4,9 @@ use super::guards;
 use super::guards::Guards;
 use super::memory::Memory;
 use rules::levels::join;
+use rules::limits::OVERFLOW;
 use rules::numbers;
+use rules::numbers::Number;
 ghost use Rattle.rules.specs.Run.{enterIf, enterWhile};
 ghost use mathlib.Core.Path.{_≡_};
 ghost use Rattle.actions.specs.Stands.{Timely, stepped, withMemory, went};
@@ -93,11 +95,15 @@ pub fn enter_if(r: Running, e: Valued, to: usize) -> Stepped
     requires { ⌜ Timely r ⌝ }
     ensures { λ a. ⌜ Enters enterIf r e to a ⌝ }
 {
+    let v = e.value;
+    let Number::Fits(z) = v else {
+        return halt(r, OVERFLOW);
+    };
     let mut next = r;
     let g = guards::push(r.guards, join(e.level, guards::top(r.guards)));
     next.guards = g;
     next.left = r.left - 1;
-    if numbers::is_zero(e.value) {
+    if numbers::is_zero(z) {
         next.at = to;
     } else {
         next.at = r.at + 1;
@@ -113,9 +119,13 @@ pub fn enter_while(r: Running, e: Valued, to: usize) -> Stepped
     requires { ⌜ Timely r ⌝ }
     ensures { λ a. ⌜ Enters enterWhile r e to a ⌝ }
 {
+    let v = e.value;
+    let Number::Fits(z) = v else {
+        return halt(r, OVERFLOW);
+    };
     let mut next = r;
     next.left = r.left - 1;
-    if numbers::is_zero(e.value) {
+    if numbers::is_zero(z) {
         next.at = to;
     } else {
         let g = guards::push(r.guards, join(e.level, guards::top(r.guards)));

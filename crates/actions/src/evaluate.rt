@@ -5,24 +5,38 @@ use job::records::Fields;
 use rules::levels::PUBLIC;
 use rules::levels::join;
 use rules::numbers;
+use rules::numbers::Number;
 use table::node;
 ghost use mathlib.Core.Path.{_≡_};
 ghost use Prim.Native.Nat.{_<_};
+ghost use Rattle.rules.specs.Number.{Fits};
 ghost use Rattle.rules.specs.Job.{operand};
 ghost use Rattle.job.specs.Fields.{expressionFrom};
-ghost use Rattle.actions.specs.Shows.{Readable, Reads};
+ghost use Rattle.actions.specs.Shows.{Readable, Named, Reads};
 ghost use Rattle.actions.specs.Acts.{Operates, Applies, Evaluates};
 
-// A value and its level.
+// What an expression comes to, and its level.
 pub struct Valued {
-    pub value: i32,
+    pub value: Number,
     pub level: u8,
+}
+
+// An operand's value and level.
+struct Found {
+    value: i32,
+    level: u8,
 }
 
 fn index(x: u32) -> usize
     ensures { λ r. ⌜ r ≡ x ⌝ }
 {
     x as usize
+}
+
+fn part(kind: u8) -> usize
+    ensures { λ r. ⌜ r ≡ kind ⌝ }
+{
+    kind as usize
 }
 
 // An operand, by its kind and its number.
@@ -35,12 +49,12 @@ fn operand(
     words: &[u32],
     places: usize,
     m: Memory,
-) -> Valued
-    requires { ⌜ Readable (now words) (now levels) (now values) places vars m × (kind ≡ 1 → number < vars) ⌝ }
+) -> Found
+    requires { ⌜ Readable (now words) (now levels) (now values) places vars m × Named vars kind number ⌝ }
     ensures { λ r. ⌜ Operates (now (words .entry)) (now (levels .entry)) (now (values .entry)) places vars m (operand kind number) r ⌝ }
 {
     match kind {
-        0 => Valued {
+        0 => Found {
             value: numbers::signed(number),
             level: PUBLIC,
         },
@@ -48,22 +62,21 @@ fn operand(
             let i = index(number);
             let v = values[i];
             let l = levels[i];
-            Valued { value: v, level: l }
+            Found { value: v, level: l }
         }
-        2 => Valued {
-            value: numbers::signed(node::value(words, places, m.cursor)),
-            level: join(level_of(m), node::content(words, places, m.cursor)),
-        },
-        _ => Valued {
-            value: numbers::signed(node::children(words, places, m.cursor)),
-            level: join(level_of(m), node::structure(words, places, m.cursor)),
-        },
+        _ => {
+            let k = part(kind);
+            Found {
+                value: numbers::signed(node::read(words, places, m.cursor, k)),
+                level: join(level_of(m), node::level_read(words, places, m.cursor, k)),
+            }
+        }
     }
 }
 
-// What an operator makes of two values.
-fn apply(operator: u8, a: i32, b: i32) -> i32
-    requires { ⌜ 0 < operator ⌝ }
+// What an operator makes of two numbers, exactly.
+fn apply(operator: u8, a: i64, b: i64) -> i64
+    requires { ⌜ (0 < operator) × (Fits a × Fits b) ⌝ }
     ensures { λ r. ⌜ Applies operator a b r ⌝ }
 {
     match operator {
@@ -91,11 +104,19 @@ pub fn evaluate(
     let left = operand(f.leftkind, f.left, levels, values, vars, words, places, m);
     let operator = f.operator;
     if operator == 0 {
-        return left;
+        return Valued {
+            value: Number::Fits(left.value),
+            level: left.level,
+        };
     }
     let right = operand(f.rightkind, f.right, levels, values, vars, words, places, m);
+    let z = apply(
+        operator,
+        numbers::wide(left.value),
+        numbers::wide(right.value),
+    );
     Valued {
-        value: apply(operator, left.value, right.value),
+        value: numbers::fitting(z),
         level: join(left.level, right.level),
     }
 }

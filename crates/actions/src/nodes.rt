@@ -13,8 +13,10 @@ use rules::levels::not_above;
 use rules::limits::ABSENT;
 use rules::limits::FLOW;
 use rules::limits::LOW;
+use rules::limits::OVERFLOW;
 use rules::limits::TABLE_FULL;
 use rules::numbers;
+use rules::numbers::Number;
 use table::node;
 use table::shape;
 use table::walk;
@@ -55,21 +57,15 @@ fn may_touch(words: &[u32], places: usize, m: Memory, c: u8, place: usize) -> bo
     not_above(c, node::existence(words, places, place))
 }
 
-// The rules of an insertion at the level c: under the node at `above`, in front of what is at `old`.
-fn may_add(words: &[u32], places: usize, m: Memory, above: usize, old: usize, c: u8) -> u8
+// Whether the level c may add a node under the one at `above`, in front of what is at `old`.
+fn may_add(words: &[u32], places: usize, m: Memory, above: usize, old: usize, c: u8) -> bool
     requires { ⌜ Within (now words) places (m .cursor) × (above < places) ⌝ }
     ensures { λ r. ⌜ MayAdd (now (words .entry)) places m above old c r ⌝ }
 {
     if !not_above(c, node::structure(words, places, above)) {
-        return FLOW;
+        return false;
     }
-    if !may_touch(words, places, m, c, old) {
-        return FLOW;
-    }
-    if !not_above(node::existence(words, places, m.cursor), c) {
-        return LOW;
-    }
-    0
+    may_touch(words, places, m, c, old)
 }
 
 // A mark adds 1 to the content where it is odd, and to the structure level where it is 2 or 3.
@@ -105,12 +101,18 @@ pub fn insert_on(
     }
     let c = position(pc, m);
     let old = walk::beside(words, places, m.cursor, side);
-    let refused = may_add(words, places, m, above, old, c);
-    if refused != 0 {
-        return halt(r, refused);
+    if !may_add(words, places, m, above, old, c) {
+        return halt(r, FLOW);
+    }
+    let v = e.value;
+    let Number::Fits(z) = v else {
+        return halt(r, OVERFLOW);
+    };
+    if !not_above(node::existence(words, places, m.cursor), c) {
+        return halt(r, LOW);
     }
     let new = shape::NewNode {
-        value: numbers::bits(e.value),
+        value: numbers::bits(z),
         existence: c,
         content: join(flow(e.level, pc, m), secret_if(mark % 2 == 1)),
         structure: join(c, secret_if(2 <= mark)),
@@ -166,6 +168,10 @@ pub fn write(e: Valued, words: &mut [u32], places: usize, pc: u8, r: Running) ->
     if !not_above(flow(e.level, pc, m), node::content(words, places, m.cursor)) {
         return halt(r, FLOW);
     }
-    node::set_value(words, places, m.cursor, numbers::bits(e.value));
+    let v = e.value;
+    let Number::Fits(z) = v else {
+        return halt(r, OVERFLOW);
+    };
+    node::set_value(words, places, m.cursor, numbers::bits(z));
     onward(r, m)
 }

@@ -9,6 +9,8 @@ use rules::levels::PUBLIC;
 use rules::levels::not_above;
 use rules::limits::BOARD_FULL;
 use rules::limits::FLOW;
+use rules::limits::OVERFLOW;
+use rules::numbers::Number;
 use rules::numbers::bits;
 ghost use mathlib.Core.Path.{_≡_};
 ghost use mathlib.Core.List.{List};
@@ -49,7 +51,10 @@ pub fn assign(
         return halt(r, FLOW);
     }
     let v = e.value;
-    values[i] = v;
+    let Number::Fits(z) = v else {
+        return halt(r, OVERFLOW);
+    };
+    values[i] = z;
     onward(r, m)
 }
 
@@ -83,11 +88,15 @@ pub fn output(e: Valued, lines: &mut [u8], pc: u8, r: Running) -> Stepped
     if !not_above(flow(e.level, pc, m), PUBLIC) {
         return halt(r, FLOW);
     }
+    let v = e.value;
+    let Number::Fits(z) = v else {
+        return halt(r, OVERFLOW);
+    };
     let n = m.lines;
     if n >= lines.len() / 4 {
         return halt(r, BOARD_FULL);
     }
-    put_line(lines, n, e.value);
+    put_line(lines, n, z);
     let mut next = m;
     next.lines = n + 1;
     onward(r, next)

@@ -40,10 +40,10 @@ use Rattle.actions.specs.Board.{capacity}
 use Rattle.actions.specs.Shows.{Slices, Reads, Readable}
 use Rattle.actions.specs.Acts.{Does, Kept, Acts, Evaluates, moveOf}
 use Rattle.actions.specs.Stands.{Stands, Timely, stepped as answered, ended}
-use Rattle.actions.specs.Control.{Passes, Jumps, Leaves, Enters}
+use Rattle.actions.specs.Control.{Keeps, Jumps, Leaves, Enters}
 use Rattle.monitor.specs.Steps.{Held, scriptIn, fieldsAt, Script, Safe, Lent, Steps, Carries}
 use Rattle.actions.proofs.Doing.{kept-refl}
-use Rattle.actions.proofs.Stepping.{jump-steps, leave-steps}
+use Rattle.actions.proofs.Stepping.{passes-keeps, jump-steps, leave-steps}
 
 -- slices of the same lengths
 pub record SameLengths (x x′ : Slices) : Type 0 where
@@ -80,12 +80,15 @@ module _ (h : Held) (sc : Script h) where
     unfolding scriptOf fetch commandFrom fieldsOf expressionFrom commandOf expressionOf
     spelled = listed-from-zero (λ (k : ℕ). commandOf (h .bytes) (recordPlace (h .base) k)) (act Action.skip) (h .records) i inside
 
-    -- the variables that its expression names, if it has one
+    -- the operands that its expression reads, if it has one
     pub reads : (rowOf (byte (h .bytes) (recordPlace (h .base) i))) .expression ≡ true → Reads (h .vars) (fieldsAt h i)
     unfolding fieldsOf
     reads e =
         let x = record-in _ _ _ (sc .fields i inside) .fields .expression e in
-        record { left = x .left .variable; right = λ n k. x .right n .variable k }
+        record {
+          left = record { known = x .left .known; variable = x .left .variable };
+          right = λ n. record { known = x .right n .known; variable = x .right n .variable };
+        }
 
     -- its target, if that is a variable
     pub target-in : (rowOf (byte (h .bytes) (recordPlace (h .base) i))) .target ≡ true → byte (h .bytes) (recordPlace (h .base) i + 1) < h .vars
@@ -139,7 +142,7 @@ module _ (h : Held) (sc : Script h) where
           }
 
       -- a step that leaves the slices and the memory
-      controlling : (a : Stepped) → Passes r a → a .running .at ≤ h .records
+      controlling : (a : Stepped) → Keeps r a → a .running .at ≤ h .records
           → ((lent : Buffers) (s : State) → Lent h x lent → Valid (scriptIn h) s → Stands (h .places) (h .vars) x r s
           → Does (Stands (h .places) (h .vars) x (a .running)) (a .stop) s (step lent (scriptIn h) s))
           → Steps h x x r a
@@ -156,8 +159,8 @@ module _ (h : Held) (sc : Script h) where
                   within = w;
                 };
             kept = rw (p .memory) kept-refl;
-            counted = λ z. p .left;
-            uncounted = λ n. absurd (n (p .stop));
+            counted = p .counted;
+            uncounted = p .uncounted;
             board = refl;
             steps = g;
           }
@@ -175,7 +178,7 @@ module _ (h : Held) (sc : Script h) where
         pub elses : c ≡ 3 → Jumps r j a → Steps h x x r a
         unfolding commands carried
         elses key k =
-            controlling a (k .passes) (rw (k .at) jump-within) (λ lent s l v st.
+            controlling a (passes-keeps (k .passes)) (rw (k .at) jump-within) (λ lent s l v st.
             subst (Does (Stands (h .places) (h .vars) x (a .running)) (a .stop) s)
             (sym (here-is lent s (st .at) ∙ ap (carried s lent _) (numbered 3 Command.else key refl)))
             (jump-steps (h .places) (h .vars) x x r s st _ a k))
@@ -183,7 +186,7 @@ module _ (h : Held) (sc : Script h) where
         pub ends : c ≡ 5 → Leaves r j a → Steps h x x r a
         unfolding commands carried
         ends key k =
-            controlling a (k .passes) (rw (k .at) jump-within) (λ lent s l v st.
+            controlling a (passes-keeps (k .passes)) (rw (k .at) jump-within) (λ lent s l v st.
             subst (Does (Stands (h .places) (h .vars) x (a .running)) (a .stop) s)
             (sym (here-is lent s (st .at) ∙ ap (carried s lent _) (numbered 5 Command.end key refl)))
             (leave-steps (h .places) (h .vars) x x r s st _ a k))
@@ -202,30 +205,20 @@ module _ (h : Held) (sc : Script h) where
           pub ifs : c ≡ 2 → Enters enterIf r v j a → Steps h x x r a
           unfolding commands carried number opens
           ifs key n =
-              controlling a (n .passes) (n .within (h .records) jump-within inside) (λ lent s l vl st.
+              controlling a (n .keeps) (n .within (h .records) jump-within inside) (λ lent s l vl st.
               subst (Does (Stands (h .places) (h .vars) x (a .running)) (a .stop) s)
               (sym (here-is lent s (st .at) ∙ ap (carried s lent _) (numbered 2 _ key refl)))
-              (record {
-                does = (
-                  n .passes .stop,
-                  n .enters (h .places) (h .vars) x s _ (ev .fits) (ev .value (x .board) (s .memory) (st .memory)) (ev .level (x .board) (s .memory) (st .memory))
-                      (room-for s vl (st .at) _ (numbered 2 _ key refl) refl) st,
-                );
-              }))
+              (n .enters (h .places) (h .vars) x s _ (ev .fits) (ev .value (x .board) (s .memory) (st .memory)) (ev .level (x .board) (s .memory) (st .memory))
+              (room-for s vl (st .at) _ (numbered 2 _ key refl) refl) st))
 
           pub whiles : c ≡ 4 → Enters enterWhile r v j a → Steps h x x r a
           unfolding commands carried number opens
           whiles key n =
-              controlling a (n .passes) (n .within (h .records) jump-within inside) (λ lent s l vl st.
+              controlling a (n .keeps) (n .within (h .records) jump-within inside) (λ lent s l vl st.
               subst (Does (Stands (h .places) (h .vars) x (a .running)) (a .stop) s)
               (sym (here-is lent s (st .at) ∙ ap (carried s lent _) (numbered 4 _ key refl)))
-              (record {
-                does = (
-                  n .passes .stop,
-                  n .enters (h .places) (h .vars) x s _ (ev .fits) (ev .value (x .board) (s .memory) (st .memory)) (ev .level (x .board) (s .memory) (st .memory))
-                      (room-for s vl (st .at) _ (numbered 4 _ key refl) refl) st,
-                );
-              }))
+              (n .enters (h .places) (h .vars) x s _ (ev .fits) (ev .value (x .board) (s .memory) (st .memory)) (ev .level (x .board) (s .memory) (st .memory))
+              (room-for s vl (st .at) _ (numbered 4 _ key refl) refl) st))
 
       -- the actions, in the context pc that the guards hold
       module _ (x′ : Slices) (a : Stepped) (pc : ℕ) (top : (bs : List Run.Block) → Holds (r .guards) bs → pc ≡ context bs) (same : SameLengths x x′)

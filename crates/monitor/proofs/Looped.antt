@@ -16,7 +16,7 @@ use Rattle.rules.specs.Run as Rules
 use Rattle.rules.specs.Run.{State, Buffers, Result, next, stop, Stop, spent, stopNumber, Ending, finished, stopped, Ended, onward, carried, step, run}
 use Rattle.rules.proofs.Tests.{Test, holds, fails, test}
 use Rattle.rules.proofs.Runs.{run-spent, run-over, run-next, run-stop}
-use Rattle.rules.proofs.Results.{Good, good-next}
+use Rattle.rules.proofs.Results.{Good, good-given, good-next}
 use Rattle.rules.proofs.Control.{Closed, Valid, step-valid}
 use Rattle.rules.proofs.Decode.{listed-length}
 use Rattle.actions.specs.declared.control.Running.{Running}
@@ -55,8 +55,8 @@ module _ (lent : Buffers) (s : State) where
   counts-command : (j : ℕ) (c : Command) → Good Counts (carried s lent j c)
   unfolding carried Rules.stepped Rules.enterIf Rules.enterWhile
   counts-command j (act a) = counts-action _
-  counts-command j (Command.if e) = refl
-  counts-command j (Command.while e) = refl
+  counts-command j (Command.if e) = good-given Counts _ _ (λ z. refl)
+  counts-command j (Command.while e) = good-given Counts _ _ (λ z. refl)
   counts-command j Command.else = refl
   counts-command j Command.end = refl
 

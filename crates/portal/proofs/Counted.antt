@@ -14,12 +14,12 @@ use Rattle.rules.specs.Tree.{Forest, Place}
 use Rattle.rules.specs.Script.{Expression, Action, Command, act, fetch}
 use Rattle.rules.specs.Check.{Checked, accepted, refused}
 use Rattle.rules.specs.Job.{Variable, script}
-use Rattle.rules.specs.Run.{Memory, State, Buffers, value, withVariables, withTree, withCursor, withLine, assign, output, moveTo, goTo, insertAt, removeAt, write, effect, stepped, enterIf, enterWhile, carried, step, start, run}
+use Rattle.rules.specs.Run.{Memory, State, Buffers, withVariables, withTree, withCursor, withLine, assign, output, moveTo, goTo, insertAt, removeAt, write, effect, stepped, enterIf, enterWhile, carried, step, start, run}
 use Rattle.rules.specs.Outcome.{Outcome, rejected, ran, answer, checkJob, budgetRule, begin, runJob}
 use Rattle.rules.specs.History.{Store, FollowOn, checkFollowOn, follow}
 use Rattle.rules.proofs.Tests.{Test, holds, fails, test, both}
 use Rattle.rules.proofs.Checks.{passed-one, passed-each}
-use Rattle.rules.proofs.Results.{Good, good-need, good-onward, good-next}
+use Rattle.rules.proofs.Results.{Good, good-need, good-given, good-onward, good-next}
 use Rattle.rules.proofs.Runs.{more, run-spent, run-over, Turn, stops, goes, turn}
 use Rattle.rules.proofs.Noninterference.{accepted-rest, turned-back, runs}
 use Rattle.rules.proofs.Stores.{followed, turned-away}
@@ -38,20 +38,21 @@ module _ (pc : Level) (m : Memory) where
   unfolding OneMore insertAt withTree
   insert-lines places p none mark e = tt
   insert-lines places p (some q) mark e =
-      good-need (OneMore m) _ _ _ λ _. good-need (OneMore m) _ _ _ λ _. good-need (OneMore m) _ _ _ λ _. good-need (OneMore m) _ _ _ λ _. omega arith
+      good-need (OneMore m) _ _ _ λ _. good-need (OneMore m) _ _ _ λ _. good-given (OneMore m) _ _ λ _.
+      good-need (OneMore m) _ _ _ λ _. good-need (OneMore m) _ _ _ λ _. omega arith
 
   effect-lines : (lent : Buffers) (a : Action) → Good (OneMore m) (effect lent pc m a)
   unfolding OneMore effect assign output moveTo removeAt write withVariables withTree withCursor withLine
   effect-lines lent Action.skip = omega arith
-  effect-lines lent (Action.assign i e) = good-need (OneMore m) _ _ _ λ _. omega arith
+  effect-lines lent (Action.assign i e) = good-need (OneMore m) _ _ _ λ _. good-given (OneMore m) _ _ λ _. omega arith
   effect-lines lent (Action.output e) =
-      good-need (OneMore m) _ _ _ λ _. good-need (OneMore m) _ _ _ λ _. omega (arith, length-append (m .lines) (value m e ∷ []))
+      good-need (OneMore m) _ _ _ λ _. good-given (OneMore m) _ _ λ z. good-need (OneMore m) _ _ _ λ _. omega (arith, length-append (m .lines) (z ∷ []))
   effect-lines lent Action.goRoot = good-need (OneMore m) _ _ _ λ _. omega arith
   effect-lines lent Action.goParent = go-lines _
   effect-lines lent (Action.go d) = go-lines _
   effect-lines lent (Action.insert d mark e) = insert-lines _ _ _ mark e
   effect-lines lent (Action.remove d) = good-need (OneMore m) _ _ _ λ _. good-need (OneMore m) _ _ _ λ _. omega arith
-  effect-lines lent (Action.write e) = good-need (OneMore m) _ _ _ λ _. omega arith
+  effect-lines lent (Action.write e) = good-need (OneMore m) _ _ _ λ _. good-given (OneMore m) _ _ λ _. omega arith
   effect-lines lent Action.raise = good-need (OneMore m) _ _ _ λ _. omega arith
 
 module _ (lent : Buffers) (cs : List Command) where
@@ -62,8 +63,8 @@ module _ (lent : Buffers) (cs : List Command) where
   carried-lines : (s : State) (j : ℕ) (c : Command) → Good (Next s) (carried s lent j c)
   unfolding OneMore Next carried enterIf enterWhile stepped
   carried-lines s j (act a) = good-onward (OneMore (s .memory)) (Next s) s (λ m h. h) _ (effect-lines _ (s .memory) lent a)
-  carried-lines s j (Command.if e) = omega arith
-  carried-lines s j (Command.while e) = omega arith
+  carried-lines s j (Command.if e) = good-given (Next s) _ _ λ _. omega arith
+  carried-lines s j (Command.while e) = good-given (Next s) _ _ λ _. omega arith
   carried-lines s j Command.else = omega arith
   carried-lines s j Command.end = omega arith
 

@@ -8,7 +8,7 @@ use lib.ListN.{take}
 use Rattle.rules.specs.Limits.{maxBudget, badFollowOn}
 use Rattle.rules.specs.Level.{Level}
 use Rattle.rules.specs.Number.{range}
-use Rattle.rules.specs.Run.{Stop, flow, absent, tableFull, boardFull, spent, low, stopNumber, Ending, finished, stopped}
+use Rattle.rules.specs.Run.{Stop, flow, absent, tableFull, boardFull, spent, low, overflow, stopNumber, Ending, finished, stopped}
 use Rattle.rules.specs.Outcome as Rules
 use Rattle.rules.specs.Outcome.{endingNumber, answer, LowNeverGiven}
 use Rattle.rules.specs.Public.{Comparable}
@@ -59,6 +59,7 @@ from-flow tableFull h = omega arith
 from-flow boardFull h = omega arith
 from-flow spent h = omega arith
 from-flow low h = omega arith
+from-flow overflow h = omega arith
 
 ended-back : (e : Ending) → 0 < endingNumber e → endingNumber e < stopNumber flow → ⊥
 unfolding endingNumber
