@@ -362,11 +362,12 @@ pub fn wanted() -> Vec<String> {
     let reachable = |ending: &Ending| ![Ending::Standing, Ending::BelowExistence].contains(ending);
     names.extend(Ending::ALL.into_iter().filter(reachable).map(ending_name));
     names.extend(LONG_RUNS.map(length_name));
-    let stops: [(Ending, &[u8]); 4] = [
+    let stops: [(Ending, &[u8]); 5] = [
         (Ending::Rule, &[1, 6, 7, 8, 9, 10, 11, 12, 13, 14, 15, 16]),
         (Ending::Missing, &[8, 9, 10, 12, 13, 14]),
         (Ending::TableFull, &[11, 12]),
         (Ending::LinesFull, &[6]),
+        (Ending::OutOfRange, &[1, 2, 4, 6, 11, 12, 15]),
     ];
     for (ending, commands) in stops {
         names.extend(commands.iter().map(|&command| stop_name(ending, command)));

@@ -23,7 +23,11 @@ pub enum Mistake {
     MeanRoundsTowardZero,
     MeanOfWrappedSum,
     SumSaturates,
+    SumWraps,
+    DifferenceWraps,
     LessIsUnsigned,
+    /// The mean is 27 where the sum leaves the range.
+    MeanOfSumInRange,
     // Other rules of a step.
     /// An expression's level is that of its left operand.
     RightLevelForgotten,
@@ -33,6 +37,12 @@ pub enum Mistake {
     GuardJoinsCursorLevel,
     /// A move is tested for its rule before its node.
     RuleBeforeMissing,
+    /// 27 is given before 21.
+    RangeBeforeRule,
+    /// 27 is given after 23 and 24.
+    RangeAfterRoom,
+    /// A guard outside the range wraps.
+    GuardsWrap,
     /// 23 is given at 512 live nodes, whatever the places lent.
     TableFullAt512,
     /// A record that stops counts as a step.
@@ -80,7 +90,7 @@ pub const RULED_COMMANDS: [u8; 12] = [1, 6, 7, 8, 9, 10, 11, 12, 13, 14, 15, 16]
 
 impl Mistake {
     /// Every mistake that a job shows, without `None` and `NoRule`.
-    pub const ALL: [Mistake; 18] = [
+    pub const ALL: [Mistake; 24] = [
         Mistake::MoveRaisesCursorLevel,
         Mistake::ChildrenLevelFromChildren,
         Mistake::RootResetsCursorLevel,
@@ -89,11 +99,17 @@ impl Mistake {
         Mistake::MeanRoundsTowardZero,
         Mistake::MeanOfWrappedSum,
         Mistake::SumSaturates,
+        Mistake::SumWraps,
+        Mistake::DifferenceWraps,
         Mistake::LessIsUnsigned,
+        Mistake::MeanOfSumInRange,
         Mistake::RightLevelForgotten,
         Mistake::InsertionIgnoresNeighbour,
         Mistake::GuardJoinsCursorLevel,
         Mistake::RuleBeforeMissing,
+        Mistake::RangeBeforeRule,
+        Mistake::RangeAfterRoom,
+        Mistake::GuardsWrap,
         Mistake::TableFullAt512,
         Mistake::StopCountsStep,
         Mistake::LeftIsPreviousRecord,

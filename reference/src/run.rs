@@ -164,9 +164,9 @@ fn check_limits(job: &Job, limits: &Limits) -> Option<Ending> {
     }
 }
 
-/// An expression's value and its level E.
+/// An expression's exact result and its level E.
 struct Evaluated {
-    value: i32,
+    result: i64,
     level: Level,
 }
 
@@ -320,17 +320,18 @@ impl<'a> Monitor<'a> {
         let expression = self.evaluate(record);
         let l = join(expression.level, self.c());
         let target = record.target as usize;
-        self.rule(l <= self.state.variables[target].0)?;
-        self.state.variables[target].1 = expression.value;
+        let rule = self.rule(l <= self.state.variables[target].0);
+        self.state.variables[target].1 = self.value(&expression, rule, Ok(()))?;
         Ok(())
     }
 
     /// Command 2: "push E; zero goes past else, or to end if none".
     fn open_if(&mut self, record: &Record) -> Result<(), Ending> {
         let guard = self.evaluate(record);
+        let value = self.guard_value(&guard)?;
         let block = self.block();
         self.push_guard(guard.level);
-        self.state.next = match (guard.value, block.otherwise) {
+        self.state.next = match (value, block.otherwise) {
             (0, Some(otherwise)) => {
                 if self.mistake == Mistake::ElseForgetsGuard {
                     self.state.guards.pop();
@@ -353,7 +354,7 @@ impl<'a> Monitor<'a> {
     /// Command 4: "nonzero: push E; zero: go past end, no push".
     fn open_while(&mut self, record: &Record) -> Result<(), Ending> {
         let guard = self.evaluate(record);
-        if guard.value == 0 {
+        if self.guard_value(&guard)? == 0 {
             self.state.next = self.block().end + 1;
         } else {
             self.push_guard(guard.level);
@@ -384,11 +385,13 @@ impl<'a> Monitor<'a> {
     /// Command 6: "L is 0"; 24 where the line buffer is full.
     fn print(&mut self, record: &Record) -> Result<(), Ending> {
         let expression = self.evaluate(record);
-        self.rule(join(expression.level, self.c()) == PUBLIC)?;
-        if self.state.lines.len() == self.limits.lines {
-            return Err(Ending::LinesFull);
-        }
-        self.state.lines.push(expression.value);
+        let l = join(expression.level, self.c());
+        let room = match self.state.lines.len() == self.limits.lines {
+            true => Err(Ending::LinesFull),
+            false => Ok(()),
+        };
+        let line = self.value(&expression, self.rule(l == PUBLIC), room)?;
+        self.state.lines.push(line);
         Ok(())
     }
 
@@ -457,9 +460,9 @@ impl<'a> Monitor<'a> {
     fn new_first_child(&mut self, record: &Record) -> Result<(), Ending> {
         let expression = self.evaluate(record);
         let parent = self.working_node();
-        self.insertion_rule(parent, parent.children.first())?;
-        self.insertion_room()?;
-        let node = self.new_node(record, &expression);
+        let rule = self.insertion_rule(parent, parent.children.first());
+        let value = self.value(&expression, rule, self.insertion_room())?;
+        let node = self.new_node(record, expression.level, value);
         let cursor = &self.state.cursor;
         self.state.tree.at_mut(cursor).children.insert(0, node);
         Ok(())
@@ -471,9 +474,9 @@ impl<'a> Monitor<'a> {
         let expression = self.evaluate(record);
         let (place, above) = self.state.cursor.split_last().ok_or(Ending::Missing)?;
         let parent = self.state.tree.at(above);
-        self.insertion_rule(parent, parent.children.get(place + 1))?;
-        self.insertion_room()?;
-        let node = self.new_node(record, &expression);
+        let rule = self.insertion_rule(parent, parent.children.get(place + 1));
+        let value = self.value(&expression, rule, self.insertion_room())?;
+        let node = self.new_node(record, expression.level, value);
         self.state
             .tree
             .at_mut(above)
@@ -511,12 +514,12 @@ impl<'a> Monitor<'a> {
 
     /// "content is L, and 1 if the mark is odd; list is C, and 1 if the mark
     /// is 2 or 3"
-    fn new_node(&self, record: &Record, expression: &Evaluated) -> Tree {
+    fn new_node(&self, record: &Record, e: Level, value: i32) -> Tree {
         let c = self.c();
-        let l = join(expression.level, c);
+        let l = join(e, c);
         let mark = record.target;
         Tree {
-            value: expression.value,
+            value,
             existence: c,
             content: if mark % 2 == 1 { HOUSE } else { l },
             list: if mark == 2 || mark == 3 { HOUSE } else { c },
@@ -554,9 +557,11 @@ impl<'a> Monitor<'a> {
     /// Command 15: "L not above its content".
     fn set_value(&mut self, record: &Record) -> Result<(), Ending> {
         let expression = self.evaluate(record);
-        self.rule(join(expression.level, self.c()) <= self.working_node().content)?;
+        let l = join(expression.level, self.c());
+        let rule = self.rule(l <= self.working_node().content);
+        let value = self.value(&expression, rule, Ok(()))?;
         let cursor = &self.state.cursor;
-        self.state.tree.at_mut(cursor).value = expression.value;
+        self.state.tree.at_mut(cursor).value = value;
         Ok(())
     }
 
@@ -567,6 +572,32 @@ impl<'a> Monitor<'a> {
         Ok(())
     }
 
+    /// The value that a command goes on with, where its rule holds (21) and there
+    /// is room for what it makes (26, 23, 24). 27: "a result outside signed 32
+    /// bits, given after 21 and before 26".
+    fn value(
+        &self,
+        expression: &Evaluated,
+        rule: Result<(), Ending>,
+        room: Result<(), Ending>,
+    ) -> Result<i32, Ending> {
+        let value = in_range(expression.result);
+        match self.mistake {
+            Mistake::RangeBeforeRule => value.and(rule).and(room)?,
+            Mistake::RangeAfterRoom => rule.and(room)?,
+            _ => rule.and(value.and(room))?,
+        }
+        value
+    }
+
+    /// The value of a guard: no rule is tested, and nothing is made.
+    fn guard_value(&self, guard: &Evaluated) -> Result<i32, Ending> {
+        match self.mistake {
+            Mistake::GuardsWrap => Ok(guard.result as i32),
+            _ => in_range(guard.result),
+        }
+    }
+
     /// "E is an expression's level: the join over the operands read".
     fn evaluate(&self, record: &Record) -> Evaluated {
         let left = self.operand(record.left_kind, record.left);
@@ -575,7 +606,7 @@ impl<'a> Monitor<'a> {
         }
         let right = self.operand(record.right_kind, record.right);
         Evaluated {
-            value: combine(record.operator, left.value, right.value, self.mistake),
+            result: combine(record.operator, left.result, right.result, self.mistake),
             level: match self.mistake {
                 Mistake::RightLevelForgotten => left.level,
                 _ => join(left.level, right.level),
@@ -589,19 +620,22 @@ impl<'a> Monitor<'a> {
         let node = self.working_node();
         match kind {
             kind::CONSTANT => Evaluated {
-                value: number as i32,
+                result: i64::from(number as i32),
                 level: PUBLIC,
             },
             kind::VARIABLE => {
                 let (level, value) = self.state.variables[number as usize];
-                Evaluated { value, level }
+                Evaluated {
+                    result: i64::from(value),
+                    level,
+                }
             }
             kind::VALUE => Evaluated {
-                value: node.value,
+                result: i64::from(node.value),
                 level: join(self.state.cursor_level, node.content),
             },
             kind::CHILDREN => Evaluated {
-                value: node.children.len() as i32,
+                result: node.children.len() as i64,
                 level: join(self.state.cursor_level, self.children_level(node)),
             },
             other => unreachable!("kind {other} does not pass check 7"),
@@ -620,21 +654,32 @@ impl<'a> Monitor<'a> {
     }
 }
 
-/// "Sums and differences wrap at 32 bits. The mean is rounded down, below zero
-/// too, of the exact sum."
-fn combine(operator: u8, left: i32, right: i32, mistake: Mistake) -> i32 {
+fn in_range(result: i64) -> Result<i32, Ending> {
+    i32::try_from(result).map_err(|_| Ending::OutOfRange)
+}
+
+/// The exact result: a sum or difference may leave signed 32 bits. "The mean is
+/// rounded down, below zero too, of the exact sum."
+fn combine(operator: u8, left: i64, right: i64, mistake: Mistake) -> i64 {
     match (operator, mistake) {
-        (operator::SUM, Mistake::SumSaturates) => left.saturating_add(right),
-        (operator::LESS, Mistake::LessIsUnsigned) => ((left as u32) < right as u32) as i32,
-        (operator::MEAN, Mistake::MeanOfWrappedSum) => left.wrapping_add(right).div_euclid(2),
-        (operator::MEAN, Mistake::MeanRoundsTowardZero) => {
-            ((i64::from(left) + i64::from(right)) / 2) as i32
+        (operator::SUM, Mistake::SumSaturates) => {
+            (left + right).clamp(i64::from(i32::MIN), i64::from(i32::MAX))
         }
-        (operator::SUM, _) => left.wrapping_add(right),
-        (operator::DIFFERENCE, _) => left.wrapping_sub(right),
-        (operator::EQUAL, _) => (left == right) as i32,
-        (operator::LESS, _) => (left < right) as i32,
-        (operator::MEAN, _) => (i64::from(left) + i64::from(right)).div_euclid(2) as i32,
+        (operator::SUM, Mistake::SumWraps) => i64::from((left + right) as i32),
+        (operator::DIFFERENCE, Mistake::DifferenceWraps) => i64::from((left - right) as i32),
+        (operator::LESS, Mistake::LessIsUnsigned) => ((left as u32) < right as u32) as i64,
+        (operator::MEAN, Mistake::MeanOfWrappedSum) => {
+            i64::from((left + right) as i32).div_euclid(2)
+        }
+        (operator::MEAN, Mistake::MeanOfSumInRange) if i32::try_from(left + right).is_err() => {
+            left + right
+        }
+        (operator::MEAN, Mistake::MeanRoundsTowardZero) => (left + right) / 2,
+        (operator::SUM, _) => left + right,
+        (operator::DIFFERENCE, _) => left - right,
+        (operator::EQUAL, _) => (left == right) as i64,
+        (operator::LESS, _) => (left < right) as i64,
+        (operator::MEAN, _) => (left + right).div_euclid(2),
         (other, _) => unreachable!("operator {other} does not pass check 7"),
     }
 }

@@ -21,20 +21,25 @@ pub fn run(buffers: &mut Buffers, job: &[u8], limits: Limits, area: &mut [u8]) -
     steps(buffers, limits.budget as u32, limits.places, area)
 }
 
-/// An expression's value and its level E.
+/// An expression's value, none where it leaves the range, and its level E.
 #[inline(always)]
-fn evaluate(op: &Op, variables: &[Variable; MAX_VARIABLES], node: &Node, level: u8) -> (i32, u8) {
+fn evaluate(
+    op: &Op,
+    variables: &[Variable; MAX_VARIABLES],
+    node: &Node,
+    level: u8,
+) -> (Option<i32>, u8) {
     let (left, left_level) = operand(op.left_kind, op.left, variables, node, level);
     if op.operator == operator::LEFT {
-        return (left, left_level);
+        return (Some(left), left_level);
     }
     let (right, right_level) = operand(op.right_kind, op.right, variables, node, level);
     let value = match op.operator {
-        operator::SUM => left.wrapping_add(right),
-        operator::DIFFERENCE => left.wrapping_sub(right),
-        operator::EQUAL => (left == right) as i32,
-        operator::LESS => (left < right) as i32,
-        _ => ((left as i64 + right as i64) >> 1) as i32,
+        operator::SUM => left.checked_add(right),
+        operator::DIFFERENCE => left.checked_sub(right),
+        operator::EQUAL => Some((left == right) as i32),
+        operator::LESS => Some((left < right) as i32),
+        _ => Some(((left as i64 + right as i64) >> 1) as i32),
     };
     (value, left_level | right_level)
 }
@@ -124,11 +129,17 @@ pub fn steps(buffers: &mut Buffers, budget: u32, places: usize, area: &mut [u8])
                 if e | c > target.level {
                     break (ending::RULE, next);
                 }
+                let Some(value) = value else {
+                    break (ending::OUT_OF_RANGE, next);
+                };
                 target.value = value;
                 next += 1;
             }
             code::IF => {
                 let (value, e) = evaluate(op, variables, arena.at(cursor), cursor_level);
+                let Some(value) = value else {
+                    break (ending::OUT_OF_RANGE, next);
+                };
                 guards = guards << 1 | e as u32;
                 next = if value == 0 {
                     op.jump as usize
@@ -139,6 +150,9 @@ pub fn steps(buffers: &mut Buffers, budget: u32, places: usize, area: &mut [u8])
             code::ELSE => next = op.jump as usize,
             code::WHILE => {
                 let (value, e) = evaluate(op, variables, arena.at(cursor), cursor_level);
+                let Some(value) = value else {
+                    break (ending::OUT_OF_RANGE, next);
+                };
                 if value == 0 {
                     next = op.jump as usize;
                 } else {
@@ -159,6 +173,9 @@ pub fn steps(buffers: &mut Buffers, budget: u32, places: usize, area: &mut [u8])
                 if e | c != 0 {
                     break (ending::RULE, next);
                 }
+                let Some(value) = value else {
+                    break (ending::OUT_OF_RANGE, next);
+                };
                 let Some(line) = area.get_mut(4 * lines..4 * lines + 4) else {
                     break (ending::LINES_FULL, next);
                 };
@@ -202,6 +219,9 @@ pub fn steps(buffers: &mut Buffers, budget: u32, places: usize, area: &mut [u8])
                 if c > node.list || !below_old {
                     break (ending::RULE, next);
                 }
+                let Some(value) = value else {
+                    break (ending::OUT_OF_RANGE, next);
+                };
                 if c < node.existence {
                     break (ending::BELOW_EXISTENCE, next);
                 }
@@ -220,6 +240,9 @@ pub fn steps(buffers: &mut Buffers, budget: u32, places: usize, area: &mut [u8])
                 if c > arena.at(node.parent).list || !below_old {
                     break (ending::RULE, next);
                 }
+                let Some(value) = value else {
+                    break (ending::OUT_OF_RANGE, next);
+                };
                 if c < node.existence {
                     break (ending::BELOW_EXISTENCE, next);
                 }
@@ -256,6 +279,9 @@ pub fn steps(buffers: &mut Buffers, budget: u32, places: usize, area: &mut [u8])
                 if e | c > node.content {
                     break (ending::RULE, next);
                 }
+                let Some(value) = value else {
+                    break (ending::OUT_OF_RANGE, next);
+                };
                 node.value = value;
                 next += 1;
             }

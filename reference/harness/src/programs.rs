@@ -86,6 +86,7 @@ fn name(ending: Ending) -> &'static str {
         Ending::LinesFull => "board full",
         Ending::BudgetUsed => "budget used up",
         Ending::BelowExistence => "context below the node",
+        Ending::OutOfRange => "result out of range",
     }
 }
 

@@ -144,7 +144,7 @@ impl Writer<'_> {
         let mistake = likely_mistake(self.random);
         let goes_on = &mut |script: &[Record]| {
             let ending = trial_ending(&standing, script, mistake);
-            ending != Ending::Rule && ending != Ending::Missing
+            ![Ending::Rule, Ending::Missing, Ending::OutOfRange].contains(&ending)
         };
         match self.random.below(12) {
             0 => Vec::new(),

@@ -15,10 +15,11 @@ use nodes::Growth;
 pub use pairs::{pair, Pair};
 
 use crate::ending::Ending;
-use crate::job::{Job, Record, Variable, MAX_VARIABLES};
+use crate::job::{Job, Record, Variable, MAX_VARIABLES, READS};
 use crate::mistake::{Mistake, RULED_COMMANDS};
 use crate::random::Random;
 use crate::run::{Limits, Monitor, Standing, MAX_BUDGET, MAX_PLACES};
+use crate::source::with;
 use crate::{Level, HOUSE, PUBLIC};
 
 /// The bytes of a job, with a budget and the sizes of the buffers.
@@ -59,7 +60,7 @@ fn valid_job(random: &mut Random) -> (Job, Limits) {
     let standing = Standing::of(&job);
     let goes_on = &mut |script: &[Record]| {
         let ending = trial_ending(&standing, script, mistake);
-        ending != Ending::Rule && ending != Ending::Missing
+        ![Ending::Rule, Ending::Missing, Ending::OutOfRange].contains(&ending)
     };
     let script = match random.below(30) {
         0..=9 => script::any(random, &levels, &mut |_| true),
@@ -68,19 +69,55 @@ fn valid_job(random: &mut Random) -> (Job, Limits) {
     };
     job.script = script;
     let limits = limits(random, &job);
+    if random.chance(1, 5) {
+        go_to_the_edge(random, &mut job, &limits);
+    }
     if random.chance(1, 2) {
         add_noise(random, &mut job);
     }
     (job, limits)
 }
 
+/// Gives one record a result at an end of the 32-bit range: half of the time the
+/// record that the run stops at, so that one stop comes before another.
+fn go_to_the_edge(random: &mut Random, job: &mut Job, limits: &Limits) {
+    let reads = |record: &Record| READS[usize::from(record.command)].expression;
+    let readers: Vec<usize> = (0..job.script.len())
+        .filter(|&index| reads(&job.script[index]))
+        .collect();
+    if readers.is_empty() {
+        return;
+    }
+    let (_, stop) = trial_end(&Standing::of(job), &job.script, limits, Mistake::None);
+    let place = match readers.contains(&stop) && random.chance(1, 2) {
+        true => stop,
+        false => random.pick(&readers),
+    };
+    let record = job.script[place];
+    job.script[place] = with(record.command, record.target, script::at_the_edge(random));
+}
+
 /// How `script` ends over what stands within a few steps, by a
 /// monitor with `mistake`. Scripts that grow by this trial run long, and go on
 /// where a wrong monitor would go on.
 fn trial_ending(standing: &Standing, script: &[Record], mistake: Mistake) -> Ending {
-    let limits = Limits::ample(400);
+    trial_end(standing, script, &Limits::ample(400), mistake).0
+}
+
+/// How `script` ends within a few steps, and at which record.
+fn trial_end(
+    standing: &Standing,
+    script: &[Record],
+    limits: &Limits,
+    mistake: Mistake,
+) -> (Ending, usize) {
+    let limits = Limits {
+        budget: limits.budget.min(400),
+        ..*limits
+    };
     let monitor = Monitor::new(script, standing, &limits, mistake);
-    monitor.run(&mut |_, _| {}).0
+    let (ending, index, _) = monitor.run(&mut |_, _| {});
+    (ending, index)
 }
 
 /// None, or one by which more scripts finish.

@@ -103,6 +103,20 @@ pub fn looking(random: &mut Random, levels: &[Level], accept: Accept) -> Vec<Rec
     writer.script
 }
 
+/// A sum or difference at an end of the 32-bit range: the last that fits, or,
+/// mostly, the first that does not.
+pub fn at_the_edge(random: &mut Random) -> Expression {
+    let more = random.chance(3, 4) as i32;
+    let (most, least) = (constant(i32::MAX), constant(i32::MIN));
+    random.pick(&[
+        sum(most, constant(more)),
+        sum(constant(more), most),
+        sum(least, constant(-more)),
+        difference(least, constant(more)),
+        difference(most, constant(-more)),
+    ])
+}
+
 /// How often a script makes each choice. Scripts that favour one choice reach
 /// more than scripts that all favour the same.
 struct Taste {

@@ -125,10 +125,14 @@ fn places_of_a_subtree() {
 fn numbers() {
     let (most, least) = (constant(i32::MAX), constant(i32::MIN));
     for (expression, expected) in [
-        (sum(most, constant(1)), i32::MIN),
-        (sum(least, least), 0),
-        (difference(least, constant(1)), i32::MAX),
-        (difference(constant(0), least), i32::MIN),
+        (sum(most, constant(0)), i32::MAX),
+        (sum(constant(i32::MAX - 1), constant(1)), i32::MAX),
+        (sum(most, least), -1),
+        (sum(least, constant(0)), i32::MIN),
+        (sum(constant(i32::MIN + 1), constant(-1)), i32::MIN),
+        (difference(constant(-1), most), i32::MIN),
+        (difference(constant(-1), least), i32::MAX),
+        (difference(least, least), 0),
         (difference(constant(3), constant(5)), -2),
         (mean(most, most), i32::MAX),
         (mean(least, least), i32::MIN),

@@ -462,3 +462,86 @@ fn ending_26_context_below_the_node() {
         }
     }
 }
+
+/// "a sum or difference that leaves the range ends the command, for every
+/// command that reads an expression"
+#[test]
+fn ending_27_out_of_range() {
+    let (most, least, one) = (constant(i32::MAX), constant(i32::MIN), constant(1));
+    for result in [
+        sum(most, one),
+        sum(one, most),
+        sum(least, constant(-1)),
+        sum(least, least),
+        difference(least, one),
+        difference(least, most),
+        difference(most, constant(-1)),
+        difference(constant(0), least),
+    ] {
+        for script in reading(result) {
+            let outcome = run(&trial_job(1, &script));
+            let stop = (27, 1, 1, vec![]);
+            assert_eq!(answer(&outcome), stop, "{result:?}\n{script:?}");
+            // Nothing has changed.
+            assert_eq!(
+                last_tree(&outcome),
+                [row(0, [0, 0, 0], 10), row(1, [0, 0, 0], 3)]
+            );
+            assert_eq!(last_values(&outcome), [0, 1]);
+        }
+    }
+    // "The mean is exact and never does", nor do the others.
+    for result in [mean(most, most), equal(most, least), less(least, most)] {
+        for script in reading(result) {
+            let outcome = run_with(&trial_job(1, &script), &Limits::ample(3));
+            assert_ne!(outcome.ending.number(), 27, "{result:?}\n{script:?}");
+        }
+    }
+}
+
+/// A step to the first child, and then each command that reads an expression.
+fn reading(result: Expression) -> Vec<Vec<Record>> {
+    let commands = [
+        assign(0, result),
+        print(result),
+        new_first_child(0, result),
+        new_right_sibling(0, result),
+        set_value(result),
+    ];
+    let blocks = [when(result), repeat(result)];
+    let alone = commands.map(|record| vec![first_child(), record]);
+    let with_end = blocks.map(|opening| vec![first_child(), opening, end()]);
+    alone.into_iter().chain(with_end).collect()
+}
+
+/// "given after 21 and before 26", and so before 23 and 24.
+#[test]
+fn order_of_27() {
+    let over = sum(constant(i32::MAX), constant(1));
+    let full = Limits {
+        places: 2,
+        lines: 0,
+        ..Limits::ample(100)
+    };
+    let ends = |script: &[Record]| answer(&run_with(&trial_job(1, script), &full)).0;
+    // 22, then 21.
+    assert_eq!(ends(&[new_right_sibling(0, over)]), 22);
+    for record in [new_first_child(0, over), set_value(over)] {
+        assert_eq!(ends(&[cover(), record]), 21, "{record:?}");
+    }
+    let house_over = sum(constant(i32::MAX), variable(1));
+    for record in [assign(0, house_over), print(house_over)] {
+        assert_eq!(ends(&[record]), 21, "{record:?}");
+    }
+    assert_eq!(ends(&[assign(1, house_over)]), 27);
+    // Then 23 or 24.
+    assert_eq!(ends(&[new_first_child(0, over)]), 27);
+    assert_eq!(ends(&[new_first_child(0, 1)]), 23);
+    assert_eq!(ends(&[first_child(), new_right_sibling(0, over)]), 27);
+    assert_eq!(ends(&[first_child(), new_right_sibling(0, 1)]), 23);
+    assert_eq!(ends(&[print(over)]), 27);
+    assert_eq!(ends(&[print(1)]), 24);
+    // 25 comes before the record is looked at.
+    let spent = run_with(&trial_job(1, &[nothing(), print(over)]), &Limits::ample(1));
+    assert_eq!(answer(&spent), (25, 1, 1, vec![]));
+}

@@ -133,6 +133,7 @@ fn trial_12_arithmetic() {
     ];
     assert_eq!(
         answer(&run(&trial_job(1, &script))),
-        (0, 0, 2, vec![-2, -2_147_483_648])
+        // "The second half of trial 12 now stops with 27."
+        (27, 1, 1, vec![-2])
     );
 }
