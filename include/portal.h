@@ -20,9 +20,9 @@
 #include <stdint.h>
 
 /* The version of this header and of the library beside it. The first number changes where a program must be changed. */
-#define PORTAL_VERSION "1.2.0"
+#define PORTAL_VERSION "1.3.0"
 #define PORTAL_VERSION_MAJOR 1
-#define PORTAL_VERSION_MINOR 2
+#define PORTAL_VERSION_MINOR 3
 #define PORTAL_VERSION_PATCH 0
 
 /* The largest job, in bytes. Read up to one byte more, so that a longer one is seen and turned back. */
@@ -73,7 +73,8 @@ enum {
     PORTAL_TABLE_FULL = 23,         /* a new node, where there are as many as places */
     PORTAL_BOARD_FULL = 24,         /* a board line, where the area is full */
     PORTAL_BUDGET_USED_UP = 25,     /* as many steps as the budget allows */
-    PORTAL_LOW_CONTEXT = 26         /* a new node, less secret than the node worked at; it is proved that no call gives this */
+    PORTAL_LOW_CONTEXT = 26,        /* a new node, less secret than the node worked at; it is proved that no call gives this */
+    PORTAL_OUT_OF_RANGE = 27        /* a sum or a difference outside signed 32 bits */
 };
 
 /* Runs one job.
@@ -189,6 +190,7 @@ static inline const char *portal_ending_name(int ending) {
     case PORTAL_BOARD_FULL: return "board full";
     case PORTAL_BUDGET_USED_UP: return "budget used up";
     case PORTAL_LOW_CONTEXT: return "context below the node";
+    case PORTAL_OUT_OF_RANGE: return "result out of range";
     default: return "unknown";
     }
 }

@@ -8,7 +8,7 @@ import unittest
 from support import HOME, assembled, job, program
 
 # "Ways a job can end" of paper 01, and 11 of paper 02, which no job ends with: it is for follow-on scripts alone.
-NUMBERS = [*range(1, 12), *range(21, 27)]
+NUMBERS = [*range(1, 12), *range(21, 28)]
 BY_REPLAY = (9, 10)
 BY_HISTORY = 11
 NEVER = 26

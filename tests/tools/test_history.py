@@ -369,7 +369,7 @@ class Followed(unittest.TestCase):
                 standing = job.Standing(run_of.values, run_of.root)
                 seen.add(run_of.ending)
                 followed += data is not None and run_of.steps > 0
-        self.assertEqual(seen, {0, 7, 8, 11, 21, 22, 23, 24, 25})
+        self.assertEqual(seen, {0, 7, 8, 11, 21, 22, 23, 24, 25, 27})
         self.assertGreater(followed, 50)
 
     def test_examples(self):

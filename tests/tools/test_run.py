@@ -105,6 +105,18 @@ class Stopped(unittest.TestCase):
         self.stops(script("first child", "remove first child"), FIRST + 1, 3, 22, "1 step", "slope has no child", "`if children`")
         self.stops(script("first child", "right sibling"), FIRST + 1, 3, 22, "1 step", "slope has no sibling to its right")
 
+    def test_results_out_of_range(self):
+        self.stops(script("v := 2147483647 + 1"), FIRST, 3, 27, "0 steps", "from -2147483648 to 2147483647",
+                   "2147483647 + 1 is 2147483648, which is above them", "take `mean`")
+        self.stops(script("if -2147483648 - 1", "  nothing"), FIRST, 3, 27, "0 steps", "-2147483648 - 1 is -2147483649, which is below them")
+        self.stops(script("set value - -2147483648"), FIRST, 3, 27, "0 steps", "10 - (-2147483648) is 2147483658, which is above them")
+        self.stops(script("while 1", "  v := v + 2000000000"), FIRST + 1, 5, 27, "4 steps", "2000000000 + 2000000000 is 4000000000",
+                   "Look at the loop of line 8, `while 1`")
+
+    def test_order_of_a_result_out_of_range(self):
+        self.stops(script("new right sibling: 2147483647 + 1"), FIRST, 3, 22, "0 steps", "resort is the root")
+        self.stops(script("v := 2147483647 + h"), FIRST, 3, 21, "0 steps", "h house a variable")
+
     def test_full_table(self):
         self.stops(script("while 1", "  new first child: 1"), FIRST + 1, 5, 23, "1,531 steps",
                    "The tree has 512 nodes, and there is room for 512", "Look at the loop of line 8, `while 1`")
@@ -178,6 +190,10 @@ class Advice(unittest.TestCase):
         self.advised(["cover", "if h"], "  print 1", "Put the print outside the block of line 9",
                      ["cover", "if h", "  nothing", "root", "print 1"])
         self.assertIn("Write `root` before the print there", run(script("cover", "if h", "  print 1")).output)
+
+    def test_a_mean_in_place_of_a_sum(self):
+        self.advised(["v := 2147483647"], "v := v + 1", "For an average take `mean`: it is exact, and never leaves the range.",
+                     ["v := 2147483647", "v := mean(v, 1)"])
 
     def test_cover_before_a_move(self):
         self.advised(["if h"], "  first child", "Write `cover` before line 8", ["cover", "if h", "  first child", "root", "print value"])
@@ -297,7 +313,7 @@ class Followed(unittest.TestCase):
             seen.add(state.ending)
             if state.ending:
                 self.assertTrue(job.account_lines(job.Account(state)))
-        self.assertEqual(seen, {0, 21, 22, 23, 24, 25})
+        self.assertEqual(seen, {0, 21, 22, 23, 24, 25, 27})
 
     def test_examples(self):
         for path in examples():

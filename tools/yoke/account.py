@@ -7,14 +7,17 @@ from typing import NamedTuple
 from .checks import describe, plural
 from .commands import (
     ASSIGN, CHILDREN, END, FIRST_CHILD, INSERTIONS, NAMED, NEW_FIRST_CHILD, PRINT, REMOVALS, REMOVE_FIRST_CHILD,
-    SET, VALUE, WHILE)
-from .endings import ABSENT, FINISHED, FLOW, FULL_BOARD, FULL_TABLE, USED_UP, ending_text
+    SET, SUM, VALUE, WHILE)
+from .endings import ABSENT, FINISHED, FLOW, FULL_BOARD, FULL_TABLE, OVERFLOW, USED_UP, ending_text
 from .errors import quoted
 from .limits import ASKED_LINES, HOUSE, LEVELS, MAX_BUDGET, MAX_NODES, PROGRAM, PUBLIC
 from .listing import levels_text, record_text
 from .pictures import text_picture
 from .rules import RULES
 from .run import drawn_tree
+
+
+MOST, LEAST = 2 ** 31 - 1, -2 ** 31
 
 
 class Reason(NamedTuple):
@@ -47,7 +50,7 @@ class Account:
         self.reasons = []
         self.advice = []
         {FLOW: self.flow, ABSENT: self.absent, FULL_TABLE: self.table, FULL_BOARD: self.board,
-         USED_UP: self.budget}.get(run.ending, self.unknown)()
+         USED_UP: self.budget, OVERFLOW: self.overflow}.get(run.ending, self.unknown)()
 
     def line_of(self, record):
         return self.source.names.record_places[record].line
@@ -251,6 +254,18 @@ class Account:
         self.inside_loop()
         self.advice.append("A loop ends when its guard is 0. Change a number of the guard inside the loop, as in `n := n - 1`.")
         self.more("budget", self.run.limits.budget, MAX_BUDGET)
+
+    def overflow(self):
+        result, _ = self.run.evaluate(self.record)
+        left, right = (self.run.operand(kind, number)[0] for kind, number in self.record.operands())
+        sign = "+" if self.record.operator == SUM else "-"
+        shown = f"({right})" if right < 0 else right
+        self.rule = (f"Numbers are signed 32 bits wide, from {LEAST} to {MOST}. {left} {sign} {shown} is {result}, "
+                     f"which is {'above' if result > MOST else 'below'} them.")
+        if self.record.operator == SUM:
+            self.advice.append("For an average take `mean`: it is exact, and never leaves the range.")
+        self.advice.append("Keep totals small: count in larger units, or print a part and start the total anew at 0.")
+        self.inside_loop()
 
     def unknown(self):
         self.rule = "It is proved that no run ends so. Please tell the planner."

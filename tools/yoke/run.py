@@ -6,7 +6,7 @@ from .commands import (
     ALONE, ASSIGN, COMMANDS, CONSTANT, COVER, DIFFERENCE, ELSE, END, EQUAL, FIRST_CHILD, LESS, MARK_CONTENT, MARK_LIST, MEAN,
     MOVES, NAMED, NEW_FIRST_CHILD, PRINT, REMOVALS, REMOVE_FIRST_CHILD, ROOT, SET, SUM, UP, VALUE, WHILE)
 from .encoding import Node, signed
-from .endings import ABSENT, BELOW, FINISHED, FLOW, FULL_BOARD, FULL_TABLE, USED_UP
+from .endings import ABSENT, BELOW, FINISHED, FLOW, FULL_BOARD, FULL_TABLE, OVERFLOW, USED_UP
 from .limits import HOUSE, PUBLIC, Limits
 from .pictures import Picture, parents_of
 
@@ -59,8 +59,8 @@ def drawn_tree(root):
 
 OPERATIONS = {
     ALONE: lambda left, right: left,
-    SUM: lambda left, right: signed(left + right),
-    DIFFERENCE: lambda left, right: signed(left - right),
+    SUM: lambda left, right: left + right,
+    DIFFERENCE: lambda left, right: left - right,
     EQUAL: lambda left, right: int(left == right),
     LESS: lambda left, right: int(left < right),
     MEAN: lambda left, right: (left + right) // 2,
@@ -150,7 +150,7 @@ class Run:
         return len(self.cursor.children), max(self.cursor_level, self.cursor.list)
 
     def evaluate(self, record):
-        """An expression's value, and its level E."""
+        """An expression's exact result, and its level E."""
         sides = [self.operand(kind, number) for kind, number in record.operands()]
         value = OPERATIONS[record.operator](sides[0][0], sides[-1][0])
         return value, max(level for _, level in sides)
@@ -179,6 +179,12 @@ class Run:
         if not holds:
             raise Stopped(FLOW)
 
+    def fits(self, value):
+        """The value, unless it is outside signed 32 bits."""
+        if value != signed(value):
+            raise Stopped(OVERFLOW)
+        return value
+
     def flow(self, level):
         """L of the paper, for an expression of this level."""
         return max(level, self.position())
@@ -188,6 +194,7 @@ class Run:
         command = record.command
         if COMMANDS[command].opens:
             value, level = self.evaluate(record)
+            self.fits(value)
             if value or command != WHILE:
                 self.blocks.append((level, self.at))
             return self.at + 1 if value else self.partner[self.at]
@@ -209,15 +216,16 @@ class Run:
         level = self.flow(level)
         if record.command == ASSIGN:
             self.rule(level <= self.job.variables[record.target].level)
-            self.values[record.target] = value
+            self.values[record.target] = self.fits(value)
         elif record.command == PRINT:
             self.rule(level == PUBLIC)
+            self.fits(value)
             if len(self.board) == self.limits.lines:
                 raise Stopped(FULL_BOARD)
             self.board.append(value)
         elif record.command == SET:
             self.rule(level <= self.cursor.content)
-            self.cursor.value = value
+            self.cursor.value = self.fits(value)
         else:
             self.insert(record, value, level)
 
@@ -230,6 +238,7 @@ class Run:
         neighbour = parent.children[at] if at < len(parent.children) else None
         here = self.position()
         self.rule(here <= parent.list and (neighbour is None or here <= neighbour.existence))
+        self.fits(value)
         if here < self.cursor.existence:
             raise Stopped(BELOW)
         if self.live == self.limits.places:
