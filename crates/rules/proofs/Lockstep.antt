@@ -12,7 +12,7 @@ use Rattle.rules.specs.Tree as Tree
 use Rattle.rules.specs.Tree.{Label, Forest, Side, Place, root, to, up, sub, label, exists, change, setValue, withValue}
 use Rattle.rules.specs.Script.{Expression, Action}
 use Rattle.rules.specs.Job.{Variable}
-use Rattle.rules.specs.Run.{Memory, Buffers, Stop, absent, Result, variableAt, current, levelOf, value, withVariables, withTree, withCursor, withLine, secretIf, position, flowOf, assign, output, moveTo, goTo, mayTouch, newLabel, insertAt, removeAt, write, effect}
+use Rattle.rules.specs.Run.{Memory, Buffers, Stop, absent, Result, variableAt, current, levelOf, value, withVariables, withTree, withCursor, withLine, secretIf, position, flowOf, contextFlow, assign, output, moveTo, goTo, mayTouch, newLabel, insertAt, removeAt, write, effect}
 use Rattle.rules.specs.Public.{seenVariable, seenValue}
 use Rattle.rules.proofs.Tests.{Test, holds, fails, test, clash}
 use Rattle.rules.proofs.Lattice.{level-secret, vis-public, vis-down, vis-both, vis-left, hid-up, hid-right}
@@ -60,11 +60,10 @@ module _ (o : Level) where
       one-value : (e : Expression) (y z : ℤ) → value m₁ e ≡ some y → value m₂ e ≡ some z → visible o (levelOf m₁ e) ≡ true → y ≡ z
       one-value e y z a b k = Option·some-injective y z (sym a ∙ agree-value o (expressions o m₁ m₂ s₁ s₂ v e) k ∙ b)
 
-      -- and so where the flow is visible
-      value-eq : (e : Expression) (y z : ℤ) → value m₁ e ≡ some y → value m₂ e ≡ some z → (l : Level) → notAbove (flowOf pc m₁ e) l ≡ true
-          → visible o l ≡ true → y ≡ z
-      unfolding flowOf
-      value-eq e y z a b l h k = one-value e y z a b (vis-left o _ _ (vis-down o _ _ h k))
+      -- and so where that level, joined with another, is not above a visible one
+      value-eq : (e : Expression) (y z : ℤ) → value m₁ e ≡ some y → value m₂ e ≡ some z → (x l : Level)
+          → notAbove (join (levelOf m₁ e) x) l ≡ true → visible o l ≡ true → y ≡ z
+      value-eq e y z a b x l h k = one-value e y z a b (vis-left o _ _ (vis-down o _ _ h k))
 
       view-tree : (t u : Forest) → cut o t ≡ cut o u → SameView (withTree m₁ t) (withTree m₂ u)
       unfolding SameView view withTree
@@ -90,19 +89,19 @@ module _ (o : Level) where
       -- 1
       lock-assign : (i : ℕ) (e : Expression)
           → Good₂ SameView (assign pc m₁ i (variableAt (m₁ .variables) i) e) (assign pc m₂ i (variableAt (m₂ .variables) i) e)
-      unfolding assign SameView view withVariables
+      unfolding assign contextFlow SameView view withVariables
       lock-assign i e =
           good₂-need SameView _ _ _ _ _ _ λ h _. good₂-given SameView _ _ _ _ λ y z a b.
-          let w = variable-same _ _ y z (variable-eq o m₁ m₂ s₁ s₂ v i) (value-eq e y z a b _ h) in
+          let w = variable-same _ _ y z (variable-eq o m₁ m₂ s₁ s₂ v i) (value-eq e y z a b _ _ h) in
           let k = map-set (seenVariable o) (m₁ .variables) i _ ∙ (λ j. set (variables-eq o m₁ m₂ s₁ s₂ v j) i (w j)) ∙ sym (map-set (seenVariable o) (m₂ .variables) i _) in
           λ j. record { variables = k j; tree = (v j) .tree; cursor = (v j) .cursor; lines = (v j) .lines }
 
       -- 6
       lock-output : (n₁ n₂ : ℕ) (e : Expression) → Good₂ SameView (output pc m₁ n₁ e) (output pc m₂ n₂ e)
-      unfolding output SameView view withLine
+      unfolding output contextFlow SameView view withLine
       lock-output n₁ n₂ e =
           good₂-need SameView _ _ _ _ _ _ λ h _. good₂-given SameView _ _ _ _ λ y z a b. good₂-need SameView _ _ _ _ _ _ λ _ _.
-          let w = value-eq e y z a b public h (vis-public o) in
+          let w = value-eq e y z a b _ public h (vis-public o) in
           λ j. record { variables = (v j) .variables; tree = (v j) .tree; cursor = (v j) .cursor; lines = (v j) .lines ++ (w j ∷ []) }
 
       -- 7
@@ -204,14 +203,14 @@ module _ (o : Level) where
 
       -- 15
       lock-write : (e : Expression) → Good₂ SameView (write pc m₁ e) (write pc m₂ e)
-      unfolding write current
+      unfolding write flowOf current
       lock-write e =
           by-cursor (λ lent m. write pc m e)
           (λ a p l.
           good₂-need SameView _ _ _ _ _ _ λ h _. good₂-given SameView _ _ _ _ λ y z f g.
           let c = content-eq o _ _ ((nodes o m₁ m₂ s₁ s₂ v a p) .labels) in
           view-tree _ _
-          (cut-eq _ _ _ _ _ _ p (ap setValue (mask-eq _ _ y z c (value-eq e y z f g _ h))) (set-seen o _ _) (set-seen o _ _)))
+          (cut-eq _ _ _ _ _ _ p (ap setValue (mask-eq _ _ y z c (value-eq e y z f g _ _ h))) (set-seen o _ _) (set-seen o _ _)))
           (λ lent m s a. kept-write o pc m s (position-hidden m a) e)
 
       pub lockstep : (a : Action) → Good₂ SameView (effect lent₁ pc m₁ a) (effect lent₂ pc m₂ a)

@@ -1,5 +1,5 @@
--- Nine ways to leak, each as two jobs that differ in what the house owns, with what the rules give. By computation. Where a rule is loosened,
--- both runs of its pair finish and their boards differ. Assumes nothing.
+-- Twelve ways to leak, each as two jobs that differ in what the house owns, with what the rules give. By computation. Where a rule is loosened,
+-- both runs of its pair finish and their boards differ. Last, a pair that counts under cover and finishes. Assumes nothing.
 use mathlib.Core.Path.{_≡_, refl}
 use Prim.Native.Nat.{ℕ}
 use mathlib.Core.List.{List, [], _∷_, _++_, map}
@@ -47,6 +47,10 @@ over-hidden below cs a b =
 tell : ℤ → List (List ℕ)
 tell z = both 2 0 3 value (number z) ∷ one 1 0 (number (pos 1)) ∷ bare 5 ∷ bare 7 ∷ one 6 0 (v 0) ∷ []
 
+-- cover, if v1, first child, end: the cursor stands at the child or at the root, unseen
+covered : List (List ℕ)
+covered = bare 16 ∷ guarded 9
+
 -- v0 := children, print v0
 tell-children : List (List ℕ)
 tell-children = one 1 0 children ∷ one 6 0 (v 0) ∷ []
@@ -83,8 +87,16 @@ traps =
     ∷ by-value (one 2 0 (v 1) ∷ one 1 0 (number (pos 1)) ∷ bare 5 ∷ one 6 0 (v 0) ∷ []) (blocked 1) (done (pos 0 ∷ []))
     -- a removal under a house guard: if v1, remove first child, end
     ∷ by-value (guarded 13 ++ tell-children) (blocked 1) (done (pos 1 ∷ []))
+    -- what is read at a covered cursor: print value
+    ∷ by-value (covered ++ (one 6 0 value ∷ [])) (blocked 4) (blocked 4)
+    -- the same: print children
+    ∷ by-value (covered ++ (one 6 0 children ∷ [])) (blocked 4) (blocked 4)
+    -- what is written at a covered cursor: set 7, root, print value
+    ∷ by-value (covered ++ (one 15 0 (number (pos 7)) ∷ bare 7 ∷ one 6 0 value ∷ [])) (blocked 4) (blocked 4)
+    -- and no leak: v0 := v0 plus 1, print v0
+    ∷ by-value (covered ++ (both 1 0 1 (v 0) (number (pos 1)) ∷ one 6 0 (v 0) ∷ [])) (done (pos 1 ∷ [])) (done (pos 1 ∷ []))
     ∷ []
 
 pub traps-hold : map (λ t. map seen (t .came)) traps ≡ map (λ t. t .due) traps
-unfolding computed seen done blocked play by-value over-hidden tell tell-children traps
+unfolding computed seen done blocked play by-value over-hidden tell covered tell-children traps
 traps-hold = refl

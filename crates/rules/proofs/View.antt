@@ -11,7 +11,7 @@ use Rattle.rules.specs.Tree as Tree
 use Rattle.rules.specs.Tree.{Forest, nil, tree, Place, sub, label, exists, change}
 use Rattle.rules.specs.Script.{Expression, Action}
 use Rattle.rules.specs.Job.{Variable}
-use Rattle.rules.specs.Run.{Memory, Buffers, Result, noVariable, variableAt, current, levelOf, withVariables, withTree, withCursor, position, flowOf, assign, output, moveTo, goTo, mayTouch, newLabel, insertAt, removeAt, write, effect}
+use Rattle.rules.specs.Run.{Memory, Buffers, Result, noVariable, variableAt, current, levelOf, withVariables, withTree, withCursor, position, flowOf, contextFlow, assign, output, moveTo, goTo, mayTouch, newLabel, insertAt, removeAt, write, effect}
 use Rattle.rules.specs.Public.{SeenVariable, seenVariable, seenValue}
 use Rattle.rules.proofs.Tests.{Test, holds, fails, test, clash}
 use Rattle.rules.proofs.Lattice.{level-secret, vis-public, vis-down, vis-left, vis-right, hid-up, hid-left, hid-right}
@@ -101,17 +101,6 @@ module _ (o : Level) where
         good-need (Kept m) _ _ _ λ h. good-given (Kept m) _ _ λ _.
         kept-tree m _ (cut-kept o (m .cursor) _ (m .tree) (set-hidden o _ _ (hid-up o _ _ h (flow-hidden e))))
 
-    kept-assign : (i : ℕ) (e : Expression) → Good (Kept m) (assign pc m i (variableAt (m .variables) i) e)
-    unfolding assign variableAt Kept view withVariables
-    kept-assign i e =
-        good-need (Kept m) _ _ _ λ h. good-given (Kept m) _ _ λ _.
-        let k = map-set (seenVariable o) (m .variables) i _ noVariable (hidden-variable _ _ (hid-up o _ _ h (flow-hidden e))) in
-        λ j. record { variables = k j; tree = (view m) .tree; cursor = (view m) .cursor; lines = m .lines }
-
-    kept-output : (capacity : ℕ) (e : Expression) → Good (Kept m) (output pc m capacity e)
-    unfolding output
-    kept-output capacity e = good-need (Kept m) _ _ _ λ h. clash (vis-down o _ _ h (vis-public o)) (flow-hidden e)
-
   -- moves, where the rule lets through only what is not seen
 
   pub kept-move : (pc : Level) (m : Memory) (p : Place) (l : Level)
@@ -133,12 +122,27 @@ module _ (o : Level) where
     level-hidden : notAbove pc (m .level) ≡ true → visible o (m .level) ≡ false
     level-hidden h = hid-up o _ _ h dark
 
+    context-hidden : (e : Expression) → visible o (contextFlow pc m e) ≡ false
+    unfolding contextFlow
+    context-hidden e = hid-right o _ _ dark
+
+    kept-assign : (i : ℕ) (e : Expression) → Good (Kept m) (assign pc m i (variableAt (m .variables) i) e)
+    unfolding assign variableAt Kept view withVariables
+    kept-assign i e =
+        good-need (Kept m) _ _ _ λ h. good-given (Kept m) _ _ λ _.
+        let k = map-set (seenVariable o) (m .variables) i _ noVariable (hidden-variable _ _ (hid-up o _ _ h (context-hidden e))) in
+        λ j. record { variables = k j; tree = (view m) .tree; cursor = (view m) .cursor; lines = m .lines }
+
+    kept-output : (capacity : ℕ) (e : Expression) → Good (Kept m) (output pc m capacity e)
+    unfolding output
+    kept-output capacity e = good-need (Kept m) _ _ _ λ h. clash (vis-down o _ _ h (vis-public o)) (context-hidden e)
+
     -- confinement
     pub confined : (lent : Buffers) (a : Action) → Good (Kept m) (effect lent pc m a)
     unfolding effect Kept
     confined lent Action.skip = refl
-    confined lent (Action.assign i e) = kept-assign pc m sound below i e
-    confined lent (Action.output e) = kept-output pc m sound below _ e
+    confined lent (Action.assign i e) = kept-assign i e
+    confined lent (Action.output e) = kept-output _ e
     confined lent Action.goRoot = kept-move pc m _ _ (λ h. (level-hidden h, dark))
     confined lent Action.goParent = kept-go pc m _ level-hidden
     confined lent (Action.go d) = kept-go pc m _ level-hidden

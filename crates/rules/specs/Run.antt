@@ -140,16 +140,20 @@ module _ (pc : Level) (m : Memory) where
   unfoldable pub flowOf : Expression → Level
   flowOf e = join (levelOf m e) position
 
-  -- 1: "L not above its level", for the variable v of index i
+  -- the same without the cursor level, for what stands at no node: "the cursor level counts only where the expression reads value or children"
+  unfoldable pub contextFlow : Expression → Level
+  contextFlow e = join (levelOf m e) pc
+
+  -- 1: E joined with the context not above its level, for the variable v of index i
   unfoldable pub assign : ℕ → Variable → Expression → Result Memory
   assign i v e =
-      need flow (notAbove (flowOf e) (v .level))
+      need flow (notAbove (contextFlow e) (v .level))
       (given (value m e) λ z. next (withVariables m (set (m .variables) i (record { level = v .level; value = z }))))
 
-  -- 6: "L is 0", then 27, then 24 where the line buffer, of a capacity, is full
+  -- 6: E joined with the context is 0, then 27, then 24 where the line buffer, of a capacity, is full
   unfoldable pub output : ℕ → Expression → Result Memory
   output capacity e =
-      need flow (notAbove (flowOf e) public)
+      need flow (notAbove (contextFlow e) public)
       (given (value m e) λ z. need boardFull (ltb (length (m .lines)) capacity) (next (withLine m z)))
 
   -- the rule of 7 to 10 and 16: "context not above cursor level"
