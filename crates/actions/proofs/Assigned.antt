@@ -22,12 +22,12 @@ use Rattle.actions.specs.declared.evaluate.Valued.{Valued}
 use Rattle.actions.specs.Board.{capacity, replaced}
 use Rattle.actions.specs.declared.control.Running.{Running}
 use Rattle.actions.specs.declared.control.Stepped.{Stepped}
-use Rattle.actions.specs.Shows.{Shows, Variables, slices, levelIn}
+use Rattle.actions.specs.Shows.{Shows, Variables, slices}
 use Rattle.actions.specs.Stands.{stepped, went}
 use Rattle.actions.specs.Acts.{Evaluates, Acts}
 use Rattle.actions.proofs.Board.{lines-many, replaced-long, replaced-rest, lines-on}
 use Rattle.actions.proofs.Doing.{flow-number, board-full-number, overflow-number, does-next, passes, refuses, given-passes, given-stops, goes, stays}
-use Rattle.actions.proofs.Evaluation.{flow-test}
+use Rattle.actions.proofs.Evaluation.{context-test}
 
 -- a new value for the variable of index i, stored at j
 variables-set : {levels : List ℕ} {values : List ℤ} {n i j : ℕ} {vs : List Variable} (u : ℤ) → Variables levels values n vs → i < n → j ≡ i
@@ -55,10 +55,10 @@ variables-set {levels} {values} {n} {i} {j} {vs} u h lt at long =
 abbrev withLines : Memory → ℕ → Memory
 withLines m n = record { cursor = m .cursor; level = m .level; lines = n; free = m .free; used = m .used }
 
--- v is the value and the level of the expression e, and l is L
+-- v is the value and the level of the expression e, and l is that level joined with the context
 module _ {words levels : List ℕ} {values : List ℤ} {places vars l : ℕ} (r : Running) {e : Expression} {v : Valued} (pc : ℕ)
     (x : Evaluates words levels values places vars (r .memory) e v) (inside : r .memory .cursor < places)
-    (flows : l ≡ join (v .level) (join pc (levelIn (r .memory)))) (b : List ℕ) where
+    (flows : l ≡ join (v .level) pc) (b : List ℕ) where
   -- command 1, at the index i
   module _ {i j : ℕ} (lt : i < vars) (at : j ≡ i) where
     level-at : {μ : Run.Memory} → Shows places vars (slices words levels values b) (r .memory) μ → (variableAt (μ .variables) i) .level ≡ getD levels j 0
@@ -67,14 +67,14 @@ module _ {words levels : List ℕ} {values : List ℤ} {places vars l : ℕ} (r 
     pub no-assign : {a : Stepped} → notAbove l (getD levels j 0) ≡ false → a ≡ stepped 21 r
         → Acts places vars (slices words levels values b) (slices words levels values b) r a (λ μ. Run.assign pc μ i (variableAt (μ .variables) i) e)
     unfolding Run.assign
-    no-assign h is = stays inside is (λ z. omega arith) (λ μ s. refuses flow _ (flow-test pc x flows (level-at s) h b μ s) flow-number s)
+    no-assign h is = stays inside is (λ z. omega arith) (λ μ s. refuses flow _ (context-test pc x flows (level-at s) h b μ s) flow-number s)
 
     pub over-assign : {a : Stepped} → v .value ≡ Number.Over → notAbove l (getD levels j 0) ≡ true → a ≡ stepped 27 r
         → Acts places vars (slices words levels values b) (slices words levels values b) r a (λ μ. Run.assign pc μ i (variableAt (μ .variables) i) e)
     unfolding Run.assign
     over-assign none h is =
         stays inside is (λ z. omega arith)
-        (λ μ s. passes flow (flow-test pc x flows (level-at s) h b μ s) (given-stops _ (x .value b μ s ∙ ap valueOf none) overflow-number s))
+        (λ μ s. passes flow (context-test pc x flows (level-at s) h b μ s) (given-stops _ (x .value b μ s ∙ ap valueOf none) overflow-number s))
 
     pub did-assign : {a : Stepped} → (u : ℤ) → v .value ≡ Number.Fits u → vars ≤ length values → notAbove l (getD levels j 0) ≡ true → a ≡ went r (r .memory)
         → Acts places vars (slices words levels values b) (slices words levels (set values j u) b) r a
@@ -84,7 +84,7 @@ module _ {words levels : List ℕ} {values : List ℤ} {places vars l : ℕ} (r 
         goes (r .memory) is inside (λ fits. fits)
         (record { grown = omega arith; cells = record { same = λ y h. refl }; values = λ n k. getD-set-other values j n u (pos 0) (λ p. omega arith); board = refl })
         (λ μ s.
-        passes flow (flow-test pc x flows (level-at s) h b μ s)
+        passes flow (context-test pc x flows (level-at s) h b μ s)
         (given-passes _ (x .value b μ s ∙ ap valueOf has)
         (does-next _ refl (record { tree = s .tree; level = s .level; variables = variables-set u (s .variables) lt at long; lines = s .lines }))))
 
@@ -92,21 +92,21 @@ module _ {words levels : List ℕ} {values : List ℤ} {places vars l : ℕ} (r 
   pub no-output : {a : Stepped} → notAbove l 0 ≡ false → a ≡ stepped 21 r
       → Acts places vars (slices words levels values b) (slices words levels values b) r a (λ μ. Run.output pc μ (capacity b) e)
   unfolding Run.output public
-  no-output h is = stays inside is (λ z. omega arith) (λ μ s. refuses flow _ (flow-test pc x flows refl h b μ s) flow-number s)
+  no-output h is = stays inside is (λ z. omega arith) (λ μ s. refuses flow _ (context-test pc x flows refl h b μ s) flow-number s)
 
   pub over-output : {a : Stepped} → v .value ≡ Number.Over → notAbove l 0 ≡ true → a ≡ stepped 27 r
       → Acts places vars (slices words levels values b) (slices words levels values b) r a (λ μ. Run.output pc μ (capacity b) e)
   unfolding Run.output public
   over-output none h is =
       stays inside is (λ z. omega arith)
-      (λ μ s. passes flow (flow-test pc x flows refl h b μ s) (given-stops _ (x .value b μ s ∙ ap valueOf none) overflow-number s))
+      (λ μ s. passes flow (context-test pc x flows refl h b μ s) (given-stops _ (x .value b μ s ∙ ap valueOf none) overflow-number s))
 
   pub full-output : {a : Stepped} → (u : ℤ) → v .value ≡ Number.Fits u → notAbove l 0 ≡ true → capacity b ≤ r .memory .lines → a ≡ stepped 24 r
       → Acts places vars (slices words levels values b) (slices words levels values b) r a (λ μ. Run.output pc μ (capacity b) e)
   unfolding Run.output public
   full-output u has h full is =
       stays inside is (λ z. omega arith) (λ μ s.
-      passes flow (flow-test pc x flows refl h b μ s)
+      passes flow (context-test pc x flows refl h b μ s)
       (given-passes _ (x .value b μ s ∙ ap valueOf has)
       (refuses boardFull _ (le-ltb (length (μ .lines)) (capacity b) (omega (arith, lines-many (s .lines)))) board-full-number s)))
 
@@ -120,7 +120,7 @@ module _ {words levels : List ℕ} {values : List ℤ} {places vars l : ℕ} (r 
       (goes (withLines (r .memory) (r .memory .lines + 1)) is inside (λ fits. omega (arith, replaced-long b (r .memory .lines) u room))
       (record { grown = omega arith; cells = record { same = λ y h. refl }; values = λ j k. refl; board = replaced-rest b (r .memory .lines) u room })
       (λ μ s.
-      passes flow (flow-test pc x flows refl h b μ s)
+      passes flow (context-test pc x flows refl h b μ s)
       (given-passes _ (x .value b μ s ∙ ap valueOf has)
       (passes boardFull (lt-ltb (length (μ .lines)) (capacity b) (omega (arith, lines-many (s .lines))))
       (does-next _ refl

@@ -21,7 +21,7 @@ use Rattle.rules.specs.Tree.{sub, label, count, along, child}
 use Rattle.rules.specs.Script.{Operand, Operator, Expression, alone, both, apply}
 use Rattle.rules.specs.Job.{operand, expression}
 use Rattle.rules.specs.Run as Run
-use Rattle.rules.specs.Run.{current, operandValue, operandLevel, value, levelOf, position, flowOf}
+use Rattle.rules.specs.Run.{current, operandValue, operandLevel, value, levelOf, position, flowOf, contextFlow}
 use Rattle.rules.proofs.Machine.{kept, widened}
 use Rattle.rules.proofs.Number.{fitting-in, fitting-fits, equal-fits, less-fits, mean-fits}
 use Rattle.table.specs.Cells.{cells}
@@ -263,8 +263,9 @@ module _ {words levels : List ℕ} {values : List ℤ} {places vars : ℕ} {m : 
   unfolding flowOf position
   flow-shown pc x b μ s = ap₂ join (x .level b μ s) (ap (join pc) (s .level))
 
-  -- and the rules' test of it against a level
-  pub flow-test : {e : Expression} {r : Valued} {l k k′ : ℕ} {t : Bool} (pc : ℕ) → Evaluates words levels values places vars m e r
-      → l ≡ join (r .level) (join pc (levelIn m)) → k′ ≡ k → notAbove l k ≡ t → (b : List ℕ) (μ : Run.Memory)
-      → Shows places vars (slices words levels values b) m μ → notAbove (flowOf pc μ e) k′ ≡ t
-  flow-test pc x flows i h b μ s = ap₂ notAbove (flow-shown pc x b μ s ∙ sym flows) i ∙ h
+  -- the rules' test of that level joined with the context alone, against another level
+  pub context-test : {e : Expression} {r : Valued} {l k k′ : ℕ} {t : Bool} (pc : ℕ) → Evaluates words levels values places vars m e r
+      → l ≡ join (r .level) pc → k′ ≡ k → notAbove l k ≡ t → (b : List ℕ) (μ : Run.Memory)
+      → Shows places vars (slices words levels values b) m μ → notAbove (contextFlow pc μ e) k′ ≡ t
+  unfolding contextFlow
+  context-test pc x flows i h b μ s = ap₂ notAbove (ap (λ y. join y pc) (x .level b μ s) ∙ sym flows) i ∙ h

@@ -1,11 +1,11 @@
-// The actions on variables and the board: commands 1 and 6.
+// The actions on variables and the board: commands 1 and 6. Neither stands at a node, so their rule joins E with the context alone.
 use super::control::Running;
 use super::control::Stepped;
 use super::control::halt;
 use super::control::onward;
 use super::evaluate::Valued;
-use super::memory::flow;
 use rules::levels::PUBLIC;
+use rules::levels::join;
 use rules::levels::not_above;
 use rules::limits::BOARD_FULL;
 use rules::limits::FLOW;
@@ -47,7 +47,7 @@ pub fn assign(
 {
     let m = r.memory;
     let i = index(target);
-    if !not_above(flow(e.level, pc, m), levels[i]) {
+    if !not_above(join(e.level, pc), levels[i]) {
         return halt(r, FLOW);
     }
     let v = e.value;
@@ -85,7 +85,7 @@ pub fn output(e: Valued, lines: &mut [u8], pc: u8, r: Running) -> Stepped
         (λ μ. Run.output pc μ (capacity (now (lines .entry))) x)) ⌝ }
 {
     let m = r.memory;
-    if !not_above(flow(e.level, pc, m), PUBLIC) {
+    if !not_above(join(e.level, pc), PUBLIC) {
         return halt(r, FLOW);
     }
     let v = e.value;

@@ -9,16 +9,16 @@ use Rattle.actions.proofs.variables.assign.Tie as tie
 
 returns : tie.Need-returns
 returns c = λ w b places vars x inside lt long e.
-    no-assign _ (c .before .before .before .before .before .before .before .before .args .pc) e inside (c .before .before .before .before .flow .ensures) b lt (c .before .before .before .before .before .index .ensures) (refused (c .before .before .not-above .ensures) (c .before .if1 .taken)) (c .halt .ensures)
+    no-assign _ (c .before .before .before .before .before .before .before .before .args .pc) e inside (c .before .before .before .before .join .ensures) b lt (c .before .before .before .before .before .index .ensures) (refused (c .before .before .not-above .ensures) (c .before .if1 .taken)) (c .halt .ensures)
 
 returns-2 : tie.Need-returns-2
 returns-2 c = λ w b places vars x inside lt long e.
-    over-assign _ (c .before .before .before .before .before .before .before .before .before .before .args .pc) e inside (c .before .before .before .before .before .before .flow .ensures) b lt (c .before .before .before .before .before .before .before .index .ensures) (c .before .enum-told .given .1) (allowed (c .before .before .before .before .not-above .ensures) (c .before .before .before .if1 .left))
+    over-assign _ (c .before .before .before .before .before .before .before .before .before .before .args .pc) e inside (c .before .before .before .before .before .before .join .ensures) b lt (c .before .before .before .before .before .before .before .index .ensures) (c .before .enum-told .given .1) (allowed (c .before .before .before .before .not-above .ensures) (c .before .before .before .if1 .left))
     (c .halt2 .ensures)
 
 returns-3 : tie.Need-returns-3
 returns-3 c = λ w b places vars x inside lt long e.
-    did-assign _ (c .before .before .before .before .before .before .before .before .before .before .before .args .pc) e inside (c .before .before .before .before .before .before .before .flow .ensures) b lt (c .before .before .before .before .before .before .before .before .index .ensures) _ (fits-read e (c .before .before .v .given .1)) long
+    did-assign _ (c .before .before .before .before .before .before .before .before .before .before .before .args .pc) e inside (c .before .before .before .before .before .before .before .join .ensures) b lt (c .before .before .before .before .before .before .before .before .index .ensures) _ (fits-read e (c .before .before .v .given .1)) long
     (allowed (c .before .before .before .before .before .not-above .ensures) (c .before .before .before .before .if1 .left)) (c .onward .ensures)
 
 pub assign-spec : {M : Type 1} → statement M
