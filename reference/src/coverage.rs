@@ -31,6 +31,8 @@ struct Steps {
     /// By operator and kinds.
     expressions: [[[u64; 4]; 4]; 6],
     deepest: u64,
+    /// Public variables that took a number at a cursor level of 1.
+    counted_under_cover: u64,
     /// By command and the new node's levels.
     insertions: BTreeMap<(u8, [Level; 3]), u64>,
 }
@@ -150,6 +152,7 @@ impl Coverage {
             }
         }
         self.count_all(String::from(DEEPEST), steps.deepest);
+        self.count_all(String::from(COUNTED), steps.counted_under_cover);
         for (&(command, levels), &count) in &steps.insertions {
             self.count_all(insertion_name(command, levels), count);
         }
@@ -201,6 +204,10 @@ impl Steps {
             by_kinds[usize::from(record.left_kind)][usize::from(right_kind)] += 1;
         }
         self.deepest += (state.guards.len() == MAX_BLOCKS) as u64;
+        if record.command == command::ASSIGN && state.cursor_level == HOUSE {
+            let (level, _) = state.variables[usize::from(record.target)];
+            self.counted_under_cover += (level == PUBLIC) as u64;
+        }
         let new_node = match (record.command, state.cursor.split_last()) {
             (command::NEW_FIRST_CHILD, _) => &state.tree.at(&state.cursor).children[0],
             (command::NEW_RIGHT_SIBLING, Some((place, above))) => {
@@ -228,6 +235,9 @@ fn levels(node: &Tree) -> [Level; 3] {
 
 /// Sixteen blocks open at once, in a run.
 const DEEPEST: &str = "run with 16 open blocks";
+
+/// a public counter steps while the cursor is covered.
+const COUNTED: &str = "public variable assigned at cursor level 1";
 
 /// The fields that check 7 looks at.
 const FIELDS: [&str; 8] = [
@@ -354,7 +364,7 @@ pub fn wanted_of_histories() -> Vec<String> {
 /// Everything that a generator must reach: all commands at all levels that they
 /// can leave, all operators with all kinds, all endings of a job but 26, every stop at
 /// every command that can give it, every reason for 7 and 8, long runs, sixteen
-/// open blocks, and nodes of all five combinations of levels.
+/// open blocks, counting under cover, and nodes of all five combinations of levels.
 pub fn wanted() -> Vec<String> {
     let mut names = Vec::new();
     names.extend((0..command::COUNT as u8).map(command_name));
@@ -383,6 +393,7 @@ pub fn wanted() -> Vec<String> {
     names.extend(reasons.into_iter().map(block_name));
     names.extend(FIELDS.map(field_name));
     names.push(String::from(DEEPEST));
+    names.push(String::from(COUNTED));
     names.extend(wanted_levels());
     names.extend(wanted_expressions());
     for levels in [[0, 0, 0], [0, 0, 1], [0, 1, 0], [0, 1, 1], [1, 1, 1]] {
@@ -393,11 +404,11 @@ pub fn wanted() -> Vec<String> {
     names
 }
 
-/// A line needs public levels, a move a context not above the cursor level;
+/// A line needs a public context, a move a context not above the cursor level;
 /// root leaves the context as cursor level, and cover leaves 1.
 fn wanted_levels() -> Vec<String> {
     let can_leave = |command: u8, context: Level, cursor: Level| match command {
-        command::PRINT => context == PUBLIC && cursor == PUBLIC,
+        command::PRINT => context == PUBLIC,
         command::ROOT => context == cursor,
         command::COVER => cursor == HOUSE,
         command::UP | command::FIRST_CHILD | command::RIGHT_SIBLING => context <= cursor,

@@ -33,6 +33,18 @@ pub enum Mistake {
     RightLevelForgotten,
     /// An insertion is not tested against the old neighbour.
     InsertionIgnoresNeighbour,
+    /// The level of value is the node's content alone.
+    ValueForgetsCursorLevel,
+    /// The level of children is the node's list level alone.
+    ChildrenForgetCursorLevel,
+    /// Commands 1 and 6 are tested with the cursor level, whatever they read.
+    CursorLevelAlwaysCounts,
+    /// Commands 1 and 6 are tested with E alone.
+    ContextForgotten,
+    /// Command 15 is tested without the cursor level too.
+    SettingForgetsCursorLevel,
+    /// The content of a new node is E joined with the context.
+    NewContentForgetsCursorLevel,
     /// If and while push L in place of E.
     GuardJoinsCursorLevel,
     /// A move is tested for its rule before its node.
@@ -90,7 +102,7 @@ pub const RULED_COMMANDS: [u8; 12] = [1, 6, 7, 8, 9, 10, 11, 12, 13, 14, 15, 16]
 
 impl Mistake {
     /// Every mistake that a job shows, without `None` and `NoRule`.
-    pub const ALL: [Mistake; 24] = [
+    pub const ALL: [Mistake; 30] = [
         Mistake::MoveRaisesCursorLevel,
         Mistake::ChildrenLevelFromChildren,
         Mistake::RootResetsCursorLevel,
@@ -105,6 +117,12 @@ impl Mistake {
         Mistake::MeanOfSumInRange,
         Mistake::RightLevelForgotten,
         Mistake::InsertionIgnoresNeighbour,
+        Mistake::ValueForgetsCursorLevel,
+        Mistake::ChildrenForgetCursorLevel,
+        Mistake::CursorLevelAlwaysCounts,
+        Mistake::ContextForgotten,
+        Mistake::SettingForgetsCursorLevel,
+        Mistake::NewContentForgetsCursorLevel,
         Mistake::GuardJoinsCursorLevel,
         Mistake::RuleBeforeMissing,
         Mistake::RangeBeforeRule,
@@ -139,12 +157,16 @@ impl Mistake {
 
     /// The mistakes by which public lines come to depend on house parts of an
     /// accepted job.
-    pub const LEAKING: [Mistake; 6] = [
+    pub const LEAKING: [Mistake; 10] = [
         Mistake::MoveRaisesCursorLevel,
         Mistake::ChildrenLevelFromChildren,
         Mistake::RootResetsCursorLevel,
         Mistake::ElseForgetsGuard,
         Mistake::RightLevelForgotten,
         Mistake::InsertionIgnoresNeighbour,
+        Mistake::ValueForgetsCursorLevel,
+        Mistake::ChildrenForgetCursorLevel,
+        Mistake::ContextForgotten,
+        Mistake::SettingForgetsCursorLevel,
     ];
 }

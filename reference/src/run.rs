@@ -297,6 +297,16 @@ impl<'a> Monitor<'a> {
         join(self.context(), self.state.cursor_level)
     }
 
+    /// What the rules of 1 and 6 test: "the cursor level counts only where the
+    /// expression reads value or children", and there E has it already.
+    fn without_cursor(&self, expression: &Evaluated) -> Level {
+        match self.mistake {
+            Mistake::CursorLevelAlwaysCounts => join(expression.level, self.c()),
+            Mistake::ContextForgotten => expression.level,
+            _ => join(expression.level, self.context()),
+        }
+    }
+
     /// A stop 21 where the rule of the record does not hold.
     fn rule(&self, holds: bool) -> Result<(), Ending> {
         let command = self.script[self.state.next].command;
@@ -315,12 +325,12 @@ impl<'a> Monitor<'a> {
         self.blocks[self.state.next].expect("a record of a block")
     }
 
-    /// Command 1: "L not above its level".
+    /// Command 1: E joined with the context is not above its level.
     fn assign(&mut self, record: &Record) -> Result<(), Ending> {
         let expression = self.evaluate(record);
-        let l = join(expression.level, self.c());
+        let level = self.without_cursor(&expression);
         let target = record.target as usize;
-        let rule = self.rule(l <= self.state.variables[target].0);
+        let rule = self.rule(level <= self.state.variables[target].0);
         self.state.variables[target].1 = self.value(&expression, rule, Ok(()))?;
         Ok(())
     }
@@ -382,15 +392,15 @@ impl<'a> Monitor<'a> {
         Ok(())
     }
 
-    /// Command 6: "L is 0"; 24 where the line buffer is full.
+    /// Command 6: E joined with the context is 0; 24 where the line buffer is full.
     fn print(&mut self, record: &Record) -> Result<(), Ending> {
         let expression = self.evaluate(record);
-        let l = join(expression.level, self.c());
+        let level = self.without_cursor(&expression);
         let room = match self.state.lines.len() == self.limits.lines {
             true => Err(Ending::LinesFull),
             false => Ok(()),
         };
-        let line = self.value(&expression, self.rule(l == PUBLIC), room)?;
+        let line = self.value(&expression, self.rule(level == PUBLIC), room)?;
         self.state.lines.push(line);
         Ok(())
     }
@@ -516,7 +526,10 @@ impl<'a> Monitor<'a> {
     /// is 2 or 3"
     fn new_node(&self, record: &Record, e: Level, value: i32) -> Tree {
         let c = self.c();
-        let l = join(e, c);
+        let l = match self.mistake {
+            Mistake::NewContentForgetsCursorLevel => join(e, self.context()),
+            _ => join(e, c),
+        };
         let mark = record.target;
         Tree {
             value,
@@ -557,7 +570,10 @@ impl<'a> Monitor<'a> {
     /// Command 15: "L not above its content".
     fn set_value(&mut self, record: &Record) -> Result<(), Ending> {
         let expression = self.evaluate(record);
-        let l = join(expression.level, self.c());
+        let l = match self.mistake {
+            Mistake::SettingForgetsCursorLevel => join(expression.level, self.context()),
+            _ => join(expression.level, self.c()),
+        };
         let rule = self.rule(l <= self.working_node().content);
         let value = self.value(&expression, rule, Ok(()))?;
         let cursor = &self.state.cursor;
@@ -632,11 +648,17 @@ impl<'a> Monitor<'a> {
             }
             kind::VALUE => Evaluated {
                 result: i64::from(node.value),
-                level: join(self.state.cursor_level, node.content),
+                level: match self.mistake {
+                    Mistake::ValueForgetsCursorLevel => node.content,
+                    _ => join(self.state.cursor_level, node.content),
+                },
             },
             kind::CHILDREN => Evaluated {
                 result: node.children.len() as i64,
-                level: join(self.state.cursor_level, self.children_level(node)),
+                level: match self.mistake {
+                    Mistake::ChildrenForgetCursorLevel => node.list,
+                    _ => join(self.state.cursor_level, self.children_level(node)),
+                },
             },
             other => unreachable!("kind {other} does not pass check 7"),
         }

@@ -126,7 +126,7 @@ pub fn steps(buffers: &mut Buffers, budget: u32, places: usize, area: &mut [u8])
             code::ASSIGN => {
                 let (value, e) = evaluate(op, variables, arena.at(cursor), cursor_level);
                 let target = &mut variables[op.target as usize % MAX_VARIABLES];
-                if e | c > target.level {
+                if e | context > target.level {
                     break (ending::RULE, next);
                 }
                 let Some(value) = value else {
@@ -170,7 +170,7 @@ pub fn steps(buffers: &mut Buffers, budget: u32, places: usize, area: &mut [u8])
             }
             code::PRINT => {
                 let (value, e) = evaluate(op, variables, arena.at(cursor), cursor_level);
-                if e | c != 0 {
+                if e | context != 0 {
                     break (ending::RULE, next);
                 }
                 let Some(value) = value else {

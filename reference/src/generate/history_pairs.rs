@@ -79,7 +79,7 @@ fn some_script(random: &mut Random, sides: &[Standing; 2], last: bool) -> Vec<Re
     };
     let finishes = &mut |script: &[Record]| both_finish(sides, script, mistake);
     match (last, random.below(4)) {
-        (true, 0) => script::probing(random, &levels, finishes),
+        (true, 0 | 1) => script::probing(random, &levels, finishes),
         (true, _) => script::looking(random, &levels, finishes),
         (false, 0) => script::short(random, &levels, finishes),
         (false, _) => script::leaving(random, &levels, finishes),

@@ -323,10 +323,15 @@ impl<'a> Writer<'a> {
                 }
             }
         });
+        if self.random.chance(1, 3) {
+            let seen = self.random.pick(&[value(), children()]);
+            self.put(&[print(seen)]);
+        }
         for _ in 0..self.random.between(0, 3) {
-            match self.random.chance(3, 4) {
-                true => self.put_some(&mut Self::some_change),
-                false => self.put_some(&mut Self::some_move),
+            match self.random.weighted(&[3, 1, 1]) {
+                0 => self.put_some(&mut Self::some_change),
+                1 => self.put_some(&mut Self::some_move),
+                _ => self.put_some(&mut Self::some_count),
             }
         }
     }
@@ -373,6 +378,21 @@ impl<'a> Writer<'a> {
     fn some_move(&mut self) -> Record {
         let moves = [root(), up(), first_child(), right_sibling()];
         moves[self.random.weighted(&self.taste.moves)]
+    }
+
+    /// A public variable that counts, or a line: both go on under cover, but for
+    /// what is read there.
+    fn some_count(&mut self) -> Record {
+        let public: Vec<usize> = (0..self.levels.len())
+            .filter(|index| !self.counters.contains(index) && self.levels[*index] == PUBLIC)
+            .collect();
+        let line = print(self.expression(PUBLIC));
+        if public.is_empty() {
+            return line;
+        }
+        let counter = self.random.pick(&public);
+        let step = assign(counter, sum(variable(counter), constant(1)));
+        self.random.pick(&[step, print(variable(counter)), line])
     }
 
     /// A command that changes the tree.

@@ -133,7 +133,7 @@ fn histories_leak_nothing() {
 #[test]
 fn leaks_from_script_to_script_are_found() {
     for mistake in Mistake::LEAKING_ON.into_iter().chain(Mistake::LEAKING) {
-        let found = (0..SEEDS).find(|&seed| {
+        let found = (0..5 * SEEDS).find(|&seed| {
             let pair = generate::history_pair(seed);
             let [left, right] = [&pair.left, &pair.right].map(|events| outcomes(events, mistake));
             public::history_leak(&left, &right).is_some()

@@ -327,8 +327,18 @@ fn ending_21_rules() {
 
 #[test]
 fn ending_21_under_cover() {
-    // L joins the cursor level: a public variable, a line, a public content.
-    for record in [assign(0, 1), print(1), set_value(1), remove_first_child()] {
+    // E has the cursor level where it reads value or children, whatever the
+    // node's own levels are; 11 to 15 have it in any case.
+    for record in [
+        assign(0, value()),
+        assign(0, children()),
+        assign(0, sum(constant(1), value())),
+        print(value()),
+        print(mean(children(), variable(0))),
+        set_value(1),
+        new_first_child(0, 1),
+        remove_first_child(),
+    ] {
         let script = [cover(), record];
         assert_eq!(
             answer(&run(&trial_job(1, &script))),

@@ -441,6 +441,37 @@ fn reading_19_removal_is_tested_against_the_node_removed() {
 
 /// "Nodes are matched by the sibling places on the way from the root, not by
 /// record index".
+/// R-3: "the cursor level counts only where the expression reads value or
+/// children", for commands 1 and 6.
+#[test]
+fn reading_22_counting_under_cover() {
+    // The cursor stands at the root or at the child, by a house number; the
+    // count is public all the same.
+    let away = [cover(), when(variable(1)), first_child(), end()];
+    let count = assign(0, sum(variable(0), constant(1)));
+    let script = [&away[..], &[count, count, print(variable(0)), print(7)]].concat();
+    assert_eq!(answer(&run(&trial_job(1, &script))), (0, 0, 8, vec![2, 7]));
+    assert_eq!(answer(&run(&trial_job(0, &script))), (0, 0, 7, vec![2, 7]));
+    // The same with what is read there.
+    for record in [assign(0, value()), print(value()), print(children())] {
+        let script = [&away[..], &[record]].concat();
+        assert_eq!(answer(&run(&trial_job(1, &script))).0, 21, "{record:?}");
+        assert_eq!(answer(&run(&trial_job(0, &script))).0, 21, "{record:?}");
+    }
+    // The context counts as before, under cover too.
+    for record in [count, print(7)] {
+        let script = [cover(), when(variable(1)), record, end()];
+        assert_eq!(answer(&run(&trial_job(1, &script))), (21, 2, 2, vec![]));
+    }
+    // A house variable takes what is read at a covered cursor.
+    let script = [cover(), assign(1, value())];
+    assert_eq!(answer(&run(&trial_job(1, &script))), (0, 0, 2, vec![]));
+    // "Commands 11, 12 and 15 are not touched": a new node's content is L.
+    let nodes = [root_node([0, 0, 1], 0)];
+    let outcome = run(&job(&[], &nodes, &[cover(), new_first_child(0, 9)]));
+    assert_eq!(last_tree(&outcome)[1], row(1, [1, 1, 1], 9));
+}
+
 #[test]
 fn agreement_does_not_depend_on_the_record_order() {
     let (a, b) = (node(0, [0, 0, 1], 1), node(0, [0, 0, 0], 2));

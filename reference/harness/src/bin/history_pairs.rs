@@ -24,7 +24,7 @@ const KNOWN: [&str; 8] = [
     "--forever",
 ];
 
-const MANY: u64 = 5_000;
+const MANY: u64 = 20_000;
 
 /// Pairs for one process.
 const BATCH: u64 = 100;
