@@ -83,7 +83,7 @@ tree at the end
         self.assertEqual((done.status, done.error), (1, ""))
         self.assertIn("script 1 of 2\nstops:4:3: stopped with 21 (flow rule broken) after 2 steps\n\n"
                       "     4 |   depth := beds\n       |   ^^^^^^^^^^^^^\n\nThe rule:\n", done.text)
-        self.assertIn("  depth         public  the variable that should take the number\n  beds          house   a variable\n", done.text)
+        self.assertIn("  depth    public  the variable that should take the number\n  beds     house   a variable\n", done.text)
         self.assertIn("board, 0 lines\n\nscript 2 of 2\nshows: finished after 2 steps\n\nboard, 2 lines\n  7\n  3\n\nvariables", done.text)
         self.assertIn("  ├─ new1_3 = 8\n  ├─ slope = 3\n", done.text)
         self.assertIn("Script 1 was stopped. What it left may tell where, and so may each board after it:\n", done.text)

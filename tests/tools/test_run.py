@@ -58,7 +58,7 @@ class Stopped(unittest.TestCase):
 
     def test_assignment(self):
         self.stops(script("v := h"), FIRST, 3, 21, "0 steps", "v public the variable that should take the number",
-                   "h house a variable", "context public no block is open", "cursor level public",
+                   "h house a variable", "context public no block is open",
                    "Declare a house variable and use it in place of `v`", "do without `h`")
 
     def test_assignment_in_an_else(self):
@@ -75,7 +75,20 @@ class Stopped(unittest.TestCase):
 
     def test_print_under_cover(self):
         self.stops(script("cover", "print value"), FIRST + 1, 3, 21, "1 step", "value house the cursor level joins it",
-                   "cursor level house since line 8 (cover)", "Write `root` before the print")
+                   "The cursor level counts only where the expression reads `value` or `children`",
+                   "cursor level house since line 8 (cover)", "Write `root` before the print",
+                   "Or do without `value`: outside house guards numbers and public variables may be counted")
+
+    def test_where_the_cursor_level_does_not_count(self):
+        """It is not among the reasons, and nothing is said against the cover."""
+        done = run(script("cover", "v := h"))
+        self.assertEqual(done.status, 1, done.output)
+        self.assertNotIn("cursor level  ", done.output)
+        self.assertNotIn("root", done.output.split("What you can do")[1].split("board")[0])
+
+    def test_set_under_cover(self):
+        self.stops(script("cover", "set 1"), FIRST + 1, 3, 21, "1 step", "the expression, the context and the cursor level",
+                   "cursor level house since line 8 (cover)", "Write `root` before the set")
 
     def test_move(self):
         for move in ("first child", "root", "cover"):
@@ -178,9 +191,17 @@ class Advice(unittest.TestCase):
         done = run(script("first child", "print value", tree="  resort content house list house = 10\n    safe house = 3\n"))
         self.assertNotIn("Write `root`", done.output)
 
-    def test_a_variable_needs_no_place(self):
-        self.advised(["first child", "cover"], "print v", "Write `root` before the print: outside house guards `root` makes the cursor "
-                     "level public again. The cursor then stands on resort, the root.", ["first child", "cover", "root", "print v"])
+    def test_a_count_goes_on_under_cover(self):
+        self.advised(["cover", "if h", "  first child", "v := v + 1"], "print value",
+                     "Or do without `value`: outside house guards numbers and public variables may be counted and printed, wherever the "
+                     "cursor stands.", ["cover", "if h", "  first child", "v := v + 1", "print v"])
+        self.advised(["cover"], "v := v + value", "Or do without `value`", ["cover", "v := v + 1"])
+
+    def test_no_such_word_where_it_is_a_house_number_anyway(self):
+        done = run(script("cover", "print value", tree="  resort content house = 10\n"))
+        self.assertNotIn("Or do without", done.output)
+        done = run(script("cover", "set value"))
+        self.assertNotIn("Or do without", done.output)
 
     def test_children_and_value(self):
         self.advised(["cover"], "v := value + children", "`value` and `children` will be those of resort, the root.",
@@ -188,8 +209,11 @@ class Advice(unittest.TestCase):
 
     def test_in_a_block_and_under_cover(self):
         self.advised(["cover", "if h"], "  print 1", "Put the print outside the block of line 9",
-                     ["cover", "if h", "  nothing", "root", "print 1"])
-        self.assertIn("Write `root` before the print there", run(script("cover", "if h", "  print 1")).output)
+                     ["cover", "if h", "  nothing", "print 1"])
+        self.assertNotIn("Write `root`", run(script("cover", "if h", "  print 1")).output)
+        self.advised(["cover", "if h"], "  print value", "Put the print outside the block of line 9",
+                     ["cover", "if h", "  nothing", "root", "print value"])
+        self.assertIn("Write `root` before the print there", run(script("cover", "if h", "  print value")).output)
 
     def test_a_mean_in_place_of_a_sum(self):
         self.advised(["v := 2147483647"], "v := v + 1", "For an average take `mean`: it is exact, and never leaves the range.",

@@ -121,10 +121,7 @@ class Account:
         """Outside house guards `root` makes the cursor level public; a public node can be reached again from there."""
         if not self.run.cursor_level:
             return
-        node, root = self.run.cursor, self.run.root
-        placed = self.record.command in (SET,) + INSERTIONS + REMOVALS or self.reads(VALUE) or self.reads(CHILDREN)
-        if not placed or node.existence:
-            node = root
+        node = self.run.root if self.run.cursor.existence else self.run.cursor
         if self.own_house(node) and node is not self.run.cursor:
             return  # what it reads is house there, too
         way = way_to(node)
@@ -184,11 +181,19 @@ class Account:
             node = self.run.cursor
             operands.insert(0, Reason(f"content of {node.name}", PUBLIC, "the node that should take the value"))
             self.advice.append(self.raise_part(node, "content"))
-        self.reasons = operands + [self.context(), self.cursor()]
+        # A variable and a board line stand at no node: for them the cursor level counts through the expression alone.
+        read = [f"`{word}`" for word, kind in (("value", VALUE), ("children", CHILDREN)) if self.reads(kind)]
+        placed = command == SET or read
+        self.reasons = operands + [self.context()] + ([self.cursor()] if placed else [])
         if house:
             self.advice.append(f"Use public numbers only: do without {house}.")
         self.leave_block(what)
+        if not placed or not self.run.cursor_level:
+            return
         self.leave_cover(what)
+        if command != SET and not house:
+            self.advice.append(f"Or do without {' and '.join(read)}: outside house guards numbers and public variables may be counted and "
+                               "printed, wherever the cursor stands.")
 
     def flow_move(self):
         self.reasons = [self.context(), self.cursor()]

@@ -2,12 +2,13 @@
 
 from .commands import ASSIGN, INSERTIONS, MOVES, PRINT, REMOVALS, SET
 
-STORED = "as high as everything that went into it: the expression, the context and the cursor level."
+CURSOR = "The cursor level counts only where the expression reads `value` or `children`."
 
 RULES = {
-    ASSIGN: f"A variable takes a number only if its level is {STORED}",
-    PRINT: "A board line must be public: the expression, the context and the cursor level.",
-    SET: f"A node takes a value only if its content level is {STORED}",
+    ASSIGN: f"A variable takes a number only if its level is as high as the expression and the context. {CURSOR}",
+    PRINT: f"A board line must be public: the expression and the context. {CURSOR}",
+    SET: "A node takes a value only if its content level is as high as everything that went into it: the expression, the context and "
+         "the cursor level.",
     **dict.fromkeys(MOVES, "The cursor moves only if the context is not above the cursor level: where the cursor stands must not "
                            "tell the public how a house guard came out."),
     **dict.fromkeys(INSERTIONS, "A new node is as secret as the context and the cursor level. That must not be above the list level "

@@ -213,21 +213,20 @@ class Run:
 
     def store(self, record):
         value, level = self.evaluate(record)
-        level = self.flow(level)
         if record.command == ASSIGN:
-            self.rule(level <= self.job.variables[record.target].level)
+            self.rule(max(level, self.context()) <= self.job.variables[record.target].level)
             self.values[record.target] = self.fits(value)
         elif record.command == PRINT:
-            self.rule(level == PUBLIC)
+            self.rule(max(level, self.context()) == PUBLIC)
             self.fits(value)
             if len(self.board) == self.limits.lines:
                 raise Stopped(FULL_BOARD)
             self.board.append(value)
         elif record.command == SET:
-            self.rule(level <= self.cursor.content)
+            self.rule(self.flow(level) <= self.cursor.content)
             self.cursor.value = self.fits(value)
         else:
-            self.insert(record, value, level)
+            self.insert(record, value, self.flow(level))
 
     def insert(self, record, value, level):
         first = record.command == NEW_FIRST_CHILD
