@@ -1,27 +1,67 @@
--- What is known of an accepted job: every rule holds, as the chain of checks has passed each; and its script's command numbers are its bytes, so the
+-- What is known of a job that an edition accepts: every rule holds, as the chain of checks has passed each, and the other way; and its script's command numbers are its bytes, so the
 -- jumps by the bytes are the jumps by the script. The same of a bare section. Assumes nothing.
 use mathlib.Core.Path.{_≡_, sym, ap, _∙_}
-use mathlib.Core.Bool.{true}
+use mathlib.Core.Bool.{true, _&&_}
 use mathlib.Core.List.{List}
 use Prim.Native.Nat.{ℕ, suc, _<_}
 use native.Mathlib.Omega.{arith}
 use lib.ListN.{length}
+use lib.Dec.{ltb}
 use borrow.Author.Tests.{ne-eqb, ltb-true}
-use Rattle.rules.specs.Limits.{badLength, badOffsets, badCount, badVariable, badParent, badNode, badRecord, badBlock}
-use Rattle.rules.specs.Bytes.{nodesAt, scriptAt, variableCount, nodeCount, recordCount, recordPlace}
+use Rattle.rules.specs.Limits.{badLength, badOffsets, badCount, badVariable, badParent, badNode, badRecord, badBlock, badSpare}
+use Rattle.rules.specs.Bytes.{byte, nodesAt, scriptAt, variableCount, nodeCount, recordCount, recordPlace}
 use Rattle.rules.specs.Script.{number, numberAt}
 use Rattle.rules.specs.Blocks.{blockRule, goesTo}
-use Rattle.rules.specs.Check.{accepted, lengthRule, offsetRule, countRule, variableRule, parent, parentRule, nodeRule, recordRule, code}
-use Rattle.rules.specs.Check.{checkRecords, checkBytes}
+use Rattle.rules.specs.Check.{Checked, accepted, lengthRule, offsetRule, countRule, variableRule, parent, parentRule, nodeRule, recordRule, code}
+use Rattle.rules.specs.Check.{variableClean, nodeClean, recordClean, Edition, today, recordRuleIn, checkScript, checkRecords, checkBytesBy, checkBytes}
 use Rattle.rules.specs.Job.{script, scriptOf}
+use Rattle.rules.proofs.Tests.{both, joined}
 use Rattle.rules.proofs.Parts.{byIf}
 use Rattle.rules.proofs.Jumps.{isIn, closed}
 use Rattle.rules.proofs.SameNumbers.{rule-agree, goes-agree}
 use Rattle.rules.proofs.Nests.{parts-done}
-use Rattle.rules.proofs.Checks.{passed-one, passed-each}
+use Rattle.rules.proofs.Checks.{met, passed-one, all-met, passed-each, met-if, passed-if}
 use Rattle.rules.proofs.Decode.{section-spelled, numbered-at}
 
--- the eight rules
+-- the spare bytes of vs variables, ns nodes from tree on and rs records from script on are zero
+pub record Clean (b : List ℕ) (vs tree ns script rs : ℕ) : Type 0 where
+  pub variables : (i : ℕ) → i < vs → variableClean b i ≡ true
+  pub nodes : (i : ℕ) → i < ns → nodeClean b tree i ≡ true
+  pub records : (i : ℕ) → i < rs → recordClean b script i ≡ true
+
+-- what the checks 7, 12 and 8 ask
+pub record ScriptRight (rules : Edition) (b : List ℕ) (vars vs tree ns script rs : ℕ) : Type 0 where
+  pub known : (i : ℕ) → i < rs → ltb (byte b (recordPlace script i)) (rules .commands) ≡ true
+  pub records : (i : ℕ) → i < rs → recordRule b vars (recordPlace script i) ≡ true
+  pub clean : rules .spare ≡ true → Clean b vs tree ns script rs
+  pub blocks : (i : ℕ) → i < suc rs → blockRule (code b script) rs i ≡ true
+
+module _ (rules : Edition) (b : List ℕ) (vars vs tree ns script rs : ℕ) (c : Checked) where
+  pub script-right : checkScript rules b vars vs tree ns script rs c ≡ accepted → ScriptRight rules b vars vs tree ns script rs × (c ≡ accepted)
+  unfolding checkScript recordRuleIn
+  script-right e =
+      let x7 = passed-each badRecord _ _ _ e in
+      let v = passed-if (rules .spare) badSpare _ _ _ (x7 .1) in
+      let n = passed-if (rules .spare) badSpare _ _ _ (v .1) in
+      let r = passed-if (rules .spare) badSpare _ _ _ (n .1) in
+      let x8 = passed-each badBlock _ _ _ (r .1) in (
+        record {
+          known = λ i l. both _ (recordRule b vars (recordPlace script i)) (x7 .0 i l) .0;
+          records = λ i l. both (ltb (byte b (recordPlace script i)) (rules .commands)) _ (x7 .0 i l) .1;
+          clean = λ q. record { variables = v .0 q; nodes = n .0 q; records = r .0 q };
+          blocks = x8 .0;
+        },
+        x8 .1,
+      )
+
+  pub script-met : ScriptRight rules b vars vs tree ns script rs → checkScript rules b vars vs tree ns script rs c ≡ c
+  unfolding checkScript recordRuleIn
+  script-met r =
+      all-met badRecord _ _ _ (λ i l. joined (r .known i l) (r .records i l)) ∙ met-if (rules .spare) badSpare _ _ _ (λ q. r .clean q .variables)
+      ∙ met-if (rules .spare) badSpare _ _ _ (λ q. r .clean q .nodes) ∙ met-if (rules .spare) badSpare _ _ _ (λ q. r .clean q .records)
+      ∙ all-met badBlock _ _ _ (r .blocks)
+
+-- the rules that every edition has
 pub record Right (b : List ℕ) : Type 0 where
   pub lengths : lengthRule (length b) ≡ true
   pub offsets : offsetRule b ≡ true
@@ -32,27 +72,49 @@ pub record Right (b : List ℕ) : Type 0 where
   pub records : (i : ℕ) → i < recordCount b → recordRule b (variableCount b) (recordPlace (scriptAt b) i) ≡ true
   pub blocks : (i : ℕ) → i < suc (recordCount b) → blockRule (code b (scriptAt b)) (recordCount b) i ≡ true
 
+-- the checks 7, 12 and 8 of a job
+abbrev pub JobScript : Edition → List ℕ → Type 0
+JobScript rules b = ScriptRight rules b (variableCount b) (variableCount b) (nodesAt b) (nodeCount b) (scriptAt b) (recordCount b)
+
+-- the rules of an edition
+pub record RightBy (rules : Edition) (b : List ℕ) : Type 0 where
+  pub right : Right b
+  pub script : JobScript rules b
+
+module _ (rules : Edition) (b : List ℕ) where
+  pub right-by : checkBytesBy rules b ≡ accepted → RightBy rules b
+  unfolding checkBytesBy checkRecords
+  right-by e =
+      let x1 = passed-one badLength _ _ e in
+      let x2 = passed-one badOffsets _ _ (x1 .1) in
+      let x3 = passed-one badCount _ _ (x2 .1) in
+      let x4 = passed-each badVariable _ _ _ (x3 .1) in
+      let x5 = passed-each badParent _ _ _ (x4 .1) in
+      let x6 = passed-each badNode _ _ _ (x5 .1) in
+      let s = script-right rules b _ _ _ _ _ _ _ (x6 .1) .0 in
+      record {
+        right =
+            record {
+              lengths = x1 .0;
+              offsets = x2 .0;
+              counts = x3 .0;
+              variables = x4 .0;
+              parents = x5 .0;
+              nodes = x6 .0;
+              records = s .records;
+              blocks = s .blocks;
+            };
+        script = s;
+      }
+
+  pub accept-by : Right b → JobScript rules b → checkBytesBy rules b ≡ accepted
+  unfolding checkBytesBy checkRecords
+  accept-by r s =
+      met badLength _ (r .lengths) ∙ met badOffsets _ (r .offsets) ∙ met badCount _ (r .counts) ∙ all-met badVariable _ _ _ (r .variables)
+      ∙ all-met badParent _ _ _ (r .parents) ∙ all-met badNode _ _ _ (r .nodes) ∙ script-met rules b _ _ _ _ _ _ _ s
+
 pub right : (b : List ℕ) → checkBytes b ≡ accepted → Right b
-unfolding checkBytes checkRecords
-right b e =
-    let x1 = passed-one badLength _ _ e in
-    let x2 = passed-one badOffsets _ _ (x1 .1) in
-    let x3 = passed-one badCount _ _ (x2 .1) in
-    let x4 = passed-each badVariable _ _ _ (x3 .1) in
-    let x5 = passed-each badParent _ _ _ (x4 .1) in
-    let x6 = passed-each badNode _ _ _ (x5 .1) in
-    let x7 = passed-each badRecord _ _ _ (x6 .1) in
-    let x8 = passed-each badBlock _ _ _ (x7 .1) in
-    record {
-      lengths = x1 .0;
-      offsets = x2 .0;
-      counts = x3 .0;
-      variables = x4 .0;
-      parents = x5 .0;
-      nodes = x6 .0;
-      records = x7 .0;
-      blocks = x8 .0;
-    }
+right b e = right-by today b e .right
 
 -- but for the root, a right parent is an earlier record
 pub parent-before : (b : List ℕ) (base i : ℕ) → (i ≡ 0 → ⊥) → parentRule b base i ≡ true → parent b base i < i

@@ -11,11 +11,11 @@ use lib.ListN.{length}
 use borrow.Author.Tests.{lt-ltb, le-ltb, ltb-false, leb-true, eqb-true}
 use Rattle.rules.specs.Limits.{maxVariables, maxNodes, maxRecords, maxBytes, trailerSize, variableSize, nodeSize, recordSize}
 use Rattle.rules.specs.Bytes.{variablesAt, nodesAt, scriptAt, trailerAt, variableCount, nodeCount, recordCount}
-use Rattle.rules.specs.Check.{Checked, accepted, refused, firstFault, require, requireEach, lengthRule, whole, offsetRule, countRule, checkRecords, checkBytes}
+use Rattle.rules.specs.Check.{Checked, Edition, accepted, refused, firstFault, require, requireEach, requireIf, lengthRule, whole, offsetRule, countRule, checkScript, checkRecords, checkBytesBy}
 use Rattle.rules.specs.Run.{Buffers}
-use Rattle.rules.specs.Outcome.{andThen, checkJob}
-use Rattle.rules.proofs.Tests.{Test, holds, fails, test, both}
-use Rattle.rules.proofs.Search.{all-pass}
+use Rattle.rules.specs.Outcome.{andThen, checkJobBy, checkJob}
+use Rattle.rules.proofs.Tests.{Test, holds, fails, test, both, clash}
+use Rattle.rules.proofs.Search.{all-pass, none-faulty}
 
 module _ (k : ℕ) (c : Checked) {t : Bool} where
   pub turned : t ≡ false → require k t c ≡ refused k 0
@@ -35,6 +35,10 @@ module _ (k : ℕ) (good : ℕ → Bool) (n : ℕ) (c : Checked) {r : ℕ} (e : 
   unfolding requireEach
   through h = rw (← e, le-ltb r n h)
 
+-- a test that every index passes leaves the rest
+pub all-met : (k : ℕ) (good : ℕ → Bool) (n : ℕ) (c : Checked) → ((i : ℕ) → i < n → good i ≡ true) → requireEach k good n c ≡ c
+all-met k good n c h = through k good n c refl (let e = none-faulty good n h in omega arith)
+
 -- the other way: a chain that accepts has passed the test
 never : {P : Type 0} {k i : ℕ} → refused k i ≡ accepted → P
 never e = let z : _≡_ {A = ℕ} 0 1 = cc in absurd (omega arith)
@@ -53,6 +57,18 @@ passed-each k good n c e = go (test (ltb (firstFault good n 0) n))
     go (holds q) = let z : refused k (firstFault good n 0) ≡ accepted = rw q at e in never z
     go (fails q) = let z : c ≡ accepted = rw q at e in (all-pass good n refl (ltb-false _ n q), z)
 
+-- a check that an edition may not have
+pub met-if : (asked : Bool) (k : ℕ) (good : ℕ → Bool) (n : ℕ) (c : Checked) → (asked ≡ true → (i : ℕ) → i < n → good i ≡ true) → requireIf asked k good n c ≡ c
+unfolding requireIf
+met-if true k good n c h = all-met k good n c (h refl)
+met-if false k good n c h = refl
+
+pub passed-if : (asked : Bool) (k : ℕ) (good : ℕ → Bool) (n : ℕ) (c : Checked) → requireIf asked k good n c ≡ accepted
+    → (asked ≡ true → (i : ℕ) → i < n → good i ≡ true) × (c ≡ accepted)
+unfolding requireIf
+passed-if true k good n c e = let z = passed-each k good n c e in ((λ q. z .0), z .1)
+passed-if false k good n c e = ((λ q. clash q refl), e)
+
 -- 1
 pub long-enough : (n : ℕ) → lengthRule n ≡ true → trailerSize ≤ n
 unfolding lengthRule
@@ -65,6 +81,7 @@ pub record Sections (b : List ℕ) : Type 0 where
   pub variables : variableSize * variableCount b ≡ nodesAt b
   pub nodes : nodesAt b + nodeSize * nodeCount b ≡ scriptAt b
   pub records : scriptAt b + recordSize * recordCount b ≡ length b - trailerSize
+  pub trailer : trailerAt b ≡ length b - trailerSize
 
 whole-parts : (size from to : ℕ) → whole size from to ≡ true → (from ≤ to) × ((to - from) % size ≡ 0)
 unfolding whole
@@ -80,7 +97,7 @@ sections b e =
     let r = whole-parts recordSize (scriptAt b) (trailerAt b) (w1 .1) in
     let n = whole-parts nodeSize (nodesAt b) (scriptAt b) (w2 .1) in
     let v = whole-parts variableSize 0 (nodesAt b) (w3 .1) in
-    record { ordered = n .0; ended = r .0; variables = omega arith; nodes = omega arith; records = omega arith }
+    record { ordered = n .0; ended = r .0; variables = omega arith; nodes = omega arith; records = omega arith; trailer = t }
 
 -- 3
 pub record Counts (vs ns rs : ℕ) : Type 0 where
@@ -119,6 +136,11 @@ module _ (P : ℕ → Type 0) (k : ℕ) (h : P k) where
       pick true = h
       pick false = g
 
+  pub refuses-if : (asked : Bool) (good : ℕ → Bool) (n : ℕ) (c : Checked) → Refuses P c → Refuses P (requireIf asked k good n c)
+  unfolding requireIf
+  refuses-if true good n c g = refuses-each good n c g
+  refuses-if false good n c g = g
+
 refuses-then : (P : ℕ → Type 0) (c d : Checked) → Refuses P c → Refuses P d → Refuses P (andThen c d)
 unfolding andThen
 refuses-then P accepted d h g = g
@@ -128,8 +150,17 @@ refuses-then P (refused k i) d h g = h
 abbrev pub Numbered : ℕ → Type 0
 Numbered k = (1 ≤ k) × (k ≤ 20)
 
+pub script-numbered : (rules : Edition) (b : List ℕ) (vars vs tree ns script rs : ℕ) (c : Checked) → Refuses Numbered c
+    → Refuses Numbered (checkScript rules b vars vs tree ns script rs c)
+unfolding checkScript
+script-numbered rules b vars vs tree ns script rs c g =
+    refuses-each Numbered _ (omega arith, omega arith) _ _ _
+    (refuses-if Numbered _ (omega arith, omega arith) _ _ _ _
+    (refuses-if Numbered _ (omega arith, omega arith) _ _ _ _
+    (refuses-if Numbered _ (omega arith, omega arith) _ _ _ _ (refuses-each Numbered _ (omega arith, omega arith) _ _ _ g))))
+
 pub job-numbered : (b : List ℕ) (budget : ℕ) (lent : Buffers) → Refuses Numbered (checkJob b budget lent)
-unfolding checkJob checkBytes checkRecords
+unfolding checkJob checkJobBy checkBytesBy checkRecords
 job-numbered b budget lent =
     refuses-then Numbered _ _
     (refuses-one Numbered _ (omega arith, omega arith) _ _
@@ -137,6 +168,5 @@ job-numbered b budget lent =
     (refuses-one Numbered _ (omega arith, omega arith) _ _
     (refuses-each Numbered _ (omega arith, omega arith) _ _ _
     (refuses-each Numbered _ (omega arith, omega arith) _ _ _
-    (refuses-each Numbered _ (omega arith, omega arith) _ _ _
-    (refuses-each Numbered _ (omega arith, omega arith) _ _ _ (refuses-each Numbered _ (omega arith, omega arith) _ _ _ tt))))))))
+    (refuses-each Numbered _ (omega arith, omega arith) _ _ _ (script-numbered _ b _ _ _ _ _ _ accepted tt)))))))
     (refuses-one Numbered _ (omega arith, omega arith) _ _ (refuses-one Numbered _ (omega arith, omega arith) _ _ tt))

@@ -34,8 +34,8 @@ pub scripts : List FollowOn
 scripts =
     -- first child, new right sibling
     script 100 512 (bare 9 ∷ one 12 0 (number (pos 5)) ∷ []) ∷ count
-    -- a part record; command 17 before an unclosed block; an unclosed block without a budget; no budget and too many places; too many places
-    ∷ script 0 513 ((6 ∷ []) ∷ []) ∷ script 100 512 (one 2 0 (v 1) ∷ bare 17 ∷ []) ∷ script 0 512 (one 2 0 (v 1) ∷ []) ∷ script 0 513 []
+    -- a part record; command 17 after a spare byte; a spare byte after a lone end; an unclosed block without a budget; no budget and too many places; too many places
+    ∷ script 0 513 ((6 ∷ []) ∷ []) ∷ script 100 512 (one 9 3 (v 7) ∷ bare 17 ∷ []) ∷ script 0 512 (bare 5 ∷ one 9 3 (v 7) ∷ []) ∷ script 0 512 (one 2 0 (v 1) ∷ []) ∷ script 0 513 []
     ∷ script 100 513 [] ∷ count
     -- new first child, v0 := v1
     ∷ script 100 512 (one 11 0 (number (pos 7)) ∷ one 1 0 (v 1) ∷ []) ∷ count
@@ -44,7 +44,7 @@ scripts =
 
 pub due : List Seen
 due =
-    came 0 0 [] ∷ came 0 0 (pos 2 ∷ []) ∷ came 11 0 [] ∷ came 7 1 [] ∷ came 8 1 [] ∷ came 9 0 [] ∷ came 10 0 [] ∷ came 0 0 (pos 2 ∷ []) ∷ came 21 1 []
+    came 0 0 [] ∷ came 0 0 (pos 2 ∷ []) ∷ came 11 0 [] ∷ came 7 1 [] ∷ came 12 1 [] ∷ came 8 1 [] ∷ came 9 0 [] ∷ came 10 0 [] ∷ came 0 0 (pos 2 ∷ []) ∷ came 21 1 []
     ∷ came 0 0 (pos 3 ∷ []) ∷ came 23 0 [] ∷ came 23 0 [] ∷ came 0 0 [] ∷ []
 
 pub history-holds : map seen (history (standing (pos 0)) scripts) ≡ due
@@ -88,10 +88,10 @@ first =
     script 100 512 (bare 16 ∷ one 2 0 (v 1) ∷ one 1 1 (number (pos 4)) ∷ bare 5 ∷ bare 9 ∷ [])
     ∷ script 100 512 (bare 9 ∷ one 15 0 (number (pos 8)) ∷ one 6 0 value ∷ []) ∷ []
 
--- the same with other budgets, tables, and bytes that are not read
+-- the same with other budgets and tables
 pub second : List FollowOn
 second =
-    script 50 2 (bare 16 ∷ one 2 0 (v 1) ∷ one 1 1 (number (pos 4)) ∷ bare 5 ∷ one 9 3 (v 7) ∷ [])
+    script 50 2 (bare 16 ∷ one 2 0 (v 1) ∷ one 1 1 (number (pos 4)) ∷ bare 5 ∷ bare 9 ∷ [])
     ∷ script 9 300 (bare 9 ∷ one 15 0 (number (pos 8)) ∷ one 6 0 value ∷ []) ∷ []
 
 pub same-scripts : SameScripts first second

@@ -17,6 +17,7 @@ pub mod Ranges
 pub mod Checks
 pub mod Decode
 pub mod Nearest
+pub mod ReadBytes
 pub mod Accepted
 pub mod Lattice
 pub mod Trees
@@ -30,6 +31,11 @@ pub mod Runs
 pub mod Lines
 pub mod ByPlace
 pub mod Loaded
+pub mod SameNodes
+pub mod SameReads
+pub mod Cleaned
+pub mod Reported
+pub mod CleanTrials
 pub mod Control
 pub mod Region
 pub mod Secrecy

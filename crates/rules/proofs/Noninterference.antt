@@ -12,7 +12,7 @@ use Rattle.rules.specs.Bytes.{variablePlace, nodesAt, scriptAt, variable
 use Rattle.rules.specs.Check.{Checked, accepted, refused, checkBytes, variableRule}
 use Rattle.rules.specs.Job.{variables, variableOf, treeOf, jobTree, script}
 use Rattle.rules.specs.Run.{State, Buffers, run}
-use Rattle.rules.specs.Outcome.{andThen, checkJob, Outcome, rejected, ran, runJob, begin, boardLines}
+use Rattle.rules.specs.Outcome.{andThen, checkJobBy, checkJob, Outcome, rejected, ran, runJobBy, runJob, begin, boardLines}
 use Rattle.rules.specs.Public.{Alike, Finishes, Indistinguishable, Noninterference, Demand3}
 use Rattle.rules.proofs.Tests.{clash}
 use Rattle.rules.proofs.Loaded.{tree-rules, all-levels}
@@ -59,16 +59,16 @@ accepted-rest accepted d e = e
 accepted-rest (refused k i) d e = let z : true ≡ false = cc in clash refl z
 
 pub bytes-accepted : (b : List ℕ) (n : ℕ) (lent : Buffers) → checkJob b n lent ≡ accepted → checkBytes b ≡ accepted
-unfolding checkJob
+unfolding checkJob checkJobBy
 bytes-accepted b n lent e = accepted-bytes _ _ e
 
 pub turned-back : (b : List ℕ) (n : ℕ) (lent : Buffers) {k i : ℕ} → checkJob b n lent ≡ refused k i → runJob b n lent ≡ rejected k i
-unfolding runJob
-turned-back b n lent e = rw (e, runJob)
+unfolding runJob checkJob runJobBy
+turned-back b n lent e = rw (e, runJobBy)
 
 pub runs : (b : List ℕ) (n : ℕ) (lent : Buffers) → checkJob b n lent ≡ accepted → runJob b n lent ≡ ran (run lent (script b) n (begin b))
-unfolding runJob
-runs b n lent e = rw (e, runJob)
+unfolding runJob checkJob runJobBy
+runs b n lent e = rw (e, runJobBy)
 
 -- a job that is turned back has no lines, and does not finish
 not-run : (k i : ℕ) (s : State) → Finishes (rejected k i) s → ⊥

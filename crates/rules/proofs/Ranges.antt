@@ -11,15 +11,15 @@ use Rattle.rules.specs.Script.{Row, rowOf}
 use Rattle.rules.specs.Check.{operandRule, expressionRule, fieldsRule, recordRule}
 use Rattle.rules.proofs.Tests.{both, clash}
 
-all-three : (a b c : Bool) → (a && b && c) ≡ true → (a ≡ true) × (b ≡ true) × (c ≡ true)
+pub all-three : (a b c : Bool) → (a && b && c) ≡ true → (a ≡ true) × (b ≡ true) × (c ≡ true)
 all-three a b c e = let z = both (a && b) c e in let y = both a b (z .0) in (y .0, y .1, z .1)
 
 -- of two tests, one that fails leaves the other
-other : (a b : Bool) → (a || b) ≡ true → a ≡ false → b ≡ true
+pub other : (a b : Bool) → (a || b) ≡ true → a ≡ false → b ≡ true
 other true b e f = clash refl f
 other false b e f = e
 
-needed : (a b : Bool) → (not a || b) ≡ true → a ≡ true → b ≡ true
+pub needed : (a b : Bool) → (not a || b) ≡ true → a ≡ true → b ≡ true
 needed true b e f = e
 needed false b e f = clash f refl
 

@@ -4,7 +4,7 @@ use mathlib.Core.Path.{_≡_, refl, sym, ap, _∙_}
 use mathlib.Core.Bool.{Bool, true, false, not}
 use Prim.Native.Nat.{ℕ, zero, suc, _+_, _-_, _≤_, _<_}
 use native.Mathlib.Omega.{arith}
-use native.Mathlib.Decide.{ℕ-discrete}
+use native.Mathlib.Decide.{ℕ-discrete, decLt}
 use Rattle.rules.specs.Blocks.{firstFrom}
 use Rattle.rules.specs.Check.{firstFault}
 use Rattle.rules.proofs.Tests.{Test, holds, fails, test, clash}
@@ -86,6 +86,16 @@ passed good n i k a b = is-not (good k) (search (fault good) n i .missed k a (rw
 
 pub all-pass : (good : ℕ → Bool) (n : ℕ) {r : ℕ} → r ≡ firstFault good n 0 → n ≤ r → (k : ℕ) → k < n → good k ≡ true
 all-pass good n e h k l = passed good n 0 k (omega arith) (omega arith)
+
+-- where all pass, the search ends behind them
+pub none-faulty : (good : ℕ → Bool) (n : ℕ) → ((k : ℕ) → k < n → good k ≡ true) → firstFault good n 0 ≡ n
+none-faulty good n h = by (decLt (firstFault good n 0) n)
+  where
+    by : Dec (firstFault good n 0 < n) → firstFault good n 0 ≡ n
+    by (yes l) =
+        let e = fault-first good n 0 in
+        let z : not (good (firstFault good n 0)) ≡ true = rw e (search (fault good) n 0 .found (omega arith)) in clash z (rw (h _ l))
+    by (no l) = let e = fault-first good n 0 in let z = search (fault good) n 0 .to in omega arith
 
 module _ (good : ℕ → Bool) (n : ℕ) where
   -- after i records that passed: what is found from the start is what is found from i on

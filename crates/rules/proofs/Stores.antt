@@ -7,21 +7,21 @@ use mathlib.Core.List.{List, [], _∷_}
 use lib.ListN.{length}
 use lib.Dec.{leb, eqb}
 use borrow.Author.Tests.{leb-true, le-leb, eqb-true, eq-eqb}
-use Rattle.rules.specs.Limits.{maxVariables, maxNodes, badBudget, badBuffers, badRecord, badBlock, badFollowOn}
+use Rattle.rules.specs.Limits.{maxVariables, maxNodes, badBudget, badBuffers, badFollowOn}
 use Rattle.rules.specs.Level.{Level, public, notAbove, isLevel}
 use Rattle.rules.specs.Bytes.{nodesAt, nodeCount, variableCount}
 use Rattle.rules.specs.Tree.{Label, Forest, nil, tree, exists, count, size, Fit, Fits, TreeRules, fitsNode, fits}
-use Rattle.rules.specs.Check.{Checked, accepted, refused, checkBytes}
+use Rattle.rules.specs.Check.{Checked, accepted, refused, today, checkBytes}
 use Rattle.rules.specs.Job.{variables, jobTree, treeOf, allLevels, script}
 use Rattle.rules.specs.Run.{Memory, State, Buffers, run, start}
-use Rattle.rules.specs.Outcome.{bufferRule, checkJob, rejected, ran, answer, begin}
+use Rattle.rules.specs.Outcome.{budgetRule, bufferRule, checkJobBy, checkJob, rejected, ran, answer, begin}
 use Rattle.rules.specs.Public.{Finishes}
 use Rattle.rules.specs.History.{Store, FollowOn, sectionCount, sectionScript, sectionRule, storeRule, checkFollowOn, follow, leaves, after, afterAll, jobStore, afterJob, StoreKept, LowNeverFollows}
 use Rattle.rules.proofs.Tests.{both}
 use Rattle.rules.proofs.Sound.{Sound}
-use Rattle.rules.proofs.Checks.{counts, passed-one, passed-each, Refuses, refuses-with, refuses-one, refuses-each, Numbered}
+use Rattle.rules.proofs.Checks.{counts, passed-one, Refuses, refuses-with, refuses-one, Numbered, script-numbered}
 use Rattle.rules.proofs.Decode.{variables-length}
-use Rattle.rules.proofs.Accepted.{right}
+use Rattle.rules.proofs.Accepted.{right, ScriptRight, script-right}
 use Rattle.rules.proofs.Control.{Closed}
 use Rattle.rules.proofs.Starts.{closed-section, Kept, start-valid}
 use Rattle.rules.proofs.Noninterference.{loads, accepted-rest, turned-back, runs}
@@ -121,6 +121,9 @@ leaves-holdable v few m sound k =
 -- what is known of a script that is taken
 pub record Taken (s : Store) (f : FollowOn) : Type 0 where
   pub store : Holdable s
+  pub whole : sectionRule (f .section) ≡ true
+  pub checked : ScriptRight today (f .section) (length (s .variables)) 0 0 0 0 (sectionCount (f .section))
+  pub spend : budgetRule (f .budget) ≡ true
   pub script : Closed (sectionScript (f .section))
   pub places : f .lent .places ≤ maxNodes
 
@@ -128,13 +131,15 @@ pub taken : (s : Store) (f : FollowOn) → checkFollowOn s f ≡ accepted → Ta
 unfolding checkFollowOn sectionScript
 taken s f e =
     let x1 = passed-one badFollowOn _ _ e in
-    let x2 = passed-each badRecord _ _ _ (x1 .1) in
-    let x3 = passed-each badBlock _ _ _ (x2 .1) in
-    let x4 = passed-one badBudget _ _ (x3 .1) in
+    let x2 = script-right today (f .section) (length (s .variables)) 0 0 0 0 (sectionCount (f .section)) _ (x1 .1) in
+    let x4 = passed-one badBudget _ _ (x2 .1) in
     let x5 = passed-one badBuffers _ _ (x4 .1) in
     record {
       store = holdable s (both (sectionRule (f .section)) (storeRule s) (x1 .0) .1);
-      script = closed-section (f .section) (length (s .variables)) 0 (sectionCount (f .section)) (x2 .0) (x3 .0);
+      whole = both (sectionRule (f .section)) (storeRule s) (x1 .0) .0;
+      checked = x2 .0;
+      spend = x4 .0;
+      script = closed-section (f .section) (length (s .variables)) 0 (sectionCount (f .section)) (x2 .0 .records) (x2 .0 .blocks);
       places = leb-true _ _ (x5 .0);
     }
 
@@ -181,7 +186,7 @@ job-store b e =
     }
 
 places-few : (b : List ℕ) (n : ℕ) (lent : Buffers) → checkJob b n lent ≡ accepted → lent .places ≤ maxNodes
-unfolding checkJob bufferRule
+unfolding checkJob checkJobBy bufferRule
 places-few b n lent e =
     let x1 = passed-one badBudget _ _ (accepted-rest _ _ e) in
     let x2 = passed-one badBuffers _ _ (x1 .1) in
@@ -213,9 +218,8 @@ follow-numbered : (s : Store) (f : FollowOn) → Refuses Numbered (checkFollowOn
 unfolding checkFollowOn
 follow-numbered s f =
     refuses-one Numbered _ (omega arith, omega arith) _ _
-    (refuses-each Numbered _ (omega arith, omega arith) _ _ _
-    (refuses-each Numbered _ (omega arith, omega arith) _ _ _
-    (refuses-one Numbered _ (omega arith, omega arith) _ _ (refuses-one Numbered _ (omega arith, omega arith) _ _ tt))))
+    (script-numbered today (f .section) _ 0 0 0 0 _ _
+    (refuses-one Numbered _ (omega arith, omega arith) _ _ (refuses-one Numbered _ (omega arith, omega arith) _ _ tt)))
 
 module _ (s : Store) (f : FollowOn) where
   follow-among : Among (follow s f)

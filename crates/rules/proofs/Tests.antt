@@ -18,6 +18,9 @@ pub both : (a b : Bool) → (a && b) ≡ true → (a ≡ true) × (b ≡ true)
 both true b e = (refl, e)
 both false b e = clash e refl
 
+pub joined : {a b : Bool} → a ≡ true → b ≡ true → (a && b) ≡ true
+joined {a} {b} h k = rw (h, k)
+
 pub neither : (a b : Bool) → (a || b) ≡ false → (a ≡ false) × (b ≡ false)
 neither true b e = clash refl e
 neither false b e = (refl, e)

@@ -1,11 +1,11 @@
--- The checks 1 to 8 of a job's bytes, in order of number. Assumes nothing.
+-- The checks of a job's bytes, 1 to 8 in order of number with 12 before 8, and the editions of them. Assumes nothing.
 use Prim.Native.Nat.{ℕ, zero, suc, _+_, _-_, _%_}
 use mathlib.Core.Bool.{Bool, true, false, _&&_, _||_, not, cond}
 use mathlib.Core.Option.{Option, none, some}
-use mathlib.Core.List.{List}
+use mathlib.Core.List.{List, [], _∷_}
 use lib.ListN.{length}
 use lib.Dec.{leb, ltb, eqb}
-use Rattle.rules.specs.Limits.{maxVariables, maxNodes, maxRecords, maxBytes, trailerSize, variableSize, nodeSize, recordSize, noParent, commandCount, badLength, badOffsets, badCount, badVariable, badParent, badNode, badRecord, badBlock}
+use Rattle.rules.specs.Limits.{maxVariables, maxNodes, maxRecords, maxBytes, trailerSize, variableSize, nodeSize, recordSize, noParent, commandCount, badLength, badOffsets, badCount, badVariable, badParent, badNode, badRecord, badBlock, badSpare}
 use Rattle.rules.specs.Level.{public, notAbove, isLevel}
 use Rattle.rules.specs.Script.{Row, rowOf}
 use Rattle.rules.specs.Blocks.{blockRule}
@@ -101,6 +101,52 @@ module _ (b : List ℕ) (vars : ℕ) where
   unfoldable pub recordRule : ℕ → Bool
   recordRule at = ltb (byte b at) commandCount && fieldsRule (rowOf (byte b at)) at
 
+-- R-4: which bytes of a variable are read, from the first on: "byte 0 level, 1 to 3 ignored, 4 to 7 value"
+unfoldable pub variableReads : List Bool
+variableReads = true ∷ false ∷ false ∷ false ∷ true ∷ true ∷ true ∷ true ∷ []
+
+-- of a node: "0 and 1 parent's index .., 2 existence, 3 content, 4 list, 5 to 7 ignored, 8 to 11 value"
+unfoldable pub nodeReads : List Bool
+nodeReads = true ∷ true ∷ true ∷ true ∷ true ∷ false ∷ false ∷ false ∷ true ∷ true ∷ true ∷ true ∷ []
+
+-- of a script record, by whether it reads its target, its expression, the expression's right side, and the number of either side
+unfoldable pub fieldReads : Bool → Bool → Bool → Bool → Bool → List Bool
+fieldReads target expression right leftNumber rightNumber =
+    true ∷ target ∷ expression ∷ expression ∷ right ∷ false ∷ false ∷ false ∷ leftNumber ∷ leftNumber ∷ leftNumber ∷ leftNumber ∷ rightNumber
+    ∷ rightNumber ∷ rightNumber ∷ rightNumber ∷ []
+
+-- "For kinds 2 and 3 the number is ignored."
+unfoldable pub hasNumber : ℕ → Bool
+hasNumber kind = ltb kind 2
+
+module _ (b : List ℕ) (at : ℕ) where
+  -- the record at a place reads its right side: it has an expression, and not "0 left alone (right side ignored)"
+  unfoldable pub readsRight : Bool
+  readsRight = rowOf (byte b at) .expression && not (eqb (byte b (at + 2)) 0)
+
+  -- which bytes of the record at a place are read: those of "the fields that a command or kind" reads
+  unfoldable pub recordReads : List Bool
+  recordReads =
+      fieldReads (rowOf (byte b at) .target || rowOf (byte b at) .mark) (rowOf (byte b at) .expression) readsRight
+      (rowOf (byte b at) .expression && hasNumber (byte b (at + 3))) (readsRight && hasNumber (byte b (at + 4)))
+
+-- 12: from a place on, each byte is read or zero
+unfoldable pub spareRule : List Bool → List ℕ → ℕ → Bool
+spareRule [] b at = true
+spareRule (r ∷ rs) b at = (r || eqb (byte b at) 0) && spareRule rs b (suc at)
+
+-- 12, of variable i
+unfoldable pub variableClean : List ℕ → ℕ → Bool
+variableClean b i = spareRule variableReads b (variablePlace i)
+
+-- 12, of node i in the section that starts at base
+unfoldable pub nodeClean : List ℕ → ℕ → ℕ → Bool
+nodeClean b base i = spareRule nodeReads b (nodePlace base i)
+
+-- 12, of record i in the section that starts at base
+unfoldable pub recordClean : List ℕ → ℕ → ℕ → Bool
+recordClean b base i = spareRule (recordReads b (recordPlace base i)) b (recordPlace base i)
+
 -- "0 command": that of record i in the section that starts at base
 unfoldable pub code : List ℕ → ℕ → ℕ → ℕ
 code b base i = byte b (recordPlace base i)
@@ -119,27 +165,60 @@ firstFault good (suc n) i = elim (good i) [ true ↦ firstFault good n (suc i) |
 unfoldable pub require : ℕ → Bool → Checked → Checked
 require k test next = cond test next (refused k 0)
 
--- "For 4 to 8 the index is the first faulty record in its section"; behind the last of n stands the index n
+-- "For 4 to 8 the index is the first faulty record in its section", and for 12 "the record's own in its section"; behind the last of n stands the index n
 unfoldable pub requireEach : ℕ → (ℕ → Bool) → ℕ → Checked → Checked
 requireEach k good n next = cond (ltb (firstFault good n 0) n) (refused k (firstFault good n 0)) next
 
--- the checks 7 and 8, of rs script records from script on where there are vars variables, then the rest; a job and a bare section share them
-abbrev pub checkScript : List ℕ → ℕ → ℕ → ℕ → Checked → Checked
-checkScript b vars script rs next =
-    requireEach badRecord (λ i. recordRule b vars (recordPlace script i)) rs
-    (requireEach badBlock (blockRule (code b script) rs) (suc rs) next)
+-- the rules in force by the requests that have landed; a program that keeps the rules of its landing keeps its edition
+pub record Edition : Type 0 where
+  pub commands : ℕ  -- how many commands there are
+  pub spare : Bool  -- spare bytes are zero
+
+-- paper 01 with R-1 to R-3, which the cleaner keeps
+unfoldable pub first : Edition
+first = record { commands = 17; spare = false }
+
+-- with clean spare bytes, R-4
+unfoldable pub clean : Edition
+clean = record { commands = 17; spare = true }
+
+-- the rules in force today
+unfoldable pub today : Edition
+today = clean
+
+-- 7, in an edition
+unfoldable pub recordRuleIn : Edition → List ℕ → ℕ → ℕ → Bool
+recordRuleIn rules b vars at = ltb (byte b at) (rules .commands) && recordRule b vars at
+
+-- a check that an edition may not have
+unfoldable pub requireIf : Bool → ℕ → (ℕ → Bool) → ℕ → Checked → Checked
+requireIf asked k good n next = cond asked (requireEach k good n next) next
+
+-- the checks 7, 12 and 8, in an edition, of rs script records from script on where vars variables stand, then the rest; for 12 "sections are searched in
+-- file order": in front of the script stand vs variables and ns nodes from tree on, in a bare section none
+unfoldable pub checkScript : Edition → List ℕ → ℕ → ℕ → ℕ → ℕ → ℕ → ℕ → Checked → Checked
+checkScript rules b vars vs tree ns script rs next =
+    requireEach badRecord (λ i. recordRuleIn rules b vars (recordPlace script i)) rs
+    (requireIf (rules .spare) badSpare (variableClean b) vs
+    (requireIf (rules .spare) badSpare (nodeClean b tree) ns
+    (requireIf (rules .spare) badSpare (recordClean b script) rs
+    (requireEach badBlock (blockRule (code b script) rs) (suc rs) next))))
 
 -- the checks 4 to 8, of vs variables, ns nodes from tree on and rs script records from script on
-unfoldable pub checkRecords : List ℕ → ℕ → ℕ → ℕ → ℕ → ℕ → Checked
-checkRecords b vs tree ns script rs =
+unfoldable pub checkRecords : Edition → List ℕ → ℕ → ℕ → ℕ → ℕ → ℕ → Checked
+checkRecords rules b vs tree ns script rs =
     requireEach badVariable (variableRule b) vs
     (requireEach badParent (parentRule b tree) ns
-    (requireEach badNode (nodeRule b tree) ns (checkScript b vs script rs accepted)))
+    (requireEach badNode (nodeRule b tree) ns (checkScript rules b vs vs tree ns script rs accepted)))
 
--- "Job checks go in order of number."
-unfoldable pub checkBytes : List ℕ → Checked
-checkBytes b =
+-- "Job checks go in order of number.", but for 12, which is "checked after 7 and before 8"
+unfoldable pub checkBytesBy : Edition → List ℕ → Checked
+checkBytesBy rules b =
     require badLength (lengthRule (length b))
     (require badOffsets (offsetRule b)
     (require badCount (countRule (variableCount b) (nodeCount b) (recordCount b))
-    (checkRecords b (variableCount b) (nodesAt b) (nodeCount b) (scriptAt b) (recordCount b))))
+    (checkRecords rules b (variableCount b) (nodesAt b) (nodeCount b) (scriptAt b) (recordCount b))))
+
+-- by the rules of today
+abbrev pub checkBytes : List ℕ → Checked
+checkBytes b = checkBytesBy today b

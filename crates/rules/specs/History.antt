@@ -9,7 +9,7 @@ use Rattle.rules.specs.Limits.{maxVariables, maxNodes, maxRecords, recor
 use Rattle.rules.specs.Level.{Level, public}
 use Rattle.rules.specs.Tree.{Forest, count, size, fits}
 use Rattle.rules.specs.Script.{Command}
-use Rattle.rules.specs.Check.{Checked, accepted, refused, require, checkScript, checkBytes}
+use Rattle.rules.specs.Check.{Checked, accepted, refused, require, today, checkScript, checkBytes}
 use Rattle.rules.specs.Job.{Variable, allLevels, variables, jobTree, scriptOf}
 use Rattle.rules.specs.Run.{State, Buffers, low, stopNumber, run, start}
 use Rattle.rules.specs.Outcome.{budgetRule, Outcome, rejected, ran, answer, runJob}
@@ -44,11 +44,11 @@ storeRule s =
     leb (length (s .variables)) maxVariables && allLevels (s .variables) && eqb (count (s .tree)) 1 && leb (size (s .tree)) maxNodes
     && fits public public (s .tree)
 
--- "11 .. checked first, before 7, 8 and 9; after them 10 is given only for a lent table of more than 512 places"
+-- "11 .. checked first, before 7, 8 and 9; after them 10 is given only for a lent table of more than 512 places"; 12 "after 7 and before 8"
 unfoldable pub checkFollowOn : Store → FollowOn → Checked
 checkFollowOn s f =
     require badFollowOn (sectionRule (f .section) && storeRule s)
-    (checkScript (f .section) (length (s .variables)) 0 (sectionCount (f .section))
+    (checkScript today (f .section) (length (s .variables)) 0 0 0 0 (sectionCount (f .section))
     (require badBudget (budgetRule (f .budget)) (require badBuffers (leb (f .lent .places) maxNodes) accepted)))
 
 -- one script over a store: "Each starts at the root with cursor level 0."

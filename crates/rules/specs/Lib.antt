@@ -14,4 +14,5 @@ pub mod Outcome
 pub mod Public
 pub mod Board
 pub mod History
+pub mod Clean
 pub mod Trials

@@ -93,3 +93,7 @@ badBuffers = 10
 -- 11: a bare section, or a lent tree and variables
 abbrev pub badFollowOn : ℕ
 badFollowOn = 11
+
+-- 12: a spare byte
+abbrev pub badSpare : ℕ
+badSpare = 12

@@ -1,4 +1,4 @@
--- The run over a job's bytes: the checks 1 to 10, then the run, and the answer. Assumes nothing.
+-- The run over a job's bytes: the checks, then the run, and the answer. Assumes nothing.
 use mathlib.Core.Path.{_≡_}
 use Prim.Native.Nat.{ℕ}
 use mathlib.Core.Bool.{Bool, _&&_}
@@ -8,7 +8,7 @@ use lib.IntN.{ℤ}
 use lib.Dec.{leb}
 use Rattle.rules.specs.Limits.{maxNodes, maxBudget, badBudget, badBuffers}
 use Rattle.rules.specs.Bytes.{variableCount, nodeCount}
-use Rattle.rules.specs.Check.{Checked, accepted, refused, require, checkBytes}
+use Rattle.rules.specs.Check.{Checked, accepted, refused, require, Edition, today, checkBytesBy}
 use Rattle.rules.specs.Job.{variables, jobTree, script}
 use Rattle.rules.specs.Run.{State, Buffers, low, stopNumber, Ending, finished, stopped, Ended, run, start}
 
@@ -27,10 +27,14 @@ unfoldable pub andThen : Checked → Checked → Checked
 andThen accepted c = c
 andThen (refused k i) c = refused k i
 
--- the checks 1 to 10
+-- the checks of the bytes, in an edition, then 9 and 10
+unfoldable pub checkJobBy : Edition → List ℕ → ℕ → Buffers → Checked
+checkJobBy rules b budget lent =
+    andThen (checkBytesBy rules b) (require badBudget (budgetRule budget) (require badBuffers (bufferRule b lent) accepted))
+
+-- by the rules of today
 unfoldable pub checkJob : List ℕ → ℕ → Buffers → Checked
-checkJob b budget lent =
-    andThen (checkBytes b) (require badBudget (budgetRule budget) (require badBuffers (bufferRule b lent) accepted))
+checkJob b budget lent = checkJobBy today b budget lent
 
 -- what becomes of a job: it is turned back with a number and an index, or it is run
 pub data Outcome : Type 0 where
@@ -41,13 +45,17 @@ pub data Outcome : Type 0 where
 unfoldable pub begin : List ℕ → State
 begin b = start (variables b) (jobTree b)
 
--- the run over a job's bytes, with a budget and the caller's buffers
-unfoldable pub runJob : List ℕ → ℕ → Buffers → Outcome
-runJob b budget lent =
-    elim (checkJob b budget lent) [
+-- the run over a job's bytes, with a budget and the caller's buffers, where the checks are those of an edition
+unfoldable pub runJobBy : Edition → List ℕ → ℕ → Buffers → Outcome
+runJobBy rules b budget lent =
+    elim (checkJobBy rules b budget lent) [
       | refused k i ↦ rejected k i
       | accepted ↦ ran (run lent (script b) budget (begin b))
     ]
+
+-- by the rules of today
+unfoldable pub runJob : List ℕ → ℕ → Buffers → Outcome
+runJob b budget lent = runJobBy today b budget lent
 
 -- "Answer: ending (0 for finished, else the number), record index, steps, line count."
 pub record Answer : Type 0 where

@@ -1,0 +1,57 @@
+-- The cleaner and check 12 by computation: a job with notes in its spare bytes, each byte that a record leaves unread, and the order of 7, 12 and 8.
+-- Assumes nothing.
+use mathlib.Core.Path.{_≡_, refl}
+use Prim.Native.Nat.{ℕ}
+use mathlib.Core.Bool.{true, false}
+use mathlib.Core.List.{List, [], _∷_, map}
+use lib.ListN.{set}
+use lib.IntN.{pos}
+use Rattle.rules.specs.Check.{accepted, refused, fieldReads, recordReads, first, checkBytesBy, checkBytes}
+use Rattle.rules.specs.Clean.{Change, cleaned, report, leftClean}
+use Rattle.rules.specs.Trials.{usual, one, both, bare, number, v, value, children}
+use Rattle.rules.proofs.Computed.{computed}
+
+-- root, print 4
+pub tidy : List ℕ
+tidy = usual (pos 5) (bare 7 ∷ one 6 0 (number (pos 4)) ∷ [])
+
+-- notes in byte 2 of variable 1, byte 5 of node 0, the target of command 7, and the right kind and the right number's last byte of operator 0
+pub noted : List ℕ
+noted = set (set (set (set (set tidy 10 9) 21 7) 41 2) 60 3) 71 1
+
+pub change : ℕ → ℕ → ℕ → ℕ → Change
+change s i j old = record { spot = record { section = s; index = i; byte = j }; old = old }
+
+-- "`1 0 5 7` for node 0 whose byte 5 was 7"
+pub noted-report : report noted ≡ change 0 1 2 9 ∷ change 1 0 5 7 ∷ change 2 0 1 2 ∷ change 2 1 4 3 ∷ change 2 1 15 1 ∷ []
+unfolding computed tidy noted change
+noted-report = refl
+
+pub noted-cleaned : (cleaned noted ≡ tidy) × (report tidy ≡ [])
+unfolding computed tidy noted
+noted-cleaned = (refl, refl)
+
+-- the old rules accept the noted job; the new ones refuse it with the first record in file order, variables, nodes, script
+pub noted-refused :
+    (checkBytesBy first noted ≡ accepted)
+    × (map checkBytes (noted ∷ set noted 10 0 ∷ set (set noted 10 0) 21 0 ∷ set (set (set noted 10 0) 21 0) 41 0 ∷ tidy ∷ [])
+    ≡ refused 12 1 ∷ refused 12 0 ∷ refused 12 0 ∷ refused 12 1 ∷ accepted ∷ [])
+unfolding computed tidy noted
+noted-refused = (refl, refl)
+
+-- a spare byte in record 0 with command 17 in record 1; a spare byte in record 1 behind a lone end; the lone end alone. The first gets its old number from the cleaner
+pub order-holds :
+    (map checkBytes (set (set tidy 41 2) 56 17 ∷ set (set tidy 40 5) 60 3 ∷ set tidy 40 5 ∷ []) ≡ refused 7 1 ∷ refused 12 1 ∷ refused 8 0 ∷ [])
+    × (leftClean (set (set tidy 41 2) 56 17) ≡ set (set tidy 41 2) 56 17)
+unfolding computed tidy
+order-holds = (refl, refl)
+
+-- what records read: target, expression, right side, left number, right number. Root; v0 := v1; new first child of value, mark 3; print 1 plus children; write the mean
+-- of value and v0; command 200
+pub reads-hold :
+    map (λ (r : List ℕ). recordReads r 0)
+    (bare 7 ∷ one 1 0 (v 1) ∷ one 11 3 value ∷ both 6 0 1 (number (pos 1)) children ∷ both 15 0 5 value (v 0) ∷ bare 200 ∷ [])
+    ≡ fieldReads false false false false false ∷ fieldReads true true false true false ∷ fieldReads true true false false false ∷ fieldReads false true true true false
+    ∷ fieldReads false true true false true ∷ fieldReads false false false false false ∷ []
+unfolding computed
+reads-hold = refl
