@@ -20,7 +20,7 @@ use Rattle.job.specs.declared.checks.Checked.the-variants.{Accepted, Ref
 use Rattle.job.specs.Layout.{layoutOf, Inside}
 use Rattle.job.specs.declared.checks.Script.the-variants.{Sound, Faulty}
 use Rattle.job.specs.Plan.{Partly, Whole, Plans}
-use Rattle.job.specs.Answer.{answer, told, RecordsChecked}
+use Rattle.job.specs.Answer.{answer, told, JobTold, fromVariables}
 
 pub is-accepted : (l m : Layout) (c : Check.Checked) → answer l c ≡ Accepted m → (c ≡ Check.accepted) × (m ≡ l)
 unfolding answer
@@ -96,5 +96,6 @@ module _ (code : ℕ → ℕ) (n : ℕ) (c : Check.Checked) (p p′ : List ℕ) 
 pub plans-along : {code : ℕ → ℕ} {n : ℕ} {c d : Check.Checked} {p p′ : List ℕ} → d ≡ c → Plans code n c p p′ → Plans code n d p p′
 plans-along {code} {n} {c} {d} {p} {p′} e w = subst (λ (v : Check.Checked). Plans code n v p p′) (sym e) w
 
-pub checked-along : {b p p′ : List ℕ} {l m : Layout} {r : Checked} → l ≡ m → RecordsChecked b l p p′ r → RecordsChecked b m p p′ r
-checked-along {b} {p} {p′} {l} {m} {r} e w = subst (λ (k : Layout). RecordsChecked b k p p′ r) e w
+pub told-along : (rules : Check.Edition) {b p p′ : List ℕ} {l m : Layout} {r : Checked} → l ≡ m → JobTold b l (fromVariables b l rules) p p′ r
+    → JobTold b m (fromVariables b m rules) p p′ r
+told-along rules {b} {p} {p′} {l} {m} {r} e w = subst (λ (k : Layout). JobTold b k (fromVariables b k rules) p p′ r) e w

@@ -8,13 +8,14 @@ use native.Mathlib.Omega.{arith}
 use lib.Dec.{leb, ltb, eqb}
 use lib.ListN.{length}
 use borrow.Author.Tests.{leb-true}
-use Rattle.rules.specs.Limits.{maxNodes, maxRecords, recordSize, badRecord, badBlock, badBudget, badBuffers, badFollowOn}
+use Rattle.rules.specs.Limits.{maxNodes, maxRecords, recordSize, badRecord, badBlock, badSpare, badBudget, badBuffers, badFollowOn}
 use Rattle.rules.specs.Script.{numberAt}
-use Rattle.rules.specs.Check.{Checked, accepted, refused, firstFault, require, requireEach, checkScript, code}
+use Rattle.rules.specs.Check.{Checked, accepted, refused, firstFault, require, requireEach, requireIf, today, checkScript, code}
 use Rattle.rules.specs.Outcome.{budgetRule}
 use Rattle.rules.specs.History.{Store, FollowOn, sectionCount, sectionScript, sectionRule, storeRule, checkFollowOn}
 use Rattle.rules.proofs.Tests.{Test, holds, fails, test, both}
-use Rattle.rules.proofs.Checks.{passed-one, passed-each}
+use Rattle.rules.proofs.Checks.{passed-one}
+use Rattle.rules.proofs.Accepted.{script-right}
 use Rattle.job.specs.Plan.{Whole}
 use Rattle.job.specs.FollowOn.{checkSection}
 use Rattle.job.proofs.Answers.{never-both, section-plan}
@@ -41,6 +42,11 @@ each-link k good n = go (test (ltb (firstFault good n 0) n))
     go (holds z) = ends k (firstFault good n 0) (λ c. rw z)
     go (fails z) = goes-on (λ c. rw z)
 
+if-link : (asked : Bool) (k : ℕ) (good : ℕ → Bool) (n : ℕ) → Chain (requireIf asked k good n)
+unfolding requireIf
+if-link true k good n = each-link k good n
+if-link false k good n = goes-on (λ c. refl)
+
 -- one link behind another
 linked : {f g : Checked → Checked} → Chain f → Chain g → Chain (λ c. f (g c))
 linked {f} {g} (ends k i e) d = ends k i (λ c. e (g c))
@@ -56,14 +62,18 @@ accepts {f} c (goes-on e) h = e c
 accepts {f} c (ends m j e) h = never-both m j (f accepted) h (e accepted)
 
 module _ (s : Store) (f : FollowOn) (h : storeRule s ≡ true) where
-  -- the checks 11, 7 and 8, and what follows them
+  -- the checks 11, 7, 12 and 8, and what follows them
   abbrev checks : Checked → Checked
-  checks c = require badFollowOn (sectionRule (f .section)) (checkScript (f .section) (length (s .variables)) 0 (sectionCount (f .section)) c)
+  checks c = require badFollowOn (sectionRule (f .section)) (checkScript today (f .section) (length (s .variables)) 0 0 0 0 (sectionCount (f .section)) c)
 
   chain : Chain checks
+  unfolding checkScript
   chain =
       linked (one-link badFollowOn (sectionRule (f .section)))
-      (linked (each-link badRecord _ (sectionCount (f .section))) (each-link badBlock _ (suc (sectionCount (f .section)))))
+      (linked (each-link badRecord _ (sectionCount (f .section)))
+      (linked (if-link (today .spare) badSpare _ 0)
+      (linked (if-link (today .spare) badSpare _ 0)
+      (linked (if-link (today .spare) badSpare _ (sectionCount (f .section))) (each-link badBlock _ (suc (sectionCount (f .section))))))))
 
   -- the checks 9 and 10
   abbrev rest : Checked
@@ -91,5 +101,4 @@ pub follow-plan : (b : List ℕ) (vs : ℕ) (p p′ : List ℕ) → checkSection
 unfolding checkSection sectionScript
 follow-plan b vs p p′ e w =
     let x = passed-one badFollowOn _ _ e in
-    let y = passed-each badRecord _ _ _ (x .1) in
-    let z = passed-each badBlock _ _ _ (y .1) in section-plan b vs 0 (sectionCount b) (y .0) (z .0) p p′ w
+    let y = script-right today b vs 0 0 0 0 (sectionCount b) accepted (x .1) .0 in section-plan b vs 0 (sectionCount b) (y .records) (y .blocks) p p′ w

@@ -3,6 +3,8 @@ pub mod Stack
 pub mod Words
 pub mod Fill
 pub mod Siblings
+pub mod Scans
+pub mod Fits
 pub mod Answers
 pub mod FollowOns
 pub mod Spell

@@ -1,5 +1,5 @@
--- What a node's levels, the table's rows and a script record's fields stand for. Assumes nothing.
-use Prim.Native.Nat.{ℕ, _+_}
+-- Numbers of three and eight bytes; what a node's levels, the table's rows and a script record's fields stand for. Assumes nothing.
+use Prim.Native.Nat.{ℕ, _+_, _*_}
 use mathlib.Core.List.{List}
 use lib.ListN.{getD}
 use Rattle.rules.specs.Bytes.{byte, full}
@@ -9,6 +9,14 @@ use Rattle.rules.specs.Job.{operand, expression}
 use Rattle.job.specs.declared.nodes.Levels.{Levels}
 use Rattle.job.specs.declared.rows.Row.{Row}
 use Rattle.job.specs.declared.records.Fields.{Fields}
+
+-- the three bytes behind the one at a place, as a number
+unfoldable pub rest : List ℕ → ℕ → ℕ
+rest b at = byte b (at + 1) + byte b (at + 2) * 256 + byte b (at + 3) * 65536
+
+-- eight bytes, as a number
+unfoldable pub double : List ℕ → ℕ → ℕ
+double b at = full b at + full b (at + 4) * 4294967296
 
 -- the levels of node i, in the section that starts at base
 unfoldable pub levelsOf : List ℕ → ℕ → ℕ → Levels

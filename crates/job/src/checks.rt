@@ -1,4 +1,5 @@
-// The checks of a job's bytes, in order of number.
+// The checks of a job's bytes: 1 to 8 in order of number, with 12 between 7 and 8. The passes of 4, 6 and 7 find the first record with a spare byte that is not zero too,
+// so 12 has no pass of its own.
 use crate::blocks;
 use crate::nodes;
 use crate::nodes::parent_ok;
@@ -9,6 +10,8 @@ use crate::sections::counts_ok;
 use crate::sections::layout_of;
 use crate::sections::length_ok;
 use crate::sections::offsets_ok;
+use crate::spare;
+use crate::variables::variable_fits;
 use crate::variables::variable_ok;
 use rules::limits::BAD_BLOCK;
 use rules::limits::BAD_COUNT;
@@ -17,15 +20,17 @@ use rules::limits::BAD_NODE;
 use rules::limits::BAD_OFFSETS;
 use rules::limits::BAD_PARENT;
 use rules::limits::BAD_RECORD;
+use rules::limits::BAD_SPARE;
 use rules::limits::BAD_VARIABLE;
 ghost use mathlib.Core.Path.{_≡_};
 ghost use Prim.Native.Nat.{_≤_, _<_};
 ghost use lib.ListN.{length};
 ghost use Rattle.rules.specs.Limits.{maxRecords};
 ghost use Rattle.rules.specs.Bytes.{recordPlace};
-ghost use Rattle.rules.specs.Check.{firstFault, checkBytes};
+ghost use Rattle.rules.specs.Check.{variableRule, nodeRule, variableClean, nodeClean, recordClean, firstFault, today, checkBytesBy, checkBytes};
 ghost use Rattle.job.specs.Layout.{layoutOf, Inside};
-ghost use Rattle.job.specs.Answer.{answer, ruleOf, Passable, Scannable, ScriptChecked, RecordsChecked, Prepared};
+ghost use Rattle.job.specs.Siblings.{Linked};
+ghost use Rattle.job.specs.Answer.{answer, editionOf, ruleOf, recordRules, asked, scanOf, scanned, uncleanOf, Passable, Scannable, Fitted, Fronted, fromBlocks, fromSpare, fromScript, fromNodes, fromVariables, ScriptTold, JobTold, Prepared};
 
 // An accepted job with its layout, or the number that turns a job back, with the index of the first faulty record.
 pub enum Checked {
@@ -33,19 +38,35 @@ pub enum Checked {
     Refused { number: u8, index: usize },
 }
 
-// The checks 4 and 5, by number, of record i of its section.
+// The rules that are checked: paper 01 with R-1 to R-3, which the cleaner keeps, or those of today.
+pub enum Edition {
+    First,
+    Today,
+}
+
+// Whether they have check 12.
+fn has_spare(rules: Edition) -> bool
+    ensures { λ r. ⌜ r ≡ editionOf rules .spare ⌝ }
+{
+    match rules {
+        Edition::First => false,
+        Edition::Today => true,
+    }
+}
+
+// By number, of record i of its section: the checks 4 and 5, and 12 with 4 of a variable.
 fn passes(job: &[u8], l: Layout, number: u8, i: usize) -> bool
     requires { ⌜ Passable (now job) l number i ⌝ }
     ensures { λ r. ⌜ r ≡ ruleOf (now (job .entry)) l number i ⌝ }
 {
-    if number == BAD_VARIABLE {
-        variable_ok(job, i)
-    } else {
-        parent_ok(job, l.tree, i)
+    match number {
+        BAD_VARIABLE => variable_ok(job, i),
+        BAD_SPARE => variable_fits(job, i),
+        _ => parent_ok(job, l.tree, i),
     }
 }
 
-// The first record of its section that fails the check of a number, 4 or 5, or the count.
+// The first record of its section that fails the check of a number, or the count.
 fn first_fault(job: &[u8], l: Layout, number: u8, count: usize) -> usize
     requires { ⌜ Scannable (now job) l number count ⌝ }
     ensures { λ r. ⌜ r ≡ firstFault (ruleOf (now (job .entry)) l number) count 0 ⌝ }
@@ -60,32 +81,92 @@ fn first_fault(job: &[u8], l: Layout, number: u8, count: usize) -> usize
     i
 }
 
+// What a scan of a section comes to: its first faulty record, or where none is faulty the first with a spare byte that is not zero. Where there is none, or none is asked
+// for, that is the count.
+pub enum Scan {
+    Faulty(usize),
+    Passed(usize),
+}
+
+fn scan_of(fault: usize, unclean: usize, count: usize) -> Scan
+    ensures { λ r. ⌜ r ≡ scanOf fault unclean count ⌝ }
+{
+    if fault < count {
+        Scan::Faulty(fault)
+    } else {
+        Scan::Passed(unclean)
+    }
+}
+
+// The checks 4 and 12, of the variables.
+fn scan_variables(job: &[u8], l: Layout, rules: Edition) -> Scan
+    requires { ⌜ Inside (now job) l ⌝ }
+    ensures { λ r. ⌜ r ≡ scanned (editionOf rules) (variableRule (now (job .entry))) (variableClean (now (job .entry))) (l .variables) ⌝ }
+{
+    let count = l.variables;
+    if !has_spare(rules) {
+        return scan_of(first_fault(job, l, BAD_VARIABLE, count), count, count);
+    }
+    let unfit = first_fault(job, l, BAD_SPARE, count);
+    if unfit == count {
+        return Scan::Passed(count);
+    }
+    scan_of(first_fault(job, l, BAD_VARIABLE, count), unfit, count)
+}
+
+// The checks 6 and 12, of the nodes.
+fn scan_nodes(job: &[u8], l: Layout, rules: Edition) -> Scan
+    requires { ⌜ Linked (now job) (l .tree) (l .nodes) ⌝ }
+    ensures { λ r. ⌜ r ≡ scanned (editionOf rules) (nodeRule (now (job .entry)) (l .tree)) (nodeClean (now (job .entry)) (l .tree)) (l .nodes) ⌝ }
+{
+    let count = l.nodes;
+    if !has_spare(rules) {
+        return scan_of(nodes::first_fault(job, l.tree, count, false), count, count);
+    }
+    let unfit = nodes::first_fault(job, l.tree, count, true);
+    if unfit == count {
+        return Scan::Passed(count);
+    }
+    scan_of(nodes::first_fault(job, l.tree, count, false), unfit, count)
+}
+
+// The checks 7 and 12, of the script.
+fn scan_records(bytes: &[u8], l: Layout, variables: usize, rules: Edition) -> Scan
+    requires { ⌜ recordPlace (l .script) (l .records) ≤ length (now bytes) ⌝ }
+    ensures { λ r. ⌜ r ≡ scanned (editionOf rules) (recordRules (editionOf rules) (now (bytes .entry)) variables (l .script)) (recordClean (now (bytes .entry)) (l .script)) (l .records) ⌝ }
+{
+    let count = l.records;
+    if !has_spare(rules) {
+        return scan_of(
+            records::first_fault(bytes, l.script, count, variables),
+            count,
+            count,
+        );
+    }
+    let unfit = spare::first_unfit(bytes, l.script, count, variables);
+    if unfit == count {
+        return Scan::Passed(count);
+    }
+    scan_of(
+        records::first_fault(bytes, l.script, count, variables),
+        unfit,
+        count,
+    )
+}
+
 // A sound script, or the number that turns it back, with the index of the first faulty record.
 pub enum Script {
     Sound,
     Faulty { number: u8, index: usize },
 }
 
-// The checks 7 and 8, of `count` records from `base` on, and the plan of them.
-pub fn check_script(
-    bytes: &[u8],
-    base: usize,
-    count: usize,
-    variables: usize,
-    plan: &mut [u32],
-) -> Script
-    requires { ⌜ (recordPlace base count ≤ length (now bytes)) × (count ≤ maxRecords) × (count < length (now plan)) ⌝ }
-    ensures { λ r. ⌜ ScriptChecked (now (bytes .entry)) base count variables (now (plan .entry)) (now (plan .exit)) r ⌝ }
+// Check 8, and the plan of the script.
+fn check_blocks(bytes: &[u8], l: Layout, plan: &mut [u32]) -> Script
+    requires { ⌜ Fitted (now bytes) l (now plan) ⌝ }
+    ensures { λ r. ⌜ ScriptTold (now (bytes .entry)) l (fromBlocks (now (bytes .entry)) l) (now (plan .entry)) (now (plan .exit)) r ⌝ }
 {
-    let index = records::first_fault(bytes, base, count, variables);
-    if index < count {
-        return Script::Faulty {
-            number: BAD_RECORD,
-            index,
-        };
-    }
-    let index = blocks::first_fault(bytes, base, count, plan);
-    if index <= count {
+    let index = blocks::first_fault(bytes, l.script, l.records, plan);
+    if index <= l.records {
         return Script::Faulty {
             number: BAD_BLOCK,
             index,
@@ -94,18 +175,102 @@ pub fn check_script(
     Script::Sound
 }
 
-// The checks 4 to 8.
-fn check_records(job: &[u8], l: Layout, plan: &mut [u32]) -> Checked
-    requires { ⌜ Inside (now job) l × (maxRecords < length (now plan)) ⌝ }
-    ensures { λ r. ⌜ RecordsChecked (now (job .entry)) l (now (plan .entry)) (now (plan .exit)) r ⌝ }
+// Of each section the first record with a spare byte that is not zero, or the count.
+pub struct Unclean {
+    pub variables: usize,
+    pub nodes: usize,
+    pub records: usize,
+}
+
+// The checks 12 and 8: sections in file order.
+fn check_spare(
+    bytes: &[u8],
+    l: Layout,
+    unclean: Unclean,
+    rules: Edition,
+    plan: &mut [u32],
+) -> Script
+    requires { ⌜ Fitted (now bytes) l (now plan) × (unclean ≡ uncleanOf (editionOf rules) (now bytes) l) ⌝ }
+    ensures { λ r. ⌜ ScriptTold (now (bytes .entry)) l (fromSpare (now (bytes .entry)) l (editionOf rules)) (now (plan .entry)) (now (plan .exit)) r ⌝ }
 {
-    let index = first_fault(job, l, BAD_VARIABLE, l.variables);
-    if index < l.variables {
-        return Checked::Refused {
-            number: BAD_VARIABLE,
-            index,
+    if unclean.variables < l.variables {
+        return Script::Faulty {
+            number: BAD_SPARE,
+            index: unclean.variables,
         };
     }
+    if unclean.nodes < l.nodes {
+        return Script::Faulty {
+            number: BAD_SPARE,
+            index: unclean.nodes,
+        };
+    }
+    if unclean.records < l.records {
+        return Script::Faulty {
+            number: BAD_SPARE,
+            index: unclean.records,
+        };
+    }
+    check_blocks(bytes, l, plan)
+}
+
+// The checks 7, 12 and 8, where so many variables stand, and the plan of the script; `variable` and `node` are what is unclean in front of it.
+pub fn check_script(
+    bytes: &[u8],
+    l: Layout,
+    variables: usize,
+    variable: usize,
+    node: usize,
+    rules: Edition,
+    plan: &mut [u32],
+) -> Script
+    requires { ⌜ Fitted (now bytes) l (now plan) × Fronted (editionOf rules) (now bytes) l variable node ⌝ }
+    ensures { λ r. ⌜ ScriptTold (now (bytes .entry)) l (fromScript (now (bytes .entry)) l (editionOf rules) variables) (now (plan .entry)) (now (plan .exit)) r ⌝ }
+{
+    let scan = scan_records(bytes, l, variables, rules);
+    match scan {
+        Scan::Faulty(index) => Script::Faulty {
+            number: BAD_RECORD,
+            index,
+        },
+        Scan::Passed(records) => check_spare(
+            bytes,
+            l,
+            Unclean {
+                variables: variable,
+                nodes: node,
+                records,
+            },
+            rules,
+            plan,
+        ),
+    }
+}
+
+// From check 7 on, of a job.
+fn check_job_script(
+    job: &[u8],
+    l: Layout,
+    variable: usize,
+    node: usize,
+    rules: Edition,
+    plan: &mut [u32],
+) -> Checked
+    requires { ⌜ Fitted (now job) l (now plan) × Fronted (editionOf rules) (now job) l variable node ⌝ }
+    ensures { λ r. ⌜ JobTold (now (job .entry)) l (fromScript (now (job .entry)) l (editionOf rules) (l .variables)) (now (plan .entry)) (now (plan .exit)) r ⌝ }
+{
+    let script = check_script(job, l, l.variables, variable, node, rules, plan);
+    match script {
+        Script::Sound => Checked::Accepted(l),
+        Script::Faulty { number, index } => Checked::Refused { number, index },
+    }
+}
+
+// From check 5 on.
+fn check_nodes(job: &[u8], l: Layout, variable: usize, rules: Edition, plan: &mut [u32]) -> Checked
+    requires { ⌜ Inside (now job) l × (maxRecords < length (now plan)) × (variable ≡ asked (editionOf rules) (variableClean (now job)) (l .variables)) ⌝ }
+    ensures { λ r. ⌜ JobTold (now (job .entry)) l (fromNodes (now (job .entry)) l (editionOf rules)) (now (plan .entry)) (now (plan .exit)) r ⌝ }
+{
     let index = first_fault(job, l, BAD_PARENT, l.nodes);
     if index < l.nodes {
         return Checked::Refused {
@@ -113,24 +278,35 @@ fn check_records(job: &[u8], l: Layout, plan: &mut [u32]) -> Checked
             index,
         };
     }
-    let index = nodes::first_fault(job, l.tree, l.nodes);
-    if index < l.nodes {
-        return Checked::Refused {
+    let scan = scan_nodes(job, l, rules);
+    match scan {
+        Scan::Faulty(index) => Checked::Refused {
             number: BAD_NODE,
             index,
-        };
-    }
-    let script = check_script(job, l.script, l.records, l.variables, plan);
-    match script {
-        Script::Sound => Checked::Accepted(l),
-        Script::Faulty { number, index } => Checked::Refused { number, index },
+        },
+        Scan::Passed(node) => check_job_script(job, l, variable, node, rules, plan),
     }
 }
 
-// The checks 1 to 8. For 1 to 3 the index is 0; for an unclosed block it is the number of records.
-fn check_bytes(job: &[u8], plan: &mut [u32]) -> Checked
+// From check 4 on.
+fn check_records(job: &[u8], l: Layout, rules: Edition, plan: &mut [u32]) -> Checked
+    requires { ⌜ Inside (now job) l × (maxRecords < length (now plan)) ⌝ }
+    ensures { λ r. ⌜ JobTold (now (job .entry)) l (fromVariables (now (job .entry)) l (editionOf rules)) (now (plan .entry)) (now (plan .exit)) r ⌝ }
+{
+    let scan = scan_variables(job, l, rules);
+    match scan {
+        Scan::Faulty(index) => Checked::Refused {
+            number: BAD_VARIABLE,
+            index,
+        },
+        Scan::Passed(variable) => check_nodes(job, l, variable, rules, plan),
+    }
+}
+
+// All of them. For 1 to 3 the index is 0; for an unclosed block it is the number of records.
+fn check_bytes(job: &[u8], rules: Edition, plan: &mut [u32]) -> Checked
     requires { ⌜ maxRecords < length (now plan) ⌝ }
-    ensures { λ r. ⌜ Prepared (now (job .entry)) (now (plan .entry)) (now (plan .exit)) r ⌝ }
+    ensures { λ r. ⌜ Prepared (editionOf rules) (now (job .entry)) (now (plan .entry)) (now (plan .exit)) r ⌝ }
 {
     if !length_ok(job.len()) {
         return Checked::Refused {
@@ -151,21 +327,28 @@ fn check_bytes(job: &[u8], plan: &mut [u32]) -> Checked
             index: 0,
         };
     }
-    check_records(job, l, plan)
+    check_records(job, l, rules, plan)
 }
 
-// The checks 1 to 8, and for an accepted job the plan of its script. Where 8 refuses a record, the plan holds the words of those before it; a job
-// that is refused before leaves it alone.
+// The checks of today, and for an accepted job the plan of its script. Where 8 refuses a record, the plan holds the words of those before it; a job that is refused
+// before leaves it alone.
 pub fn prepare(job: &[u8], plan: &mut [u32; WORDS]) -> Checked
-    ensures { λ r. ⌜ Prepared (now (job .entry)) (now (plan .entry)) (now (plan .exit)) r ⌝ }
+    ensures { λ r. ⌜ Prepared today (now (job .entry)) (now (plan .entry)) (now (plan .exit)) r ⌝ }
 {
-    check_bytes(job, plan)
+    check_bytes(job, Edition::Today, plan)
 }
 
-// The checks alone.
+// The checks of an edition alone.
+pub fn check_by(job: &[u8], rules: Edition) -> Checked
+    ensures { λ r. ⌜ r ≡ answer (layoutOf (now (job .entry))) (checkBytesBy (editionOf rules) (now (job .entry))) ⌝ }
+{
+    let mut plan = [0u32; WORDS];
+    check_bytes(job, rules, &mut plan)
+}
+
+// The checks of today alone.
 pub fn check(job: &[u8]) -> Checked
     ensures { λ r. ⌜ r ≡ answer (layoutOf (now (job .entry))) (checkBytes (now (job .entry))) ⌝ }
 {
-    let mut plan = [0u32; WORDS];
-    prepare(job, &mut plan)
+    check_by(job, Edition::Today)
 }

@@ -1,7 +1,9 @@
-// The checks of a follow-on script, which is a bare section: 11 where it is not whole records or has more than 1,024, then 7 and 8.
+// The checks of a follow-on script, which is a bare section: 11 where it is not whole records or has more than 1,024, then 7, 12 and 8.
+use crate::checks::Edition;
 use crate::checks::Script;
 use crate::checks::check_script;
 use crate::plan::WORDS;
+use crate::sections::Layout;
 use rules::limits::BAD_FOLLOW_ON;
 use rules::limits::MAX_RECORDS;
 use rules::limits::RECORD_SIZE;
@@ -29,7 +31,14 @@ fn check_section(section: &[u8], variables: usize, plan: &mut [u32]) -> Script
             index: 0,
         };
     }
-    check_script(section, 0, section.len() / RECORD_SIZE, variables, plan)
+    let l = Layout {
+        variables: 0,
+        tree: 0,
+        nodes: 0,
+        script: 0,
+        records: section.len() / RECORD_SIZE,
+    };
+    check_script(section, l, variables, 0, 0, Edition::Today, plan)
 }
 
 // The checks of a section's bytes where so many variables stand, and for a sound one its plan, as `prepare` has it for a job.

@@ -1,5 +1,6 @@
-// The nodes, 12 bytes each from `base` on: the checks 5 and 6, and the fields.
+// The nodes, 12 bytes each from `base` on: the checks 5, 6 and 12, and the fields.
 use crate::reads::half_at;
+use crate::reads::rest_at;
 use crate::reads::signed_at;
 use rules::levels::PUBLIC;
 use rules::levels::is_level;
@@ -8,13 +9,15 @@ use rules::limits::MAX_NODES;
 use rules::limits::NO_PARENT;
 use rules::limits::NODE_SIZE;
 ghost use mathlib.Core.Path.{_≡_};
+ghost use mathlib.Core.Bool.{_||_, not};
 ghost use Prim.Native.Nat.{suc, _+_, _<_, _≤_};
 ghost use lib.ListN.{length, getD};
 ghost use Rattle.rules.specs.Limits.{nodeSize};
 ghost use Rattle.rules.specs.Bytes.{nodePlace};
-ghost use Rattle.rules.specs.Check.{parent, parentRule, labelRule, nearest, leftRule, childRule, nodeRule, firstFault};
+ghost use Rattle.rules.specs.Check.{parent, parentRule, labelRule, nearest, leftRule, childRule, nodeClean, firstFault};
 ghost use Rattle.rules.specs.Job.{labelOf};
 ghost use Rattle.job.specs.Fields.{levelsOf};
+ghost use Rattle.job.specs.Fits.{nodeFits};
 ghost use Rattle.job.specs.Siblings.{Linked, Rooted, Lasts, behind};
 
 pub fn parent_at(job: &[u8], base: usize, i: usize) -> usize
@@ -134,11 +137,25 @@ fn child_ok(job: &[u8], base: usize, last: &[u16], i: usize) -> bool
     left_ok(job, base, last, i)
 }
 
-// Check 6, of node i, which has passed check 5 as have all before it; `last` has the last child of each.
-fn node_ok(job: &[u8], base: usize, last: &[u16], i: usize) -> bool
-    requires { ⌜ Rooted (now job) base i × Lasts (now job) base i (now last) ⌝ }
-    ensures { λ r. ⌜ r ≡ nodeRule (now (job .entry)) base i ⌝ }
+// Check 12, of node i, where it is asked for.
+fn clean_ok(job: &[u8], base: usize, i: usize, spare: bool) -> bool
+    requires { ⌜ nodePlace base i + nodeSize ≤ length (now job) ⌝ }
+    ensures { λ r. ⌜ r ≡ (not spare || nodeClean (now (job .entry)) base i) ⌝ }
 {
+    if spare {
+        return rest_at(job, base + NODE_SIZE * i + 4) == 0;
+    }
+    true
+}
+
+// Check 6, of node i, which has passed check 5 as have all before it, and where `spare` says so check 12; `last` has the last child of each.
+fn node_ok(job: &[u8], base: usize, last: &[u16], i: usize, spare: bool) -> bool
+    requires { ⌜ Rooted (now job) base i × Lasts (now job) base i (now last) ⌝ }
+    ensures { λ r. ⌜ r ≡ nodeFits spare (now (job .entry)) base i ⌝ }
+{
+    if !clean_ok(job, base, i, spare) {
+        return false;
+    }
     if !label_ok(job, base, i) {
         return false;
     }
@@ -160,15 +177,15 @@ fn pass(job: &[u8], base: usize, last: &mut [u16], i: usize)
     }
 }
 
-// Check 6: the first of `count` nodes that fails it, or the count.
-pub fn first_fault(job: &[u8], base: usize, count: usize) -> usize
+// Check 6, and where `spare` says so check 12: the first of `count` nodes that fails, or the count.
+pub fn first_fault(job: &[u8], base: usize, count: usize, spare: bool) -> usize
     requires { ⌜ Linked (now job) base count ⌝ }
-    ensures { λ r. ⌜ r ≡ firstFault (nodeRule (now (job .entry)) base) count 0 ⌝ }
+    ensures { λ r. ⌜ r ≡ firstFault (nodeFits spare (now (job .entry)) base) count 0 ⌝ }
 {
     let mut last = [0u16; MAX_NODES];
     let mut i = 0;
     while i < count {
-        if !node_ok(job, base, &last, i) {
+        if !node_ok(job, base, &last, i, spare) {
             return i;
         }
         pass(job, base, &mut last, i);

@@ -4,6 +4,7 @@ ghost use Prim.Native.Nat.{_+_, _<_, _≤_};
 ghost use lib.ListN.{length};
 ghost use Rattle.rules.specs.Number.{signed};
 ghost use Rattle.rules.specs.Bytes.{byte, half, full};
+ghost use Rattle.job.specs.Fields.{rest, double};
 
 fn wide(x: u8) -> usize
     ensures { λ r. ⌜ (r ≡ x) × (r < 256) ⌝ }
@@ -15,6 +16,12 @@ fn wide32(x: u8) -> u32
     ensures { λ r. ⌜ (r ≡ x) × (r < 256) ⌝ }
 {
     x as u32
+}
+
+pub fn wide64(x: u32) -> u64
+    ensures { λ r. ⌜ (r ≡ x) × (r < 4294967296) ⌝ }
+{
+    x as u64
 }
 
 // The byte at a place, as a number to count or to index with.
@@ -40,6 +47,26 @@ pub fn full_at(job: &[u8], at: usize) -> u32
         + wide32(job[at + 1]) * 256
         + wide32(job[at + 2]) * 65536
         + wide32(job[at + 3]) * 16777216
+}
+
+// The three bytes behind the one at a place.
+pub fn rest_at(job: &[u8], at: usize) -> u32
+    requires { ⌜ at + 4 ≤ length (now job) ⌝ }
+    ensures { λ r. ⌜ r ≡ rest (now (job .entry)) at ⌝ }
+{
+    (wide32(job[at])
+        + wide32(job[at + 1]) * 256
+        + wide32(job[at + 2]) * 65536
+        + wide32(job[at + 3]) * 16777216)
+        / 256
+}
+
+// Eight bytes.
+pub fn double_at(job: &[u8], at: usize) -> u64
+    requires { ⌜ at + 8 ≤ length (now job) ⌝ }
+    ensures { λ r. ⌜ r ≡ double (now (job .entry)) at ⌝ }
+{
+    wide64(full_at(job, at)) + wide64(full_at(job, at + 4)) * 4294967296
 }
 
 pub fn signed_at(job: &[u8], at: usize) -> i32

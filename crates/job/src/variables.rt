@@ -1,13 +1,15 @@
-// The variables, 8 bytes each: check 4, and the fields.
+// The variables, 8 bytes each: the checks 4 and 12, and the fields.
+use crate::reads::rest_at;
 use crate::reads::signed_at;
 use rules::levels::is_level;
 use rules::limits::VARIABLE_SIZE;
 ghost use mathlib.Core.Path.{_≡_};
+ghost use mathlib.Core.Bool.{_&&_};
 ghost use Prim.Native.Nat.{_+_, _≤_};
 ghost use lib.ListN.{length};
 ghost use Rattle.rules.specs.Limits.{variableSize};
 ghost use Rattle.rules.specs.Bytes.{variablePlace};
-ghost use Rattle.rules.specs.Check.{variableRule};
+ghost use Rattle.rules.specs.Check.{variableRule, variableClean};
 ghost use Rattle.rules.specs.Job.{variableOf};
 
 pub fn level_at(job: &[u8], i: usize) -> u8
@@ -30,4 +32,12 @@ pub fn variable_ok(job: &[u8], i: usize) -> bool
     ensures { λ r. ⌜ r ≡ variableRule (now (job .entry)) i ⌝ }
 {
     is_level(level_at(job, i))
+}
+
+// And check 12.
+pub fn variable_fits(job: &[u8], i: usize) -> bool
+    requires { ⌜ variablePlace i + variableSize ≤ length (now job) ⌝ }
+    ensures { λ r. ⌜ r ≡ (variableRule (now (job .entry)) i && variableClean (now (job .entry)) i) ⌝ }
+{
+    variable_ok(job, i) & (rest_at(job, VARIABLE_SIZE * i) == 0)
 }

@@ -8,12 +8,12 @@ use lib.ListN.{length}
 use borrow.Author.Tests.{not-true, not-false}
 use Rattle.rules.specs.Limits.{badLength, badOffsets, badCount}
 use Rattle.rules.specs.Bytes.{nodesAt, scriptAt, variableCount, nodeCount, recordCount}
-use Rattle.rules.specs.Check.{Checked, require, lengthRule, offsetRule, countRule, checkRecords, checkBytes}
+use Rattle.rules.specs.Check.{Checked, require, lengthRule, offsetRule, countRule, Edition, checkRecords, checkBytesBy}
 use Rattle.rules.proofs.Checks.{turned, met, long-enough, sections}
 use Rattle.job.specs.declared.sections.Layout.{Layout}
 use Rattle.job.specs.Layout.{layoutOf, Inside}
-use Rattle.job.specs.Answer.{answer}
-use Rattle.job.proofs.Answers.{inside, plans-not, plans-along, checked-along}
+use Rattle.job.specs.Answer.{answer, editionOf}
+use Rattle.job.proofs.Answers.{inside, plans-not, plans-along, told-along}
 use borrow.Author.Needs.{needs}
 use Rattle.job.proofs.checks.check_bytes.Statement.{statement}
 use Rattle.job.proofs.checks.check_bytes.Tie as tie
@@ -32,17 +32,17 @@ counts c =
     sym (c .counts-ok .ensures ∙ ap (λ (l : Layout). countRule (l .variables) (l .nodes) (l .records)) (c .before .layout-of .ensures))
 
 -- what is left of the chain from check 3 on
-abbrev from3 : List ℕ → Checked
-from3 b =
+abbrev from3 : Edition → List ℕ → Checked
+from3 rules b =
     require badCount (countRule (variableCount b) (nodeCount b) (recordCount b))
-    (checkRecords b (variableCount b) (nodesAt b) (nodeCount b) (scriptAt b) (recordCount b))
+    (checkRecords rules b (variableCount b) (nodesAt b) (nodeCount b) (scriptAt b) (recordCount b))
 
-past2 : (c : tie.Else2) → let b = c .before .before .before .before .before .before .args .job .now in checkBytes b ≡ from3 b
-unfolding checkBytes
+past2 : (c : tie.Else2) → let b = c .before .before .before .before .before .before .args .job .now in checkBytesBy (editionOf (c .before .before .before .before .before .before .args .rules)) b ≡ from3 (editionOf (c .before .before .before .before .before .before .args .rules)) b
+unfolding checkBytesBy
 past2 c = met badLength _ (lengths (c .before .before)) ∙ met badOffsets _ (offsets c)
 
 returns : tie.Need-returns
-unfolding checkBytes answer
+unfolding checkBytesBy answer
 returns c =
     let e = turned badLength _ (sym (c .before .length-ok .ensures) ∙ not-true _ (c .if1 .taken)) in
     record { answered = sym (ap (answer _) e); plans = plans-not _ _ _ _ _ badLength _ (λ q. omega arith) e refl }
@@ -51,7 +51,7 @@ offsets-ok-requires : tie.Need-offsets-ok-requires
 offsets-ok-requires c κs = long-enough _ (lengths c)
 
 returns-2 : tie.Need-returns-2
-unfolding checkBytes answer
+unfolding checkBytesBy answer
 returns-2 c =
     let e = met badLength _ (lengths (c .before .before)) ∙ turned badOffsets _ (sym (c .before .offsets-ok .ensures) ∙ not-true _ (c .if2 .taken)) in
     record { answered = sym (ap (answer _) e); plans = plans-not _ _ _ _ _ badOffsets _ (λ q. omega arith) e refl }
@@ -76,7 +76,7 @@ returns-4 : tie.Need-returns-4
 unfolding layoutOf
 returns-4 c =
     let f = past2 (c .before .before .before .before .before .before .before) ∙ met badCount _ (counts (c .before .before .before .before .before) ∙ not-false _ (c .before .before .before .before .if3 .left)) in
-    let g = checked-along (c .before .before .before .before .before .before .layout-of .ensures) (c .before .before .check-records .ensures) in
+    let g = told-along _ (c .before .before .before .before .before .before .layout-of .ensures) (c .before .before .check-records .ensures) in
     record { answered = g .answered ∙ sym (ap (answer _) f); plans = plans-along f (g .plans) }
 
 pub check-bytes-spec : {M : Type 1} → statement M

@@ -10,21 +10,32 @@ variable-ok-requires : tie.Need-variable-ok-requires
 unfolding countOf
 variable-ok-requires c κs =
     let a = c .before .before .args in
-    let h : a .i < a .l .variables = rw (c .if1 .taken) at (c .before .before .pre .index) in omega (arith, c .before .before .pre .inside .variables)
+    let h : a .i < a .l .variables = rw (c .match .keys1) at (c .before .before .pre .index) in omega (arith, c .before .before .pre .inside .variables)
+
+variable-fits-requires : tie.Need-variable-fits-requires
+unfolding countOf
+variable-fits-requires c κs =
+    let a = c .before .before .args in
+    let h : a .i < a .l .variables = rw (c .match .keys2) at (c .before .before .pre .index) in omega (arith, c .before .before .pre .inside .variables)
 
 parent-ok-requires : tie.Need-parent-ok-requires
 unfolding countOf
 parent-ok-requires c κs =
     let a = c .before .before .args in
-    let h : a .i < a .l .nodes = rw (ne-eqb _ 4 (c .if1 .left)) at (c .before .before .pre .index) in omega (arith, c .before .before .pre .inside .nodes)
+    let n = c .match .rest in
+    let h : a .i < a .l .nodes = rw (ne-eqb _ 4 (n .0 .1), ne-eqb _ 12 (n .1)) at (c .before .before .pre .index) in omega (arith, c .before .before .pre .inside .nodes)
 
 returns : tie.Need-returns
 unfolding ruleOf
-returns c = rw (c .before .if1 .taken) (c .variable-ok .ensures)
+returns c = rw (c .before .match .keys1) (c .variable-ok .ensures)
 
 returns-2 : tie.Need-returns-2
 unfolding ruleOf
-returns-2 c = rw (ne-eqb _ 4 (c .before .if1 .left)) (c .parent-ok .ensures)
+returns-2 c = rw (c .before .match .keys2) (c .variable-fits .ensures)
+
+returns-3 : tie.Need-returns-3
+unfolding ruleOf
+returns-3 c = let n = c .before .match .rest in rw (ne-eqb _ 4 (n .0 .1), ne-eqb _ 12 (n .1)) (c .parent-ok .ensures)
 
 pub passes-spec : {M : Type 1} → statement M
-passes-spec = tie.close (tie.spec variable-ok-requires parent-ok-requires returns returns-2)
+passes-spec = tie.close (tie.spec variable-ok-requires variable-fits-requires parent-ok-requires returns returns-2 returns-3)

@@ -3,9 +3,10 @@ use mathlib.Core.Path.{refl, sym, ap, _∙_}
 use native.Mathlib.Omega.{arith}
 use borrow.Author.Tests.{not-true, not-false}
 use Rattle.rules.specs.Limits.{badFollowOn}
+use Rattle.rules.specs.Check.{firstFault, clean, today}
 use Rattle.rules.specs.History.{sectionCount}
 use Rattle.rules.proofs.Checks.{turned, met}
-use Rattle.job.specs.Answer.{told}
+use Rattle.job.specs.Answer.{told, editionOf, asked}
 use Rattle.job.specs.FollowOn.{checkSection}
 use Rattle.job.proofs.Answers.{plans-not, plans-along}
 use Rattle.job.proofs.FollowOns.{section-few}
@@ -20,12 +21,15 @@ returns c =
     record { answered = sym (ap told e); plans = plans-not _ _ _ _ _ badFollowOn _ (λ q. omega arith) e refl }
 
 check-script-requires : tie.Need-check-script-requires
-unfolding sectionCount
+unfolding sectionCount asked editionOf clean today firstFault
 check-script-requires c κs =
-    let h = section-few _ (sym (c .before .before .section-ok .ensures) ∙ not-false _ (c .before .if1 .left)) in (omega arith, omega arith, omega (arith, c .before .before .before .before .before .pre))
+    let h = section-few _ (sym (c .before .before .section-ok .ensures) ∙ not-false _ (c .before .if1 .left)) in (
+      record { inside = omega arith; short = omega arith; room = omega (arith, c .before .before .before .before .before .pre) },
+      record { variables = refl; nodes = refl },
+    )
 
 returns-2 : tie.Need-returns-2
-unfolding checkSection sectionCount
+unfolding checkSection sectionCount editionOf
 returns-2 c =
     let s = c .before .before .check-script .ensures in
     let f = met badFollowOn _ (sym (c .before .before .before .before .before .section-ok .ensures) ∙ not-false _ (c .before .before .before .before .if1 .left)) in

@@ -1,0 +1,369 @@
+-- A script record is right and clean where words of four and eight bytes of it are as the pass asks: a word that is zero, or below a bound, has zero bytes. The bytes that
+-- are read are known by the row of the command. Assumes nothing.
+use mathlib.Core.Path.{_≡_, refl, sym, ap, _∙_, subst}
+use mathlib.Core.Bool.{Bool, true, false, _&&_, _||_, not, cond}
+use mathlib.Core.List.{List, map}
+use Prim.Native.Nat.{ℕ, zero, suc, _+_, _*_, _≤_, _<_}
+use native.Mathlib.Omega.{arith}
+use lib.ListN.{length, getD, replicate, List·getD-map}
+use lib.Dec.{leb, ltb, eqb}
+use borrow.Author.Tests.{lt-ltb, le-ltb, le-leb, lt-leb, eq-eqb, ne-eqb, ltb-true, ltb-false, leb-true, eqb-true, eqb-false, not-true, not-false}
+use Rattle.rules.specs.Limits.{commandCount}
+use Rattle.rules.specs.Bytes.{byte, full, nodePlace, variablePlace}
+use Rattle.rules.specs.Script.{Row, row, rows, rowOf}
+use Rattle.rules.specs.Check.{operandRule, expressionRule, fieldsRule, recordRule, variableReads, nodeReads, fieldReads, hasNumber, readsRight, recordReads, spareRule, variableClean, nodeClean}
+use Rattle.rules.proofs.Tests.{Test, holds, fails, test, both, joined, neither, clash}
+use Rattle.rules.proofs.Ranges.{all-three, other, needed}
+use Rattle.rules.proofs.ReadBytes.{spare-all, spare-zero}
+use Rattle.job.specs.declared.rows.Row as Held
+use Rattle.job.specs.Fields.{rest, double, rowHeld}
+use Rattle.job.specs.Fits.{limitsOf, operandFits, rightFits, expressionFits, targetFits, bareFits, recordFits}
+
+pub same-tests : (x y : Bool) → (x ≡ true → y ≡ true) → (y ≡ true → x ≡ true) → x ≡ y
+same-tests true y f g = sym (f refl)
+same-tests false true f g = g refl
+same-tests false false f g = refl
+
+-- the three bytes of a variable and of a node that are spare
+three-zero : (x y z : ℕ) → (eqb x 0 && (eqb y 0 && (eqb z 0 && true))) ≡ eqb (x + y * 256 + z * 65536) 0
+three-zero x y z =
+    same-tests _ _
+    (λ h. let p = both (eqb x 0) _ h in
+    let q = both (eqb y 0) _ (p .1) in
+    let r = both (eqb z 0) true (q .1) in
+    let u = eqb-true x 0 (p .0) in
+    let v = eqb-true y 0 (q .0) in
+    let w = eqb-true z 0 (r .0) in eq-eqb (x + y * 256 + z * 65536) 0 (omega arith))
+    (λ h. let e = eqb-true (x + y * 256 + z * 65536) 0 h in
+    joined (eq-eqb x 0 (omega arith)) (joined (eq-eqb y 0 (omega arith)) (joined (eq-eqb z 0 (omega arith)) refl)))
+
+rest-is : (b : List ℕ) (at : ℕ) → byte b (suc at) + byte b (suc (suc at)) * 256 + byte b (suc (suc (suc at))) * 65536 ≡ rest b at
+unfolding rest
+rest-is b at =
+    let x = ap (byte b) {x = suc at} {y = at + 1} (omega arith) in
+    let y = ap (byte b) {x = suc (suc at)} {y = at + 2} (omega arith) in
+    let z = ap (byte b) {x = suc (suc (suc at))} {y = at + 3} (omega arith) in omega arith
+
+pub variable-rest : (b : List ℕ) (i : ℕ) → variableClean b i ≡ eqb (rest b (variablePlace i)) 0
+unfolding variableClean variableReads spareRule
+variable-rest b i =
+    three-zero (byte b (suc (variablePlace i))) (byte b (suc (suc (variablePlace i)))) (byte b (suc (suc (suc (variablePlace i)))))
+    ∙ ap (λ (n : ℕ). eqb n 0) (rest-is b (variablePlace i))
+
+pub node-rest : (b : List ℕ) (base i : ℕ) → nodeClean b base i ≡ eqb (rest b (nodePlace base i + 4)) 0
+unfolding nodeClean nodeReads spareRule
+node-rest b base i =
+    let at = suc (suc (suc (suc (nodePlace base i)))) in
+    three-zero (byte b (suc at)) (byte b (suc (suc at))) (byte b (suc (suc (suc at))))
+    ∙ ap (λ (n : ℕ). eqb n 0)
+    (rest-is b at ∙ ap (rest b) {x = at} {y = nodePlace base i + 4} (omega arith))
+
+-- by the limit of its kind an operand fits
+below-one : (n : ℕ) → ltb n 1 ≡ eqb n 0
+below-one zero = refl
+below-one (suc n) = le-ltb (suc n) 1 (omega arith) ∙ sym (ne-eqb (suc n) 0 (λ (e : suc n ≡ 0). omega arith))
+
+pub limited : (vars kind n : ℕ) → n < 4294967296 → kind < 4 → ltb n (getD (limitsOf vars) kind 0) ≡ operandFits vars kind n
+unfolding limitsOf operandFits operandRule hasNumber
+limited vars zero n h l = lt-ltb n 4294967296 h
+limited vars (suc zero) n h l = sym (mathlib.Core.Bool.and-true (ltb n vars))
+limited vars (suc (suc zero)) n h l = below-one n
+limited vars (suc (suc (suc zero))) n h l = below-one n
+limited vars (suc (suc (suc (suc kind)))) n h l = absurd (omega arith)
+
+pub unlimited : (vars kind n : ℕ) → 4 ≤ kind → operandFits vars kind n ≡ false
+unfolding operandFits operandRule
+unlimited vars kind n h = rw (lt-leb kind 3 (omega arith))
+
+-- of a right operand its kind
+kind-known : (vars kind n : ℕ) → operandRule vars kind n ≡ true → kind ≤ 3
+unfolding operandRule
+kind-known vars kind n h = leb-true kind 3 (both (leb kind 3) _ h .0)
+
+-- what no row of the table has
+falses : (n k : ℕ) → getD (replicate n false) k false ≡ false
+falses zero k = refl
+falses (suc n) zero = refl
+falses (suc n) (suc k) = falses n k
+
+module _ (k : ℕ) where
+  -- a target that is both an index and a mark
+  never-both : rowOf k .target ≡ true → rowOf k .mark ≡ false
+  unfolding rows
+  never-both t =
+      let z : (rowOf k .target && rowOf k .mark) ≡ false =
+      sym (List·getD-map (λ (r : Row). r .target && r .mark) rows k (row false false false)) ∙ falses 17 k
+      in rw t at z
+
+  -- a target that is read without an expression
+  never-alone : rowOf k .expression ≡ false → (rowOf k .target ≡ false) × (rowOf k .mark ≡ false)
+  unfolding rows
+  never-alone t =
+      let z : (not (rowOf k .expression) && (rowOf k .target || rowOf k .mark)) ≡ false =
+      sym (List·getD-map (λ (r : Row). not (r .expression) && (r .target || r .mark)) rows k (row false false false)) ∙ falses 17 k
+      in neither (rowOf k .target) (rowOf k .mark) (rw t at z)
+
+-- what spare bytes of a record are zero, in words, by what it reads
+module _ (b : List ℕ) (at : ℕ) (t e r n m : Bool) where
+  abbrev reads : List Bool
+  reads = fieldReads t e r n m
+
+  record Zero : Type 0 where
+    target : t ≡ false → byte b (at + 1) ≡ 0
+    fields : e ≡ false → (byte b (at + 2) ≡ 0) × (byte b (at + 3) ≡ 0)
+    right : r ≡ false → byte b (at + 4) ≡ 0
+    always : rest b (at + 4) ≡ 0
+    left-number : n ≡ false → full b (at + 8) ≡ 0
+    right-number : m ≡ false → full b (at + 12) ≡ 0
+
+  zero-if : spareRule reads b at ≡ true → Zero
+  unfolding fieldReads rest full
+  zero-if s =
+      record {
+        target = λ q. at-byte 1 (at + 1) (omega arith) refl q;
+        fields = λ q. (at-byte 2 (at + 2) (omega arith) refl q, at-byte 3 (at + 3) (omega arith) refl q);
+        right = λ q. at-byte 4 (at + 4) (omega arith) refl q;
+        always =
+            let x = at-byte 5 (at + 4 + 1) (omega arith) (omega arith) refl in
+            let y = at-byte 6 (at + 4 + 2) (omega arith) (omega arith) refl in
+            let z = at-byte 7 (at + 4 + 3) (omega arith) (omega arith) refl in omega arith;
+        left-number =
+            λ q. let x = at-byte 8 (at + 8) (omega arith) refl q in
+            let y = at-byte 9 (at + 8 + 1) (omega arith) (omega arith) q in
+            let z = at-byte 10 (at + 8 + 2) (omega arith) (omega arith) q in
+            let w = at-byte 11 (at + 8 + 3) (omega arith) (omega arith) q in omega arith;
+        right-number =
+            λ q. let x = at-byte 12 (at + 12) (omega arith) refl q in
+            let y = at-byte 13 (at + 12 + 1) (omega arith) (omega arith) q in
+            let z = at-byte 14 (at + 12 + 2) (omega arith) (omega arith) q in
+            let w = at-byte 15 (at + 12 + 3) (omega arith) (omega arith) q in omega arith;
+      }
+    where
+      at-byte : (j x : ℕ) → j < 16 → x ≡ at + j → getD reads j true ≡ false → byte b x ≡ 0
+      at-byte j x l p q = ap (byte b) p ∙ spare-zero reads b at s j l q
+
+  if-zero : Zero → spareRule reads b at ≡ true
+  unfolding fieldReads rest full
+  if-zero z = spare-all reads b at each
+    where
+      each : (j : ℕ) → j < length reads → getD reads j true ≡ false → byte b (at + j) ≡ 0
+      each zero l q = clash refl q
+      each (suc zero) l q = z .target q
+      each (suc (suc zero)) l q = z .fields q .0
+      each (suc (suc (suc zero))) l q = z .fields q .1
+      each (suc (suc (suc (suc zero)))) l q = z .right q
+      each (suc (suc (suc (suc (suc zero))))) l q = let w = z .always in ap (byte b) {x = at + 5} {y = at + 4 + 1} (omega arith) ∙ (omega arith)
+      each (suc (suc (suc (suc (suc (suc zero)))))) l q = let w = z .always in ap (byte b) {x = at + 6} {y = at + 4 + 2} (omega arith) ∙ (omega arith)
+      each (suc (suc (suc (suc (suc (suc (suc zero))))))) l q = let w = z .always in ap (byte b) {x = at + 7} {y = at + 4 + 3} (omega arith) ∙ (omega arith)
+      each (suc (suc (suc (suc (suc (suc (suc (suc zero)))))))) l q = let w = z .left-number q in omega arith
+      each (suc (suc (suc (suc (suc (suc (suc (suc (suc zero))))))))) l q = let w = z .left-number q in ap (byte b) {x = at + 9} {y = at + 8 + 1} (omega arith) ∙ (omega arith)
+      each (suc (suc (suc (suc (suc (suc (suc (suc (suc (suc zero)))))))))) l q = let w = z .left-number q in ap (byte b) {x = at + 10} {y = at + 8 + 2} (omega arith) ∙ (omega arith)
+      each (suc (suc (suc (suc (suc (suc (suc (suc (suc (suc (suc zero))))))))))) l q = let w = z .left-number q in ap (byte b) {x = at + 11} {y = at + 8 + 3} (omega arith) ∙ (omega arith)
+      each (suc (suc (suc (suc (suc (suc (suc (suc (suc (suc (suc (suc zero)))))))))))) l q = let w = z .right-number q in omega arith
+      each (suc (suc (suc (suc (suc (suc (suc (suc (suc (suc (suc (suc (suc zero))))))))))))) l q = let w = z .right-number q in ap (byte b) {x = at + 13} {y = at + 12 + 1} (omega arith) ∙ (omega arith)
+      each (suc (suc (suc (suc (suc (suc (suc (suc (suc (suc (suc (suc (suc (suc zero)))))))))))))) l q = let w = z .right-number q in ap (byte b) {x = at + 14} {y = at + 12 + 2} (omega arith) ∙ (omega arith)
+      each (suc (suc (suc (suc (suc (suc (suc (suc (suc (suc (suc (suc (suc (suc (suc zero))))))))))))))) l q = let w = z .right-number q in ap (byte b) {x = at + 15} {y = at + 12 + 3} (omega arith) ∙ (omega arith)
+      each (suc (suc (suc (suc (suc (suc (suc (suc (suc (suc (suc (suc (suc (suc (suc (suc j)))))))))))))))) l q = absurd (omega arith)
+
+-- tests that matter only where another holds, or fails
+if-so : (a c : Bool) → (a ≡ true → c ≡ true) → (not a || c) ≡ true
+if-so true c f = f refl
+if-so false c f = refl
+
+if-not : (a c : Bool) → (a ≡ false → c ≡ true) → (a || c) ≡ true
+if-not true c f = refl
+if-not false c f = f refl
+
+-- a target
+module _ (vars t : ℕ) where
+  target-to : (i m : Bool) → (not i || ltb t vars) ≡ true → (not m || leb t 3) ≡ true → ((i || m) ≡ false → t ≡ 0) → targetFits i m vars t ≡ true
+  unfolding targetFits
+  target-to true m a c z = a
+  target-to false true a c z = c
+  target-to false false a c z = eq-eqb t 0 (z refl)
+
+  target-from : (i m : Bool) → (i ≡ true → m ≡ false) → targetFits i m vars t ≡ true
+      → ((not i || ltb t vars) ≡ true) × (((not m || leb t 3) ≡ true) × ((i || m) ≡ false → t ≡ 0))
+  unfolding targetFits
+  target-from true true n e = clash refl (n refl)
+  target-from true false n e = (e, (refl, λ q. clash refl q))
+  target-from false true n e = (refl, (e, λ q. clash refl q))
+  target-from false false n e = (refl, (refl, λ q. eqb-true t 0 e))
+
+-- an operand
+module _ (vars kind n : ℕ) where
+  operand-to : operandRule vars kind n ≡ true → (hasNumber kind ≡ false → n ≡ 0) → operandFits vars kind n ≡ true
+  unfolding operandFits
+  operand-to r z = joined r (if-not (hasNumber kind) (eqb n 0) (λ e. eq-eqb n 0 (z e)))
+
+  operand-from : operandFits vars kind n ≡ true → (operandRule vars kind n ≡ true) × (hasNumber kind ≡ false → n ≡ 0)
+  unfolding operandFits
+  operand-from h =
+      let z = both (operandRule vars kind n) (hasNumber kind || eqb n 0) h in
+      (z .0, λ e. eqb-true n 0 (other (hasNumber kind) (eqb n 0) (z .1) e))
+
+-- the record at a place
+module _ (b : List ℕ) (vars at : ℕ) (small : byte b at < commandCount) where
+  abbrev own : Row
+  own = rowOf (byte b at)
+
+  abbrev Spare : Type 0
+  Spare =
+      Zero b at (own .target || own .mark) (own .expression) (readsRight b at) (own .expression && hasNumber (byte b (at + 3)))
+      (readsRight b at && hasNumber (byte b (at + 4)))
+
+  -- the two checks, taken apart and put together
+  fits-parts : recordFits b vars at ≡ true → (fieldsRule b vars own at ≡ true) × Spare
+  unfolding recordFits recordRule recordReads
+  fits-parts h =
+      let z = both (recordRule b vars at) (spareRule (recordReads b at) b at) h in
+      (both (ltb (byte b at) commandCount) (fieldsRule b vars own at) (z .0) .1, zero-if b at _ _ _ _ _ (z .1))
+
+  parts-fit : fieldsRule b vars own at ≡ true → Spare → recordFits b vars at ≡ true
+  unfolding recordFits recordRule recordReads
+  parts-fit f z = joined (joined (lt-ltb (byte b at) commandCount small) f) (if-zero b at _ _ _ _ _ z)
+
+  next-word : full b (at + 8 + 4) ≡ full b (at + 12)
+  next-word = ap (full b) {x = at + 8 + 4} {y = at + 12} (omega arith)
+
+  -- a record with no expression
+  module _ (h : own .expression ≡ false) where
+    bare-right : fieldsRule b vars own at ≡ true
+    unfolding fieldsRule
+    bare-right = let z = never-alone (byte b at) h in rw (z .0, z .1, h)
+
+    bare-words : Spare → (double b at < 256) × (double b (at + 8) ≡ 0)
+    unfolding double full rest readsRight
+    bare-words z =
+        let n = never-alone (byte b at) h in
+        let x = z .target (rw (n .0, n .1)) in
+        let y = z .fields h in
+        let w = z .right (rw h) in
+        let u = z .always in
+        let v = z .left-number (rw h) in
+        let t = z .right-number (rw h) in
+        let e = next-word in (omega arith, omega arith)
+
+    words-bare : double b at < 256 → double b (at + 8) ≡ 0 → Spare
+    unfolding double full rest
+    words-bare u v =
+        let e = next-word in
+        record {
+          target = λ q. omega arith;
+          fields = λ q. (omega arith, omega arith);
+          right = λ q. omega arith;
+          always = omega arith;
+          left-number = λ q. omega arith;
+          right-number = λ q. omega arith;
+        }
+
+    bare-fits : recordFits b vars at ≡ bareFits b at
+    unfolding bareFits
+    bare-fits =
+        same-tests (recordFits b vars at) (bareFits b at)
+        (λ e. let w = bare-words (fits-parts e .1) in joined (lt-ltb (double b at) 256 (w .0)) (eq-eqb (double b (at + 8)) 0 (w .1)))
+        (λ e. let w = both (ltb (double b at) 256) (eqb (double b (at + 8)) 0) e in
+        parts-fit bare-right (words-bare (ltb-true _ 256 (w .0)) (eqb-true _ 0 (w .1))))
+
+  -- a record with one
+  module _ (h : own .expression ≡ true) where
+    abbrev operator : ℕ
+    operator = byte b (at + 2)
+
+    abbrev kind : ℕ
+    kind = byte b (at + 4)
+
+    -- its right side
+    record Right : Type 0 where
+      rule : (eqb operator 0 || operandRule vars kind (full b (at + 12))) ≡ true
+      unread : readsRight b at ≡ false → kind ≡ 0
+      always : rest b (at + 4) ≡ 0
+      number : (readsRight b at && hasNumber kind) ≡ false → full b (at + 12) ≡ 0
+
+    word : full b (at + 4) ≡ kind + 256 * rest b (at + 4)
+    unfolding full rest
+    word = omega arith
+
+    right-to : Right → rightFits b vars operator at ≡ true
+    unfolding rightFits readsRight
+    right-to r = by (test (eqb operator 0))
+      where
+        by : Test (eqb operator 0) → rightFits b vars operator at ≡ true
+        by (holds t) =
+            let u = r .unread (rw (h, t)) in
+            let v = r .always in
+            let w = word in rw t (joined (eq-eqb (full b (at + 4)) 0 (omega arith)) (eq-eqb (full b (at + 12)) 0 (r .number (rw (h, t)))))
+        by (fails t) =
+            let v = r .always in
+            let e : full b (at + 4) ≡ kind = let w = word in omega arith in
+            rw (t, e)
+            (operand-to vars kind (full b (at + 12)) (other (eqb operator 0) _ (r .rule) t) (λ q. r .number (rw (h, t, q))))
+
+    right-from : rightFits b vars operator at ≡ true → Right
+    unfolding rightFits readsRight
+    right-from r = by (test (eqb operator 0))
+      where
+        by : Test (eqb operator 0) → Right
+        by (holds t) =
+            let z = both (eqb (full b (at + 4)) 0) (eqb (full b (at + 12)) 0) (rw t at r) in
+            let u = eqb-true (full b (at + 4)) 0 (z .0) in
+            let w = word in
+            record { rule = rw t; unread = λ q. omega arith; always = omega arith; number = λ q. eqb-true (full b (at + 12)) 0 (z .1) }
+        by (fails t) =
+            let z = operand-from vars (full b (at + 4)) (full b (at + 12)) (rw t at r) in
+            let k = kind-known vars (full b (at + 4)) (full b (at + 12)) (z .0) in
+            let w = word in
+            let e : full b (at + 4) ≡ kind = omega arith in
+            record {
+              rule = rw t (rw e at (z .0));
+              unread = λ q. clash (rw (h, t)) q;
+              always = omega arith;
+              number = λ q. z .1 (rw e (rw (h, t) at q));
+            }
+
+    expression-fits : recordFits b vars at ≡ (targetFits (own .target) (own .mark) vars (byte b (at + 1)) && expressionFits b vars at)
+    unfolding expressionFits fieldsRule expressionRule
+    expression-fits = same-tests (recordFits b vars at) _ to from
+      where
+        to : recordFits b vars at ≡ true → (targetFits (own .target) (own .mark) vars (byte b (at + 1)) && expressionFits b vars at) ≡ true
+        to e =
+            let p = fits-parts e in
+            let z = p .1 in
+            let f = all-three (not (own .target) || ltb (byte b (at + 1)) vars) (not (own .mark) || leb (byte b (at + 1)) 3) (not (own .expression) || expressionRule b vars at) (p .0) in
+            let x = all-three (leb operator 5) (operandRule vars (byte b (at + 3)) (full b (at + 8))) (eqb operator 0 || operandRule vars kind (full b (at + 12)))
+            (needed (own .expression) (expressionRule b vars at) (f .2) h)
+            in
+            joined (target-to vars (byte b (at + 1)) (own .target) (own .mark) (f .0) (f .1) (z .target))
+            (joined (joined (x .0) (operand-to vars (byte b (at + 3)) (full b (at + 8)) (x .1) (λ q. z .left-number (rw (h, q)))))
+            (right-to (record { rule = x .2; unread = z .right; always = z .always; number = z .right-number })))
+
+        from : (targetFits (own .target) (own .mark) vars (byte b (at + 1)) && expressionFits b vars at) ≡ true → recordFits b vars at ≡ true
+        from e =
+            let p = both (targetFits (own .target) (own .mark) vars (byte b (at + 1))) (expressionFits b vars at) e in
+            let t = target-from vars (byte b (at + 1)) (own .target) (own .mark) (never-both (byte b at)) (p .0) in
+            let x = all-three (leb operator 5) (operandFits vars (byte b (at + 3)) (full b (at + 8))) (rightFits b vars operator at) (p .1) in
+            let l = operand-from vars (byte b (at + 3)) (full b (at + 8)) (x .1) in
+            let r = right-from (x .2) in
+            parts-fit (joined (joined (t .0) (t .1 .0)) (if-so (own .expression) _ (λ q. joined (joined (x .0) (l .0)) (r .rule))))
+            (record {
+              target = t .1 .1;
+              fields = λ q. clash h q;
+              right = r .unread;
+              always = r .always;
+              left-number = λ q. l .1 (rw h at q);
+              right-number = r .number;
+            })
+
+  -- the same by the row that the program holds
+  module _ (held : Held.Row) (e : held ≡ rowHeld own) where
+    pub held-bare : held .expression ≡ false → recordFits b vars at ≡ bareFits b at
+    unfolding rowHeld
+    held-bare = subst (λ (r : Held.Row). r .expression ≡ false → recordFits b vars at ≡ bareFits b at) (sym e) bare-fits
+
+    pub held-expression : held .expression ≡ true
+        → recordFits b vars at ≡ (targetFits (held .target) (held .mark) vars (byte b (at + 1)) && expressionFits b vars at)
+    unfolding rowHeld
+    held-expression =
+        subst
+        (λ (r : Held.Row). r .expression ≡ true → recordFits b vars at ≡ (targetFits (r .target) (r .mark) vars (byte b (at + 1)) && expressionFits b vars at))
+        (sym e) expression-fits

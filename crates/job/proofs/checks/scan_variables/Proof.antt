@@ -1,0 +1,40 @@
+-- `scan_variables` meets its contract: by the two searches. Assumes nothing.
+use mathlib.Core.Path.{refl, sym, _∙_}
+use borrow.Author.Tests.{not-true, not-false}
+use Rattle.job.specs.Answer.{ruleOf, countOf}
+use Rattle.job.proofs.Scans.{not-asked, all-fit, first-unclean}
+use borrow.Author.Needs.{needs}
+use Rattle.job.proofs.checks.scan_variables.Statement.{statement}
+use Rattle.job.proofs.checks.scan_variables.Tie as tie
+
+first-fault-requires : tie.Need-first-fault-requires
+unfolding countOf
+first-fault-requires c κs = record { inside = c .before .before .before .pre; count = refl }
+
+first-fault-requires-2 : tie.Need-first-fault-requires-2
+unfolding countOf
+first-fault-requires-2 c κs = record { inside = c .before .before .before .pre; count = refl }
+
+first-fault-requires-3 : tie.Need-first-fault-requires-3
+unfolding countOf
+first-fault-requires-3 c κs = record { inside = c .before .before .before .before .before .pre; count = refl }
+
+returns : tie.Need-returns
+unfolding ruleOf
+returns c = c .scan-of .ensures ∙ not-asked _ _ _ _ (sym (c .before .before .before .has-spare .ensures) ∙ not-true _ (c .before .before .if1 .taken)) (c .before .first-fault .ensures)
+
+returns-2 : tie.Need-returns-2
+unfolding ruleOf
+returns-2 c = all-fit _ _ _ _ (sym (c .before .before .before .has-spare .ensures) ∙ not-false _ (c .before .before .if1 .left)) (c .before .first-fault2 .ensures) (c .if2 .taken)
+
+returns-3 : tie.Need-returns-3
+unfolding ruleOf
+returns-3 c =
+    c .scan-of2 .ensures
+    ∙ first-unclean _ _ _ _ (sym (c .before .before .before .before .before .has-spare .ensures) ∙ not-false _ (c .before .before .before .before .if1 .left)) (c .before .before .before .first-fault2 .ensures) (c .before .first-fault3 .ensures)
+
+pub scan-variables-spec : {M : Type 1} → statement M
+scan-variables-spec =
+    tie.close (tie.spec
+    (λ c κs. search needs) first-fault-requires (λ c κs. search needs) returns first-fault-requires-2 returns-2 first-fault-requires-3
+    (λ c κs. search needs) returns-3)

@@ -1,0 +1,61 @@
+-- `first_unfit` meets its contract: each record passed fits, by the row of its command. Assumes nothing.
+use mathlib.Core.Path.{_≡_, sym, _∙_}
+use mathlib.Core.Bool.{Bool, false}
+use mathlib.Core.List.{List}
+use Prim.Native.Nat.{ℕ, _-_}
+use native.Mathlib.Omega.{arith}
+use lib.ListN.{getD, List·getD-map}
+use borrow.Author.Tests.{not-true, not-false, le-ltb}
+use Rattle.rules.specs.Bytes.{recordPlace}
+use Rattle.rules.specs.Script.{Row, rows, row, rowOf}
+use Rattle.rules.specs.Check.{recordRule}
+use Rattle.rules.proofs.Search.{Scan, scan-start, scan-next, scan-stop, scan-end}
+use Rattle.job.specs.Fields.{rowHeld}
+use Rattle.job.specs.Fits.{recordFits}
+use borrow.Author.Needs.{needs}
+use Rattle.job.proofs.spare.first_unfit.Statement.{statement}
+use Rattle.job.proofs.spare.first_unfit.Tie as tie
+
+abbrev rule : List ℕ → ℕ → ℕ → ℕ → Bool
+rule b base vars i = recordFits b vars (recordPlace base i)
+
+abbrev Inv-loop : tie.InvT-loop
+Inv-loop job base count variables rows limits i₀ i = Scan (rule job base variables) count i
+
+abbrev μ-loop : tie.MeasureT-loop
+μ-loop job base count variables rows limits i₀ i = count - i
+
+abbrev nothing : Row
+nothing = row false false false
+
+loop-holds : tie.Need-loop-holds Inv-loop μ-loop
+loop-holds c = scan-start _ _
+
+returns : tie.Need-returns Inv-loop μ-loop
+unfolding recordFits recordRule
+returns c = scan-stop _ _ (c .before .before .before .loop .inv) (search needs) (rw (← c .before .byte-at .ensures .0, le-ltb _ 17 (c .if1 .taken)))
+
+fields-fit-requires : tie.Need-fields-fit-requires Inv-loop μ-loop
+unfolding rowHeld
+fields-fit-requires c κs =
+    let t = c .before .before .before .before .before .before .before .table in
+    let k = c .before .before .before .byte-at .result in
+    let e = c .before .before .before .byte-at .ensures .0 in
+    let h : getD (t .result) k (rowHeld nothing) ≡ rowHeld (rowOf k) = rw (t .ensures) (List·getD-map rowHeld rows k nothing) in
+    (omega (arith, c .before .before .before .before .before .before .before .before .before .pre), rw (← e) (c .before .before .if1 .left), rw (← e) h, c .before .before .before .before .before .before .limits-of .ensures)
+
+returns-2 : tie.Need-returns-2 Inv-loop μ-loop
+returns-2 c = scan-stop _ _ (c .before .before .before .before .before .before .before .loop .inv) (search needs) (sym (c .before .fields-fit .ensures) ∙ not-true _ (c .if2 .taken))
+
+loop-again : tie.Need-loop-again Inv-loop μ-loop
+loop-again c = scan-next _ _ (c .before .before .before .before .before .before .before .loop .inv) (search needs) (sym (c .before .fields-fit .ensures) ∙ not-false _ (c .if2 .left))
+
+returns-3 : tie.Need-returns-3 Inv-loop μ-loop
+returns-3 c = scan-end _ _ (c .before .loop .inv) (c .loop-test .left)
+
+pub first-unfit-spec : {M : Type 1} → statement M
+first-unfit-spec =
+    tie.close (tie.spec
+    Inv-loop μ-loop (λ c κs. search needs) (λ c κs. search needs) loop-holds (λ c. search needs) (λ c. search needs) (λ c κs. search needs) returns
+    (λ c. search needs) (λ c. search needs) fields-fit-requires returns-2 (λ c. search needs) (λ c. search needs)
+    loop-again returns-3)

@@ -1,0 +1,133 @@
+// Check 12 of the script's records, in one pass with check 7: a record fits where it is right and each byte that it does not read is zero. Which of the two a record fails
+// that does not fit is asked only then.
+use crate::reads::byte_at;
+use crate::reads::double_at;
+use crate::reads::full_at;
+use crate::reads::wide64;
+use crate::records::ALONE;
+use crate::records::MAX_MARK;
+use crate::records::MAX_OPERATOR;
+use crate::rows::Row;
+use crate::rows::table;
+use rules::limits::COMMANDS;
+use rules::limits::RECORD_SIZE;
+ghost use mathlib.Core.Path.{_≡_};
+ghost use Prim.Native.Nat.{_+_, _<_, _≤_};
+ghost use lib.ListN.{length};
+ghost use Rattle.rules.specs.Limits.{commandCount, recordSize};
+ghost use Rattle.rules.specs.Bytes.{byte, full, recordPlace};
+ghost use Rattle.rules.specs.Script.{rowOf};
+ghost use Rattle.rules.specs.Check.{firstFault};
+ghost use Rattle.job.specs.Fields.{rowHeld};
+ghost use Rattle.job.specs.Fits.{limitsOf, operandFits, rightFits, expressionFits, targetFits, bareFits, recordFits};
+
+// The kinds of an operand.
+const KINDS: usize = 4;
+
+// By its kind, what the number of an operand is below: any constant, a variable's index, and 0 where it is not read.
+fn limits_of(variables: usize) -> [u64; KINDS]
+    ensures { λ r. ⌜ r ≡ limitsOf variables ⌝ }
+{
+    [4294967296, variables as u64, 1, 1]
+}
+
+// An operand of a kind whose number stands at a place.
+fn operand_fits(job: &[u8], kind: usize, at: usize, limits: &[u64; KINDS], variables: usize) -> bool
+    requires { ⌜ (at + 4 ≤ length (now job)) × (now limits ≡ limitsOf variables) ⌝ }
+    ensures { λ r. ⌜ r ≡ operandFits variables kind (full (now (job .entry)) at) ⌝ }
+{
+    if KINDS <= kind {
+        return false;
+    }
+    wide64(full_at(job, at)) < limits[kind]
+}
+
+// The right side of the expression at a place, by its operator: the bytes 5 to 7 are zero, and of an operator with no right side 4 and 12 to 15 too.
+fn right_fits(job: &[u8], at: usize, operator: u8, limits: &[u64; KINDS], variables: usize) -> bool
+    requires { ⌜ (at + recordSize ≤ length (now job)) × (now limits ≡ limitsOf variables) ⌝ }
+    ensures { λ r. ⌜ r ≡ rightFits (now (job .entry)) variables operator at ⌝ }
+{
+    let kind = full_at(job, at + 4) as usize;
+    if operator == ALONE {
+        if kind != 0 {
+            return false;
+        }
+        return full_at(job, at + 12) == 0;
+    }
+    operand_fits(job, kind, at + 12, limits, variables)
+}
+
+fn expression_fits(job: &[u8], at: usize, limits: &[u64; KINDS], variables: usize) -> bool
+    requires { ⌜ (at + recordSize ≤ length (now job)) × (now limits ≡ limitsOf variables) ⌝ }
+    ensures { λ r. ⌜ r ≡ expressionFits (now (job .entry)) variables at ⌝ }
+{
+    let operator = job[at + 2];
+    if MAX_OPERATOR < operator {
+        return false;
+    }
+    if !operand_fits(job, byte_at(job, at + 3), at + 8, limits, variables) {
+        return false;
+    }
+    right_fits(job, at, operator, limits, variables)
+}
+
+fn target_fits(job: &[u8], at: usize, reads: Row, variables: usize) -> bool
+    requires { ⌜ at + recordSize ≤ length (now job) ⌝ }
+    ensures { λ r. ⌜ r ≡ targetFits (reads .target) (reads .mark) variables (byte (now (job .entry)) (at + 1)) ⌝ }
+{
+    let target = byte_at(job, at + 1);
+    if reads.target {
+        return target < variables;
+    }
+    if reads.mark {
+        return target <= MAX_MARK;
+    }
+    target == 0
+}
+
+// A record that reads its command only: all other bytes are zero.
+fn bare_fits(job: &[u8], at: usize) -> bool
+    requires { ⌜ at + recordSize ≤ length (now job) ⌝ }
+    ensures { λ r. ⌜ r ≡ bareFits (now (job .entry)) at ⌝ }
+{
+    if 255 < double_at(job, at) {
+        return false;
+    }
+    double_at(job, at + 8) == 0
+}
+
+// The fields of the record at a place, by the row of its command.
+fn fields_fit(job: &[u8], at: usize, reads: Row, limits: &[u64; KINDS], variables: usize) -> bool
+    requires { ⌜ (at + recordSize ≤ length (now job)) × (byte (now job) at < commandCount) × (reads ≡ rowHeld (rowOf (byte (now job) at))) × (now limits ≡ limitsOf variables) ⌝ }
+    ensures { λ r. ⌜ r ≡ recordFits (now (job .entry)) variables at ⌝ }
+{
+    if reads.expression {
+        if !target_fits(job, at, reads, variables) {
+            return false;
+        }
+        return expression_fits(job, at, limits, variables);
+    }
+    bare_fits(job, at)
+}
+
+// The checks 7 and 12: the first of `count` records that fails one of them, or the count.
+pub fn first_unfit(job: &[u8], base: usize, count: usize, variables: usize) -> usize
+    requires { ⌜ recordPlace base count ≤ length (now job) ⌝ }
+    ensures { λ r. ⌜ r ≡ firstFault (λ i. recordFits (now (job .entry)) variables (recordPlace base i)) count 0 ⌝ }
+{
+    let rows = table();
+    let limits = limits_of(variables);
+    let mut i = 0;
+    while i < count {
+        let at = base + RECORD_SIZE * i;
+        let command = byte_at(job, at);
+        if COMMANDS <= command {
+            return i;
+        }
+        if !fields_fit(job, at, rows[command], &limits, variables) {
+            return i;
+        }
+        i += 1;
+    }
+    i
+}
