@@ -15,7 +15,7 @@ use Rattle.rules.specs.Check.{require, checkBytes, code}
 use Rattle.rules.specs.Job.{script}
 use Rattle.rules.specs.Run.{Buffers, Ending, finished, stopped, Ended, run}
 use Rattle.rules.specs.Outcome as Rules
-use Rattle.rules.specs.Outcome.{endingNumber, endingIndex, runJob, boardLines, checkJob, andThen, budgetRule, bufferRule, begin}
+use Rattle.rules.specs.Outcome.{endingNumber, endingIndex, runJob, boardLines, checkJobBy, checkJob, andThen, budgetRule, bufferRule, begin}
 use Rattle.rules.proofs.Tests.{both, Test, holds, fails, test}
 use Rattle.rules.proofs.Checks.{passed-one}
 use Rattle.rules.proofs.Noninterference as Rejected
@@ -54,7 +54,7 @@ module _ (b : List ℕ) (budget places room : ℕ) (p p′ : List ℕ) (plan : c
   limits given = require badBudget (budgetRule budget) (require badBuffers (bufferRule b given) Check.accepted)
 
   pub by-bytes : (k i : ℕ) → checkBytes b ≡ Check.refused k i → AdmitsJob b budget places room p p′ (Refused k i)
-  unfolding checkJob andThen answer
+  unfolding checkJob checkJobBy andThen answer
   by-bytes k i e =
       record { answered = λ given gp gv. sym (ap (λ (c : Check.Checked). answer (layoutOf b) (andThen c (limits given))) e); whole = plan }
 
@@ -64,7 +64,7 @@ module _ (b : List ℕ) (budget places room : ℕ) (p p′ : List ℕ) (plan : c
 
     rest : (t u : Bool) → budgetRule budget ≡ t → bufferTest (l .nodes) (l .variables) places room ≡ u → (given : Buffers)
         → given .places ≡ places → given .variables ≡ room → checkJob b budget given ≡ require badBudget t (require badBuffers u Check.accepted)
-    unfolding checkJob andThen bufferRule bufferTest layoutOf
+    unfolding checkJob checkJobBy andThen bufferRule bufferTest layoutOf
     rest t u x y given gp gv =
         let z = subst (λ (k : Layout). bufferTest (k .nodes) (k .variables) places room ≡ u) layout y in
         rw (ok, x, gp, gv) (ap (λ (w : Bool). require badBudget t (require badBuffers w Check.accepted)) z)
@@ -124,7 +124,7 @@ module _ (b : List ℕ) (budget places room : ℕ) (p p′ : List ℕ) (x : Slic
     bytes = bytes-accepted b budget given (accepts .0)
 
     passed : (budgetRule budget ≡ true) × (bufferRule b given ≡ true)
-    unfolding checkJob
+    unfolding checkJob checkJobBy
     passed =
         let w = passed-one badBudget _ _ (accepted-rest (checkBytes b) _ (accepts .0)) in
         (w .0, passed-one badBuffers _ _ (w .1) .0)

@@ -8,21 +8,19 @@ use lib.Dec.{leb}
 use lib.IntN.{ℤ}
 use lib.ListN.{length}
 use borrow.Author.Tests.{leb-true, leb-false}
-use Rattle.rules.specs.Limits.{maxNodes, maxBudget, recordSize, badFollowOn, badRecord, badBlock, badBudget}
+use Rattle.rules.specs.Limits.{maxNodes, maxBudget, recordSize}
 use Rattle.rules.specs.Bytes.{recordPlace}
-use Rattle.rules.specs.Blocks.{blockRule}
 use Rattle.rules.specs.Tree.{Forest, root}
 use Rattle.rules.specs.Check.{accepted, recordRule, code}
 use Rattle.rules.specs.Run.{Ended, start, run}
 use Rattle.rules.specs.Outcome as Rules
 use Rattle.rules.specs.Outcome.{answer, budgetRule}
-use Rattle.rules.specs.History.{Store, FollowOn, sectionCount, sectionScript, sectionRule, storeRule, checkFollowOn, follow, leaves, after, afterAll}
+use Rattle.rules.specs.History.{Store, FollowOn, sectionCount, sectionScript, checkFollowOn, follow, leaves, after, afterAll}
 use Rattle.rules.proofs.Tests.{Test, holds, fails, test, both}
-use Rattle.rules.proofs.Checks.{passed-one, passed-each}
 use Rattle.rules.proofs.Accepted.{section-blocks, section-jumps}
 use Rattle.rules.proofs.Control.{Valid}
 use Rattle.rules.proofs.Starts.{start-valid}
-use Rattle.rules.proofs.Stores.{Holdable, holdable-kept, taken, followed, all-holdable}
+use Rattle.rules.proofs.Stores.{Holdable, holdable-kept, Taken, taken, followed, all-holdable}
 use Rattle.job.specs.declared.checks.Script.the-variants.{Sound}
 use Rattle.job.specs.Plan.{entry, Whole}
 use Rattle.job.proofs.FollowOns.{section-few}
@@ -55,20 +53,8 @@ module _ (b : List ℕ) (budget places : ℕ) (x : Slices) (s : Store) (h : Hold
   vars = length (x .levels)
 
   -- what the checks have shown
-  record Shown : Type 0 where
-    whole : sectionRule b ≡ true
-    records : (i : ℕ) → i < sectionCount b → recordRule b (length (s .variables)) (recordPlace 0 i) ≡ true
-    blocks : (i : ℕ) → i < suc (sectionCount b) → blockRule (code b 0) (sectionCount b) i ≡ true
-    spend : budgetRule budget ≡ true
-
-  passed : Shown
-  unfolding checkFollowOn
-  passed =
-      let x1 = passed-one badFollowOn _ _ ok in
-      let x2 = passed-each badRecord _ _ _ (x1 .1) in
-      let x3 = passed-each badBlock _ _ _ (x2 .1) in
-      let x4 = passed-one badBudget _ _ (x3 .1) in
-      record { whole = both (sectionRule b) (storeRule s) (x1 .0) .0; records = x2 .0; blocks = x3 .0; spend = x4 .0 }
+  passed : Taken s f
+  passed = taken s f ok
 
   within : budget ≤ maxBudget
   unfolding budgetRule
@@ -78,10 +64,10 @@ module _ (b : List ℕ) (budget places : ℕ) (x : Slices) (s : Store) (h : Hold
     scripted : Whole (code b 0) (sectionCount b) p p′ → sectionCount b < length p′ → Script (held b p′ (frame b vars places))
     unfolding sectionCount
     scripted plan long =
-        let c = passed in
+        let c = passed .checked in
         record {
           inside = omega arith;
-          few = section-few b (c .whole);
+          few = section-few b (passed .whole);
           fields = subst (λ (n : ℕ). (i : ℕ) → i < sectionCount b → recordRule b n (recordPlace 0 i) ≡ true) (many-held (asLent x) s h) (c .records);
           blocks = section-blocks b (length (s .variables)) 0 (sectionCount b) (c .records) (c .blocks);
           long = long;
@@ -113,7 +99,7 @@ module _ (b : List ℕ) (budget places : ℕ) (x : Slices) (s : Store) (h : Hold
       e = run (f .lent) (sectionScript b) budget (start (s .variables) (s .tree))
 
       valid : Valid (sectionScript b) (start (s .variables) (s .tree))
-      valid = start-valid (s .variables) (s .tree) (holdable-kept s (taken s f ok .store)) (sectionScript b)
+      valid = start-valid (s .variables) (s .tree) (holdable-kept s (passed .store)) (sectionScript b)
 
       variables : Variables (x .levels) (x .values) vars (s .variables)
       variables = subst (Variables (x .levels) (x .values) vars) (sym (h .variables)) (shown (asLent x))
@@ -138,7 +124,7 @@ module _ (b : List ℕ) (budget places : ℕ) (x : Slices) (s : Store) (h : Hold
       -- what is lent holds the store that the script leaves
       rules : Holdable (leaves s (Rules.ran e))
       unfolding after afterAll
-      rules = subst (λ (o : Rules.Outcome). Holdable (leaves s o)) is-ran (all-holdable (f ∷ []) s (taken s f ok .store))
+      rules = subst (λ (o : Rules.Outcome). Holdable (leaves s o)) is-ran (all-holdable (f ∷ []) s (passed .store))
 
       next : HoldsStore (StandsAmong places) (asLent (slices w′ (x .levels) v′ b′)) (leaves s (Rules.ran e))
       unfolding leaves

@@ -8,21 +8,21 @@ use native.Mathlib.Omega.{arith}
 use lib.ListN.{length, length-append}
 use lib.Dec.{leb}
 use borrow.Author.Tests.{leb-true}
-use Rattle.rules.specs.Limits.{maxBudget, badRecord, badBlock, badBudget, badFollowOn}
+use Rattle.rules.specs.Limits.{maxBudget, badBudget}
 use Rattle.rules.specs.Level.{Level}
 use Rattle.rules.specs.Tree.{Forest, Place}
 use Rattle.rules.specs.Script.{Expression, Action, Command, act, fetch}
 use Rattle.rules.specs.Check.{Checked, accepted, refused}
 use Rattle.rules.specs.Job.{Variable, script}
 use Rattle.rules.specs.Run.{Memory, State, Buffers, withVariables, withTree, withCursor, withLine, assign, output, moveTo, goTo, insertAt, removeAt, write, effect, stepped, enterIf, enterWhile, carried, step, start, run}
-use Rattle.rules.specs.Outcome.{Outcome, rejected, ran, answer, checkJob, budgetRule, begin, runJob}
+use Rattle.rules.specs.Outcome.{Outcome, rejected, ran, answer, checkJobBy, checkJob, budgetRule, begin, runJob}
 use Rattle.rules.specs.History.{Store, FollowOn, checkFollowOn, follow}
 use Rattle.rules.proofs.Tests.{Test, holds, fails, test, both}
-use Rattle.rules.proofs.Checks.{passed-one, passed-each}
+use Rattle.rules.proofs.Checks.{passed-one}
 use Rattle.rules.proofs.Results.{Good, good-need, good-given, good-onward, good-next}
 use Rattle.rules.proofs.Runs.{more, run-spent, run-over, Turn, stops, goes, turn}
 use Rattle.rules.proofs.Noninterference.{accepted-rest, turned-back, runs}
-use Rattle.rules.proofs.Stores.{followed, turned-away}
+use Rattle.rules.proofs.Stores.{taken, followed, turned-away}
 
 -- a memory with one line more at most
 OneMore : Memory → Memory → Type 0
@@ -104,16 +104,11 @@ unfolding budgetRule
 passes n e = leb-true _ _ (both (leb 1 n) (leb n maxBudget) e .1)
 
 job-spends : (b : List ℕ) (n : ℕ) (lent : Buffers) → checkJob b n lent ≡ accepted → n ≤ maxBudget
-unfolding checkJob
+unfolding checkJob checkJobBy
 job-spends b n lent e = passes n (passed-one badBudget _ _ (accepted-rest _ _ e) .0)
 
 script-spends : (s : Store) (f : FollowOn) → checkFollowOn s f ≡ accepted → f .budget ≤ maxBudget
-unfolding checkFollowOn
-script-spends s f e =
-    let x1 = passed-one badFollowOn _ _ e in
-    let x2 = passed-each badRecord _ _ _ (x1 .1) in
-    let x3 = passed-each badBlock _ _ _ (x2 .1) in
-    passes (f .budget) (passed-one badBudget _ _ (x3 .1) .0)
+script-spends s f e = passes (f .budget) (taken s f e .spend)
 
 -- no outcome has more lines than a number's lower half holds: one that was turned back has none
 abbrev pub Few : Outcome → Type 0
