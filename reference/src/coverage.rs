@@ -9,7 +9,7 @@ use crate::ending::Ending;
 use crate::follow;
 use crate::generate::Case;
 use crate::history::{self, Event, Expected, Model};
-use crate::job::{self, command, kind, operator, Record, Target, MAX_BLOCKS, READS};
+use crate::job::{self, command, kind, operator, Job, Record, Target, MAX_BLOCKS, READS};
 use crate::mistake::Mistake;
 use crate::run::{self, Outcome, State};
 use crate::table::Fault;
@@ -175,6 +175,10 @@ impl Coverage {
                 let record = &parts.script[outcome.index];
                 self.count(field_name(faulty_field(record, parts.variables.len())));
             }
+            Ending::Spare => {
+                let parts = job::split(&case.bytes).expect("check 2 passed");
+                self.count(spare_name(spare_part(&parts)));
+            }
             Ending::Block => {
                 let script = job::split(&case.bytes).expect("check 2 passed").script;
                 self.count(block_name(at(&script)));
@@ -272,6 +276,46 @@ fn field_name(field: &str) -> String {
     format!("refusal 07 for the {field}")
 }
 
+/// What check 12 looks at.
+const SPARE: [&str; 8] = [
+    "variable",
+    "node",
+    "target",
+    "operator or left kind",
+    "right kind",
+    "bytes 5 to 7",
+    "left number",
+    "right number",
+];
+
+/// The first of them that is not zero in a job that check 12 turned back.
+fn spare_part(job: &Job) -> &'static str {
+    let plain = job.plain(Mistake::None);
+    if job.variables != plain.variables {
+        return SPARE[0];
+    }
+    if job.nodes != plain.nodes {
+        return SPARE[1];
+    }
+    let mut records = job.script.iter().zip(&plain.script);
+    let (record, plain) = records
+        .find(|(record, plain)| record != plain)
+        .expect("a spare byte");
+    match record {
+        _ if record.target != plain.target => SPARE[2],
+        _ if record.operator != plain.operator => SPARE[3],
+        _ if record.left_kind != plain.left_kind => SPARE[3],
+        _ if record.right_kind != plain.right_kind => SPARE[4],
+        _ if record.spare != plain.spare => SPARE[5],
+        _ if record.left != plain.left => SPARE[6],
+        _ => SPARE[7],
+    }
+}
+
+fn spare_name(part: &str) -> String {
+    format!("refusal 12 for the {part}")
+}
+
 fn node_name(levels: [Level; 3]) -> String {
     let [existence, content, list] = levels;
     format!("job with a node of levels {existence} {content} {list}")
@@ -363,7 +407,7 @@ pub fn wanted_of_histories() -> Vec<String> {
 
 /// Everything that a generator must reach: all commands at all levels that they
 /// can leave, all operators with all kinds, all endings of a job but 26, every stop at
-/// every command that can give it, every reason for 7 and 8, long runs, sixteen
+/// every command that can give it, every reason for 7, 8 and 12, long runs, sixteen
 /// open blocks, counting under cover, and nodes of all five combinations of levels.
 pub fn wanted() -> Vec<String> {
     let mut names = Vec::new();
@@ -392,6 +436,7 @@ pub fn wanted() -> Vec<String> {
     ];
     names.extend(reasons.into_iter().map(block_name));
     names.extend(FIELDS.map(field_name));
+    names.extend(SPARE.map(spare_name));
     names.push(String::from(DEEPEST));
     names.push(String::from(COUNTED));
     names.extend(wanted_levels());

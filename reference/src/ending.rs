@@ -1,6 +1,6 @@
 //! The ways a job can end, with the paper's numbers.
 
-/// Finished, a job or script turned back (1 to 11), or a run that stopped (21 to 27).
+/// Finished, a job or script turned back (1 to 12), or a run that stopped (21 to 27).
 #[derive(Clone, Copy, Debug, PartialEq, Eq, PartialOrd, Ord)]
 pub enum Ending {
     Finished = 0,
@@ -28,6 +28,8 @@ pub enum Ending {
     /// "a bare section that is not whole records or has more than 1,024, or a
     /// lent tree and variables that no accepted job could hold" (R-1)
     Standing = 11,
+    /// "a spare byte not zero" (R-4)
+    Spare = 12,
     /// "a rule above"
     Rule = 21,
     /// "the node moved to or removed does not exist, or command 12 at the root"
@@ -45,7 +47,7 @@ pub enum Ending {
 }
 
 impl Ending {
-    pub const ALL: [Ending; 19] = [
+    pub const ALL: [Ending; 20] = [
         Ending::Finished,
         Ending::Size,
         Ending::Layout,
@@ -58,6 +60,7 @@ impl Ending {
         Ending::Budget,
         Ending::Buffer,
         Ending::Standing,
+        Ending::Spare,
         Ending::Rule,
         Ending::Missing,
         Ending::TableFull,
@@ -72,8 +75,8 @@ impl Ending {
         self as u32
     }
 
-    /// Endings 1 to 11: no step was made and no lent buffer changed.
+    /// Endings 1 to 12: no step was made and no lent buffer changed.
     pub fn turned_back(self) -> bool {
-        (1..=11).contains(&self.number())
+        (1..=12).contains(&self.number())
     }
 }

@@ -64,7 +64,7 @@ pub fn follow(
 }
 
 /// "11 [...] checked first, before 7, 8 and 9; after them 10 is given only for
-/// a lent table of more than 512 places."
+/// a lent table of more than 512 places."; 12 "after 7 and before 8".
 fn check<'a>(
     standing: &'a Result<Standing, Fault>,
     section: &[u8],

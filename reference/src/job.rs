@@ -1,4 +1,5 @@
-//! The job's bytes: three sections and a trailer, and the checks 1 to 8.
+//! The job's bytes: three sections and a trailer, the checks 1 to 8 and, before 8,
+//! the check of spare bytes (R-4).
 
 use crate::ending::Ending;
 use crate::mistake::Mistake;
@@ -155,26 +156,59 @@ pub const READS: [Reads; command::COUNT] = [
     reads(Target::Ignored, false),
 ];
 
-/// The job in `bytes`, or the first check of 1 to 8 that turns it back.
+/// The job in `bytes`, or the first check that turns it back.
 pub fn decode(bytes: &[u8]) -> Result<Job, Refusal> {
     decode_with(bytes, Mistake::None)
 }
 
-/// "Job checks go in order of number." Each goes over its whole section.
+/// "Job checks go in order of number.", but for 12. Each goes over its whole
+/// section.
 pub fn decode_with(bytes: &[u8], mistake: Mistake) -> Result<Job, Refusal> {
+    let job = decode_fields(bytes, mistake)?;
+    check_spare_and_blocks(&job, mistake)?;
+    Ok(job)
+}
+
+/// The job in `bytes` by the rules before R-4: its spare bytes hold anything.
+pub fn decode_first(bytes: &[u8], mistake: Mistake) -> Result<Job, Refusal> {
+    let job = decode_fields(bytes, mistake)?;
+    check_blocks(&job.script, mistake)?;
+    Ok(job)
+}
+
+/// Checks 1 to 7.
+fn decode_fields(bytes: &[u8], mistake: Mistake) -> Result<Job, Refusal> {
     let job = split(bytes)?;
     check_counts(&job)?;
     check_variables(&job)?;
     check_parents(&job)?;
     check_tree(&job, mistake)?;
-    check_script(&job.script, job.variables.len(), mistake)?;
+    check_fields(&job.script, job.variables.len(), mistake)?;
     Ok(job)
 }
 
-/// Checks 7 and 8 of a script over so many variables.
+/// Checks 7, 12 and 8 of a bare script over so many variables: it has no records
+/// of other sections.
 pub fn check_script(script: &[Record], variables: usize, mistake: Mistake) -> Result<(), Refusal> {
     check_fields(script, variables, mistake)?;
-    check_blocks(script, mistake)
+    if mistake == Mistake::SectionSpareUnchecked {
+        return check_blocks(script, mistake);
+    }
+    let bare = Job {
+        script: script.to_vec(),
+        ..Job::default()
+    };
+    check_spare_and_blocks(&bare, mistake)
+}
+
+/// 12 is "checked after 7 and before 8".
+fn check_spare_and_blocks(job: &Job, mistake: Mistake) -> Result<(), Refusal> {
+    if mistake == Mistake::SpareAfterBlocks {
+        check_blocks(&job.script, mistake)?;
+        return check_spare(job, mistake);
+    }
+    check_spare(job, mistake)?;
+    check_blocks(&job.script, mistake)
 }
 
 /// The records of a script section, a part record at its end left out.
@@ -333,6 +367,28 @@ fn operand_in_range(kind: u8, number: u32, variables: usize) -> bool {
     }
 }
 
+/// Check 12: "a spare byte not zero [...] its index is the record's own in its
+/// section, and sections are searched in file order".
+fn check_spare(job: &Job, mistake: Mistake) -> Result<(), Refusal> {
+    let plain = job.plain(mistake);
+    let variable = unlike(&job.variables, &plain.variables);
+    let node = unlike(&job.nodes, &plain.nodes);
+    let record = unlike(&job.script, &plain.script);
+    let first = match mistake {
+        Mistake::SpareScriptFirst => record.or(variable).or(node),
+        _ => variable.or(node).or(record),
+    };
+    match first {
+        Some(index) => refuse(Ending::Spare, index),
+        None => Ok(()),
+    }
+}
+
+/// The first place at which two sections are not the same.
+fn unlike<T: PartialEq>(section: &[T], other: &[T]) -> Option<usize> {
+    section.iter().zip(other).position(|(a, b)| a != b)
+}
+
 /// A block of an accepted script, by record indexes.
 #[derive(Clone, Copy, Debug, PartialEq, Eq)]
 pub struct Block {
@@ -433,6 +489,17 @@ impl Record {
     pub fn plain(&self) -> Record {
         self.over(&Record::default())
     }
+
+    /// The same by a monitor with `mistake`.
+    fn plain_with(&self, mistake: Mistake) -> Record {
+        let mut record = self.plain();
+        let reads = READS.get(self.command as usize);
+        let forgets = mistake == Mistake::UnreadNumberForgotten;
+        if forgets && reads.is_some_and(|reads| reads.expression) {
+            record.left = self.left;
+        }
+        record
+    }
 }
 
 /// "For kinds 2 and 3 the number is ignored."
@@ -441,6 +508,30 @@ fn number_read(kind: u8) -> bool {
 }
 
 impl Job {
+    /// The job with 0 in every byte that nobody reads.
+    pub fn plain(&self, mistake: Mistake) -> Job {
+        let clean = |record: &Record| record.plain_with(mistake);
+        Job {
+            variables: self
+                .variables
+                .iter()
+                .map(|&variable| Variable {
+                    spare: [0; 3],
+                    ..variable
+                })
+                .collect(),
+            nodes: self
+                .nodes
+                .iter()
+                .map(|&node| Node {
+                    spare: [0; 3],
+                    ..node
+                })
+                .collect(),
+            script: self.script.iter().map(clean).collect(),
+        }
+    }
+
     /// The bytes of the job: variables, nodes, script, trailer.
     pub fn encode(&self) -> Vec<u8> {
         let mut bytes = Vec::new();

@@ -2,7 +2,7 @@
 //! text alone. It is plain rather than fast: a tree of owned nodes, a cursor
 //! that is a path, and one function for each rule.
 //!
-//! - [`job`]: the job's bytes and checks 1 to 8.
+//! - [`job`]: the job's bytes, checks 1 to 8 and 12; [`clean`]: the cleaning program.
 //! - [`run`]: checks 9 and 10, the steps, the whole outcome.
 //! - [`follow`] and [`table`]: a script over a lent tree; [`history`]: the events
 //!   of the `history` program.
@@ -13,6 +13,7 @@
 //! - [`mistake`]: planted mistakes for trying a harness.
 //! - [`print`] and [`shrink`]: for failing cases.
 
+pub mod clean;
 pub mod coverage;
 pub mod ending;
 pub mod follow;

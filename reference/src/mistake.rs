@@ -68,6 +68,18 @@ pub enum Mistake {
     RightSideAlwaysChecked,
     /// A 17th nested block is accepted.
     SeventeenBlocksAccepted,
+    // Spare bytes.
+    /// 12 is given after 8.
+    SpareAfterBlocks,
+    /// The script is searched for spare bytes before variables and nodes.
+    SpareScriptFirst,
+    /// The left number of kinds 2 and 3 is not taken for spare.
+    UnreadNumberForgotten,
+    // The cleaner.
+    /// The cleaner turns back what today's rules do.
+    CleanerHasNewRules,
+    /// The last change comes first.
+    ReportBackwards,
     // Follow-on scripts.
     /// A script starts where the last one left the cursor, with cursor level 0.
     CursorStays,
@@ -95,6 +107,8 @@ pub enum Mistake {
     LinkOutsideIsNone,
     /// A free place with a link that is no place is 11.
     FreePlacesChecked,
+    /// Spare bytes of a bare section hold anything.
+    SectionSpareUnchecked,
 }
 
 /// The commands that have a rule.
@@ -102,7 +116,7 @@ pub const RULED_COMMANDS: [u8; 12] = [1, 6, 7, 8, 9, 10, 11, 12, 13, 14, 15, 16]
 
 impl Mistake {
     /// Every mistake that a job shows, without `None` and `NoRule`.
-    pub const ALL: [Mistake; 30] = [
+    pub const ALL: [Mistake; 33] = [
         Mistake::MoveRaisesCursorLevel,
         Mistake::ChildrenLevelFromChildren,
         Mistake::RootResetsCursorLevel,
@@ -133,10 +147,20 @@ impl Mistake {
         Mistake::LeftIsPreviousRecord,
         Mistake::RightSideAlwaysChecked,
         Mistake::SeventeenBlocksAccepted,
+        Mistake::SpareAfterBlocks,
+        Mistake::SpareScriptFirst,
+        Mistake::UnreadNumberForgotten,
+    ];
+
+    /// The mistakes that the cleaner shows.
+    pub const CLEANING: [Mistake; 3] = [
+        Mistake::UnreadNumberForgotten,
+        Mistake::CleanerHasNewRules,
+        Mistake::ReportBackwards,
     ];
 
     /// The mistakes that only a follow-on script shows.
-    pub const FOLLOWING: [Mistake; 13] = [
+    pub const FOLLOWING: [Mistake; 14] = [
         Mistake::CursorStays,
         Mistake::StopTakenBack,
         Mistake::BudgetBeforeStanding,
@@ -150,6 +174,7 @@ impl Mistake {
         Mistake::LentRulesUnchecked,
         Mistake::LinkOutsideIsNone,
         Mistake::FreePlacesChecked,
+        Mistake::SectionSpareUnchecked,
     ];
 
     /// The mistakes that leak from one script of a history to the next.

@@ -1,5 +1,5 @@
-//! Checks 1 to 8. Each section is read once; of two faults the one with the
-//! lower number is given.
+//! Checks 1 to 8, and 12 before 8. Each section is read once; of two faults the
+//! one whose check comes first is given.
 
 use crate::arena::{Node, NONE};
 use crate::{ending, Answer, Buffers, Op, Variable};
@@ -94,13 +94,15 @@ pub fn check(buffers: &mut Buffers, job: &[u8]) -> Result<(), Answer> {
     if counts.0 > MAX_VARIABLES || !(1..=MAX_NODES).contains(&counts.1) || counts.2 > MAX_RECORDS {
         return refuse(ending::COUNT, 0);
     }
-    check_variables(buffers, &job[..nodes])?;
-    check_nodes(buffers, &job[nodes..script])?;
-    check_script(buffers, &job[script..trailer])
+    let variable = check_variables(buffers, &job[..nodes])?;
+    let node = check_nodes(buffers, &job[nodes..script])?;
+    check_script(buffers, &job[script..trailer], variable.or(node))
 }
 
-fn check_variables(buffers: &mut Buffers, section: &[u8]) -> Result<(), Answer> {
+/// Check 4, and the first variable with a spare byte that is not zero.
+fn check_variables(buffers: &mut Buffers, section: &[u8]) -> Result<Option<usize>, Answer> {
     buffers.variable_count = section.len() / 8;
+    let mut spare = None;
     for (index, (bytes, variable)) in section
         .chunks_exact(8)
         .zip(&mut buffers.variables)
@@ -109,16 +111,20 @@ fn check_variables(buffers: &mut Buffers, section: &[u8]) -> Result<(), Answer> 
         if bytes[0] > 1 {
             return Err(Answer::turned_back(ending::VARIABLE_LEVEL, index));
         }
+        if spare.is_none() && bytes[1] | bytes[2] | bytes[3] != 0 {
+            spare = Some(index);
+        }
         *variable = Variable {
             level: bytes[0],
             value: number(bytes, 4),
         };
     }
-    Ok(())
+    Ok(spare)
 }
 
-/// Checks 5 and 6. A 5 in any record comes before a 6 in any other.
-fn check_nodes(buffers: &mut Buffers, section: &[u8]) -> Result<(), Answer> {
+/// Checks 5 and 6, and the first node with a spare byte that is not zero. A 5 in
+/// any record comes before a 6 in any other.
+fn check_nodes(buffers: &mut Buffers, section: &[u8]) -> Result<Option<usize>, Answer> {
     let parent = |bytes: &[u8]| u16::from_le_bytes([bytes[0], bytes[1]]);
     for (index, bytes) in section.chunks_exact(12).enumerate() {
         let right = match index {
@@ -131,6 +137,7 @@ fn check_nodes(buffers: &mut Buffers, section: &[u8]) -> Result<(), Answer> {
     }
     let arena = &mut buffers.arena;
     arena.clear();
+    let mut spare = None;
     for (index, bytes) in section.chunks_exact(12).enumerate() {
         let node = Node {
             parent: parent(bytes),
@@ -155,9 +162,12 @@ fn check_nodes(buffers: &mut Buffers, section: &[u8]) -> Result<(), Answer> {
         if !keeps {
             return Err(Answer::turned_back(ending::TREE, index));
         }
+        if spare.is_none() && bytes[5] | bytes[6] | bytes[7] != 0 {
+            spare = Some(index);
+        }
         arena.load(node);
     }
-    Ok(())
+    Ok(spare)
 }
 
 /// An open block: its opening, and the if or else that must learn of its end.
@@ -168,19 +178,28 @@ struct Open {
     otherwise: Option<u16>,
 }
 
-/// Checks 7 and 8. A 7 in any record comes before an 8 in any other, so the
-/// first 8 is kept until all fields have been read.
-pub fn check_script(buffers: &mut Buffers, section: &[u8]) -> Result<(), Answer> {
+/// Checks 7, 12 and 8. A 7 in any record comes before a 12 or an 8 in any other,
+/// so the first of these is kept until all fields have been read; `front` is the
+/// first record in front of the script with a spare byte that is not zero.
+pub fn check_script(
+    buffers: &mut Buffers,
+    section: &[u8],
+    front: Option<usize>,
+) -> Result<(), Answer> {
     let count = section.len() / 16;
     let variables = buffers.variable_count;
     let ops = &mut buffers.ops;
     let mut open = [Open::default(); MAX_BLOCKS];
     let mut depth = 0;
     let mut fault = None;
+    let mut spare = front;
     for (index, bytes) in section.chunks_exact(16).enumerate() {
         let Some(mut op) = decoded(bytes, variables) else {
             return Err(Answer::turned_back(ending::FIELD, index));
         };
+        if spare.is_none() && !clean(bytes) {
+            spare = Some(index);
+        }
         if fault.is_none() {
             match op.code {
                 code::IF | code::WHILE => {
@@ -218,6 +237,9 @@ pub fn check_script(buffers: &mut Buffers, section: &[u8]) -> Result<(), Answer>
         code: code::FINISH,
         ..Op::default()
     };
+    if let Some(index) = spare {
+        return Err(Answer::turned_back(ending::SPARE, index));
+    }
     match fault {
         Some(index) => Err(Answer::turned_back(ending::BLOCK, index)),
         None if depth > 0 => Err(Answer::turned_back(ending::BLOCK, count)),
@@ -273,6 +295,23 @@ fn decoded(bytes: &[u8], variables: usize) -> Option<Op> {
     let right = op.operator == operator::LEFT || in_range(op.right_kind, op.right);
     let fields = op.operator <= operator::MEAN && in_range(op.left_kind, op.left) && right;
     (target && fields).then_some(op)
+}
+
+/// Whether the bytes that a right record does not read are zero.
+#[inline(always)]
+fn clean(bytes: &[u8]) -> bool {
+    let word = |at: usize| number(bytes, at);
+    let reads = READS[bytes[0] as usize];
+    if reads == 0 {
+        return word(0) == bytes[0] as i32 && word(4) | word(8) | word(12) == 0;
+    }
+    let target = reads & (VARIABLE_TARGET | MARK_TARGET) != 0 || bytes[1] == 0;
+    let unread = |kind: u8, at: usize| kind >= kind::VALUE && word(at) != 0;
+    let right = match bytes[2] {
+        operator::LEFT => word(4) | word(12) == 0,
+        _ => bytes[5] | bytes[6] | bytes[7] == 0 && !unread(bytes[4], 12),
+    };
+    target && right && !unread(bytes[3], 8)
 }
 
 #[inline(always)]

@@ -44,7 +44,7 @@ pub fn follow(
     {
         return Answer::turned_back(ending::STANDING, 0);
     }
-    if let Err(answer) = check_script(buffers, section) {
+    if let Err(answer) = check_script(buffers, section, None) {
         return answer;
     }
     if !(1..=MAX_BUDGET).contains(&budget) {

@@ -36,6 +36,7 @@ pub mod ending {
     pub const BUDGET: u8 = 9;
     pub const BUFFER: u8 = 10;
     pub const STANDING: u8 = 11;
+    pub const SPARE: u8 = 12;
     pub const RULE: u8 = 21;
     pub const MISSING: u8 = 22;
     pub const TABLE_FULL: u8 = 23;

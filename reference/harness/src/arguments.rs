@@ -75,7 +75,9 @@ impl Arguments {
 
 /// The mistake of this name, as it is written in the reference.
 pub fn mistake_named(name: &str) -> Mistake {
-    let all = all_mistakes().chain(Mistake::FOLLOWING);
+    let all = all_mistakes()
+        .chain(Mistake::FOLLOWING)
+        .chain(Mistake::CLEANING);
     let mut named = all.chain([Mistake::None]);
     match named.find(|mistake| format!("{mistake:?}") == name) {
         Some(mistake) => mistake,

@@ -3,7 +3,7 @@
 //! - [`frame`]: the frames that `replay` reads, and what it must print.
 //! - [`replay`]: a `replay` process.
 //! - [`portal`]: the portal that is tried: linked, fast, or the reference.
-//! - [`programs`]: what `board` and `inspect` must print.
+//! - [`programs`]: what `board` and `inspect` must print; [`cleaner`]: `clean`.
 //! - [`differential`]: whole outcomes against the reference.
 //! - [`histories`]: scripts over a standing tree, through `history`.
 //! - [`leaks`]: pairs of jobs that agree on their public parts.
@@ -18,6 +18,7 @@
 
 pub mod arguments;
 pub mod bench;
+pub mod cleaner;
 pub mod clock;
 pub mod differential;
 pub mod frame;

@@ -80,6 +80,7 @@ fn name(ending: Ending) -> &'static str {
         Ending::Budget => "budget out of range",
         Ending::Buffer => "buffers do not fit",
         Ending::Standing => unreachable!("only a follow-on script gets 11"),
+        Ending::Spare => "spare byte not zero",
         Ending::Rule => "flow rule broken",
         Ending::Missing => "node does not exist",
         Ending::TableFull => "table full",

@@ -22,6 +22,8 @@ const HISTORIES: &str = env!("CARGO_BIN_EXE_histories");
 const HISTORY_STANDIN: &str = env!("CARGO_BIN_EXE_history_standin");
 const HISTORY_PAIRS: &str = env!("CARGO_BIN_EXE_history_pairs");
 const STANDIN: &str = env!("CARGO_BIN_EXE_replay_standin");
+const CLEANER: &str = env!("CARGO_BIN_EXE_cleaner");
+const CLEAN_STANDIN: &str = env!("CARGO_BIN_EXE_clean_standin");
 
 fn started(program: &str, words: &[&str]) -> Output {
     let output = Command::new(program)
@@ -411,4 +413,30 @@ fn no_leak_in_histories() {
     assert!(text.contains("the smallest pair"), "{text}");
     let text = ended(HISTORY_PAIRS, &["--history", "cat", "--pairs", "10"], 1);
     assert!(text.contains("no outcome"), "{text}");
+}
+
+/// The cleaner's streams: no difference where there is none, each planted mistake
+/// found, in the reference and in the program.
+#[test]
+fn cleaning() {
+    let jobs = |words: &[&str], status| {
+        let all = [&["--clean", CLEAN_STANDIN, "--jobs", "1000"], words].concat();
+        ended(CLEANER, &all, status)
+    };
+    let text = jobs(&[], 0);
+    assert!(
+        text.contains("1000 jobs through clean, no difference"),
+        "{text}"
+    );
+    jobs(&["--each-mistake"], 0);
+    for mistake in Mistake::CLEANING {
+        let name = format!("{mistake:?}");
+        let text = jobs(&["--mistake", &name], 1);
+        assert!(text.contains("clean differs from the reference"), "{text}");
+    }
+    let wrong = Command::new(CLEANER)
+        .args(["--clean", CLEAN_STANDIN, "--jobs", "1000"])
+        .env("STANDIN_MISTAKE", "ReportBackwards")
+        .status();
+    assert_eq!(wrong.expect("the program starts").code(), Some(1));
 }

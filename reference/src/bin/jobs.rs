@@ -1,11 +1,11 @@
 //! Generated jobs on standard output, for tests in other languages. Each is
 //! its length (32 bits, little-endian) and its bytes.
 //!
-//! `jobs clean SEED COUNT`: accepted jobs with 0 in every byte that nobody
-//! reads. `jobs any SEED COUNT`: accepted and damaged ones, as they come.
+//! `jobs clean SEED COUNT`: accepted jobs. `jobs dirty SEED COUNT`: accepted and
+//! damaged ones with notes in bytes that nobody reads. `jobs any SEED COUNT`:
+//! accepted, dirty and damaged ones, as they come.
 
 use reference::generate;
-use reference::job::{self, Job, Node, Variable};
 use std::io::{self, BufWriter, Write};
 use std::process::ExitCode;
 
@@ -18,7 +18,8 @@ fn main() -> ExitCode {
         return usage();
     };
     let make: fn(u64) -> Vec<u8> = match kind.as_str() {
-        "clean" => clean,
+        "clean" => |seed| generate::valid(seed).bytes,
+        "dirty" => |seed| generate::dirty(seed).bytes,
         "any" => |seed| generate::case(seed).bytes,
         _ => return usage(),
     };
@@ -32,7 +33,7 @@ fn main() -> ExitCode {
 }
 
 fn usage() -> ExitCode {
-    eprintln!("usage: jobs clean|any SEED COUNT");
+    eprintln!("usage: jobs clean|dirty|any SEED COUNT");
     ExitCode::from(2)
 }
 
@@ -44,23 +45,4 @@ fn write_all(make: fn(u64) -> Vec<u8>, seed: u64, count: u64) -> io::Result<()> 
         output.write_all(&bytes)?;
     }
     output.flush()
-}
-
-fn clean(seed: u64) -> Vec<u8> {
-    let bytes = generate::valid(seed).bytes;
-    let job = job::decode(&bytes).expect("a valid case is accepted");
-    let variable = |variable: &Variable| Variable {
-        spare: [0; 3],
-        ..*variable
-    };
-    let node = |node: &Node| Node {
-        spare: [0; 3],
-        ..*node
-    };
-    Job {
-        variables: job.variables.iter().map(variable).collect(),
-        nodes: job.nodes.iter().map(node).collect(),
-        script: job.script.iter().map(|record| record.plain()).collect(),
-    }
-    .encode()
 }

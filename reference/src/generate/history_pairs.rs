@@ -2,7 +2,7 @@
 //! parts.
 
 use super::pairs::{agreeing, both_finish};
-use super::{add_noise, levels_of, likely_mistake, script};
+use super::{levels_of, likely_mistake, script};
 use crate::history::{kind, Event};
 use crate::job::{self, Job, Record};
 use crate::mistake::Mistake;
@@ -59,10 +59,9 @@ pub fn history_pair(seed: u64) -> HistoryPair {
     }
     left.script = scripts.remove(0);
     right.script = left.script.clone();
-    let noise = random.chance(1, 4);
     let pair = HistoryPair {
-        left: events(random, left, &scripts, noise),
-        right: events(random, right, &scripts, noise),
+        left: events(random, left, &scripts),
+        right: events(random, right, &scripts),
     };
     debug_assert!(pair.well_formed());
     pair
@@ -93,20 +92,10 @@ fn after(side: &Standing, script: &[Record]) -> Standing {
     monitor.run_to_end(&mut |_, _| {}).1
 }
 
-fn events(random: &mut Random, mut job: Job, scripts: &[Vec<Record>], noise: bool) -> Vec<Event> {
-    if noise {
-        add_noise(random, &mut job);
-    }
+fn events(random: &mut Random, job: Job, scripts: &[Vec<Record>]) -> Vec<Event> {
     let mut events = vec![event(random, kind::JOB, job.encode())];
     for script in scripts {
-        let mut bare = Job {
-            script: script.clone(),
-            ..Job::default()
-        };
-        if noise {
-            add_noise(random, &mut bare);
-        }
-        events.push(event(random, kind::SCRIPT, job::section(&bare.script)));
+        events.push(event(random, kind::SCRIPT, job::section(script)));
     }
     events
 }

@@ -1,6 +1,7 @@
 //! Cases, pairs of cases and histories from a seed. The same seed gives the same.
 
 mod damage;
+mod dirty;
 mod history;
 mod history_pairs;
 mod nodes;
@@ -8,6 +9,7 @@ mod pairs;
 mod script;
 
 pub use damage::damaged;
+pub use dirty::{dirty, full_of_notes};
 pub use history::history;
 pub use history_pairs::{history_pair, HistoryPair};
 pub use nodes::renumber;
@@ -29,10 +31,12 @@ pub struct Case {
     pub limits: Limits,
 }
 
-/// A valid case three times out of five, else a damaged one.
+/// A valid case three times out of five, else a damaged one; one in twenty with
+/// notes in its spare bytes.
 pub fn case(seed: u64) -> Case {
-    match seed % 5 {
-        0..=2 => valid(seed),
+    match seed % 20 {
+        19 => dirty(seed),
+        other if other % 5 < 3 => valid(seed),
         _ => damaged(seed),
     }
 }
@@ -71,9 +75,6 @@ fn valid_job(random: &mut Random) -> (Job, Limits) {
     let limits = limits(random, &job);
     if random.chance(1, 5) {
         go_to_the_edge(random, &mut job, &limits);
-    }
-    if random.chance(1, 2) {
-        add_noise(random, &mut job);
     }
     (job, limits)
 }
@@ -178,31 +179,4 @@ fn limits(random: &mut Random, job: &Job) -> Limits {
         variables,
         lines,
     }
-}
-
-/// Fills every byte that nobody reads.
-fn add_noise(random: &mut Random, job: &mut Job) {
-    for variable in &mut job.variables {
-        variable.spare = noise(random);
-    }
-    for node in &mut job.nodes {
-        node.spare = noise(random);
-    }
-    for record in &mut job.script {
-        let unread = Record {
-            command: 0,
-            target: random.byte(),
-            operator: random.byte(),
-            left_kind: random.byte(),
-            right_kind: random.byte(),
-            spare: noise(random),
-            left: random.draw() as u32,
-            right: random.draw() as u32,
-        };
-        *record = record.over(&unread);
-    }
-}
-
-fn noise(random: &mut Random) -> [u8; 3] {
-    [random.byte(), random.byte(), random.byte()]
 }

@@ -2,7 +2,7 @@
 //! parts and differ in house values and house nodes.
 
 use super::nodes::Growth;
-use super::{add_noise, levels_of, likely_mistake, limits, nodes, script, trial_ending, Case};
+use super::{levels_of, likely_mistake, limits, nodes, script, trial_ending, Case};
 use crate::ending::Ending;
 use crate::job::{self, Job, Node, Record, Variable};
 use crate::mistake::Mistake;
@@ -48,10 +48,6 @@ pub fn pair(seed: u64) -> Pair {
     left.script = common_script(&mut random, &sides, mistake);
     right.script = left.script.clone();
     let (left_limits, right_limits) = pair_limits(&mut random, &left, &right);
-    if random.chance(1, 2) {
-        add_noise(&mut random, &mut left);
-        add_noise(&mut random, &mut right);
-    }
     Pair {
         left: Case {
             bytes: left.encode(),

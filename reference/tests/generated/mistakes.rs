@@ -1,5 +1,6 @@
 use reference::mistake::{Mistake, RULED_COMMANDS};
 use reference::run::{self, Outcome};
+use reference::{clean, generate};
 
 use super::cases;
 
@@ -16,6 +17,19 @@ fn every_mistake_is_found_by_comparison() {
     {
         let found = cases().iter().zip(&right).position(|(case, right)| {
             run::outcome_with(&case.bytes, &case.limits, mistake) != *right
+        });
+        println!("{mistake:?}: case {found:?}");
+        assert!(found.is_some(), "{mistake:?}");
+    }
+}
+
+/// Every mistake of the cleaner shows in what it puts out for some dirty case.
+#[test]
+fn every_mistake_of_the_cleaner_is_found() {
+    for mistake in Mistake::CLEANING {
+        let found = (0..2_000).position(|seed| {
+            let bytes = generate::dirty(seed).bytes;
+            clean::output(&bytes, mistake) != clean::output(&bytes, Mistake::None)
         });
         println!("{mistake:?}: case {found:?}");
         assert!(found.is_some(), "{mistake:?}");

@@ -190,14 +190,22 @@ fn what_is_not_reached_is_free() {
     assert_eq!(after.unwrap().tree.count(), 7);
 }
 
-/// "checked first, before 7, 8 and 9; after them 10"
+/// "checked first, before 7, 8 and 9; after them 10"; 12 (R-4) "after 7 and before 8"
 #[test]
 fn order_of_the_numbers() {
     let mut table = vec![ROOT; 513];
     let wrong = section(&[end(), bare(17)]);
+    let spare = section(&[
+        end(),
+        Record {
+            target: 1,
+            ..root()
+        },
+    ]);
     let blocks = section(&[end()]);
     let one = |table: &[Lent], body: &[u8], budget| answer_of((table, &VARIABLES), body, budget);
     assert_eq!(one(&table, &wrong, 0), (7, 1));
+    assert_eq!(one(&table, &spare, 0), (12, 1));
     assert_eq!(one(&table, &blocks, 0), (8, 0));
     assert_eq!(one(&table, &[], 0), (9, 0));
     assert_eq!(one(&table, &[], 1_000_001), (9, 0));

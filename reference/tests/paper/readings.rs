@@ -2,10 +2,18 @@
 
 use super::*;
 use reference::generate;
-use reference::job::NO_PARENT;
+use reference::job::{decode_first, NO_PARENT};
 use reference::mistake::Mistake;
 use reference::portal::{board, portal};
 use reference::public;
+
+/// The job is turned back for a spare byte of its record 0, and by the rules
+/// before R-4 it is accepted.
+fn assert_spare(record: Record) {
+    let bytes = trial_job(1, &[record]).encode();
+    assert_eq!(refusal_of(&bytes), (12, 0), "{record:?}");
+    assert!(decode_first(&bytes, Mistake::None).is_ok(), "{record:?}");
+}
 
 #[test]
 fn reading_1_unread_sides_of_an_expression() {
@@ -14,21 +22,23 @@ fn reading_1_unread_sides_of_an_expression() {
         right: 77,
         ..assign(0, 5)
     };
-    assert_eq!(answer(&run(&trial_job(1, &[unread]))), (0, 0, 1, vec![]));
-    // A house variable on the right side is no part of E.
-    let house = Record {
+    assert_spare(unread);
+    // A house variable on the right side is no part of E, and spare.
+    assert_spare(Record {
         right_kind: 1,
         right: 1,
         ..assign(0, 5)
-    };
-    assert_eq!(answer(&run(&trial_job(1, &[house]))), (0, 0, 1, vec![]));
+    });
     // Kinds 2 and 3: the number is not read.
     for operand in [value(), children()] {
-        let record = Record {
+        assert_spare(Record {
             left: u32::MAX,
             ..print(operand)
-        };
-        assert_eq!(run(&trial_job(1, &[record])).ending.number(), 0);
+        });
+        assert_spare(Record {
+            right: 1,
+            ..print(sum(constant(1), operand))
+        });
     }
     // Kind 0: every number is in range.
     let outcome = run(&trial_job(
@@ -65,27 +75,24 @@ fn reading_2_commands_without_an_expression() {
             5 => vec![when(0), Record { command, ..noise }],
             _ => vec![Record { command, ..noise }],
         };
-        assert!(
-            !run(&trial_job(1, &script)).ending.turned_back(),
-            "command {command}"
-        );
+        let bytes = trial_job(1, &script).encode();
+        let index = (command == 3 || command == 5) as usize;
+        assert_eq!(refusal_of(&bytes), (12, index), "command {command}");
+        assert!(decode_first(&bytes, Mistake::None).is_ok());
     }
     // The target is not read by 2, 4, 6 and 15.
     for record in [when(0), repeat(0), print(0), set_value(0)] {
-        let script = match record.command {
-            2 | 4 => vec![
-                Record {
-                    target: 255,
-                    ..record
-                },
-                end(),
-            ],
-            _ => vec![Record {
-                target: 255,
-                ..record
-            }],
+        let noted = Record {
+            target: 255,
+            ..record
         };
-        assert_eq!(run(&trial_job(1, &script)).ending.number(), 0);
+        let script = match record.command {
+            2 | 4 => vec![noted, end()],
+            _ => vec![noted],
+        };
+        let bytes = trial_job(1, &script).encode();
+        assert_eq!(refusal_of(&bytes), (12, 0));
+        assert!(decode_first(&bytes, Mistake::None).is_ok());
     }
     let no_variables = job(&[], &trial_nodes(), &[assign(0, 0)]);
     assert_eq!(refusal(&no_variables), (7, 0));
@@ -493,21 +500,4 @@ fn agreement_does_not_depend_on_the_record_order() {
     let mut hidden_value = right;
     hidden_value.nodes[0].content = 1;
     assert!(!public::agree(&left, &hidden_value));
-}
-
-/// Script records that differ where they are not read are the same.
-#[test]
-fn spare_bytes_change_nothing() {
-    let mut noisy = trial_job(1, &[print(value()), first_child(), print(value())]);
-    let expected = run(&noisy);
-    noisy
-        .variables
-        .iter_mut()
-        .for_each(|variable| variable.spare = [9; 3]);
-    noisy.nodes.iter_mut().for_each(|node| node.spare = [9; 3]);
-    noisy
-        .script
-        .iter_mut()
-        .for_each(|record| record.spare = [9; 3]);
-    assert_eq!(run(&noisy), expected);
 }

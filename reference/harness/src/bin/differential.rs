@@ -157,8 +157,11 @@ fn each_mistake(sides: &Sides, arguments: &Arguments) -> bool {
             place(by_replay),
             place(by_portal)
         );
-        // The portal tells no steps and always has 512 places.
-        let hidden = matches!(mistake, Mistake::StopCountsStep | Mistake::TableFullAt512);
+        // The portal tells no steps and no index, and always has 512 places.
+        let hidden = matches!(
+            mistake,
+            Mistake::StopCountsStep | Mistake::TableFullAt512 | Mistake::SpareScriptFirst
+        );
         all &= by_replay != Some(None) && (hidden || by_portal != Some(None));
     }
     each_found("mistake", all)

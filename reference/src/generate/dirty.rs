@@ -1,0 +1,102 @@
+//! Notes in bytes that nobody reads: in one, in some or in all of them, of
+//! a valid case or of a damaged one.
+
+use super::{damaged, valid, valid_job, Case};
+use crate::job::{split, Job, Record, MAX_NODES, MAX_RECORDS, MAX_VARIABLES};
+use crate::mistake::Mistake;
+use crate::random::Random;
+use crate::run::Limits;
+use crate::source::{house_variable, node, nothing, root_node};
+
+/// The case of a seed with notes in its spare bytes, or none where it has none.
+pub fn dirty(seed: u64) -> Case {
+    let mut random = Random::new(seed ^ 0x0064_6972_7479);
+    let case = match random.below(5) {
+        0 | 1 => damaged(seed),
+        _ => valid(seed),
+    };
+    // A damaged case may have no sections to write in.
+    let Ok(mut job) = split(&case.bytes) else {
+        return case;
+    };
+    let share = random.pick(&[1, 1, 1, 8, 64, 256]);
+    annotate(&mut random, &mut job, share);
+    if random.chance(1, 4) {
+        annotate_one(&mut random, &mut job);
+    }
+    Case {
+        bytes: job.encode(),
+        ..case
+    }
+}
+
+/// The greatest job, with a note in every byte that nobody reads: a cleaner has
+/// more than ten thousand changes to print.
+pub fn full_of_notes(seed: u64) -> Case {
+    let mut random = Random::new(seed);
+    let (some, limits) = valid_job(&mut random);
+    let mut job = Job {
+        variables: vec![house_variable(1); MAX_VARIABLES],
+        nodes: vec![node(0, [0, 0, 0], 1); MAX_NODES],
+        script: vec![nothing(); MAX_RECORDS],
+    };
+    job.nodes[0] = root_node([0, 0, 0], 1);
+    job.script[..some.script.len()].copy_from_slice(&some.script);
+    annotate(&mut random, &mut job, 256);
+    Case {
+        bytes: job.encode(),
+        limits: Limits {
+            variables: MAX_VARIABLES,
+            places: MAX_NODES,
+            ..limits
+        },
+    }
+}
+
+/// A note in `share` of 256 spare bytes.
+fn annotate(random: &mut Random, job: &mut Job, share: usize) {
+    let plain = job.plain(Mistake::None);
+    let mut note = || match random.below(256) < share {
+        true => random.between(1, 255) as u8,
+        false => 0,
+    };
+    for variable in &mut job.variables {
+        variable.spare = [note(), note(), note()];
+    }
+    for node in &mut job.nodes {
+        node.spare = [note(), note(), note()];
+    }
+    for (record, plain) in job.script.iter_mut().zip(&plain.script) {
+        let notes = Record {
+            command: 0,
+            target: note(),
+            operator: note(),
+            left_kind: note(),
+            right_kind: note(),
+            spare: [note(), note(), note()],
+            left: u32::from_le_bytes([note(), note(), note(), note()]),
+            right: u32::from_le_bytes([note(), note(), note(), note()]),
+        };
+        *record = plain.over(&notes);
+    }
+}
+
+/// A note in one record of the script, which may be the only one.
+fn annotate_one(random: &mut Random, job: &mut Job) {
+    if job.script.is_empty() {
+        return;
+    }
+    let place = random.below(job.script.len());
+    let record = &mut job.script[place];
+    let mut notes = Record::default();
+    match random.below(7) {
+        0 => notes.target = 1,
+        1 => notes.operator = 1,
+        2 => notes.left_kind = 1,
+        3 => notes.right_kind = 1,
+        4 => notes.spare[random.below(3)] = 1,
+        5 => notes.left = 1 << (8 * random.below(4)),
+        _ => notes.right = 1 << (8 * random.below(4)),
+    }
+    *record = record.plain().over(&notes);
+}
