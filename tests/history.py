@@ -101,7 +101,7 @@ history(
     (script(PRINT), came(0, 0, 1, "line 10\n", ROOT_TEN)),
 )
 
-# Turned away in the order 11, 7, 8, 9, 10, and nothing has changed. A section has whole records, at most 1,024.
+# Turned away in the order 11, 7, 12, 8, 9, 10, and nothing has changed. A section has whole records, at most 1,024.
 STRANGE = record(17)
 history(
     "turned away",
@@ -109,6 +109,9 @@ history(
     (event(1, STRANGE[:15], budget=0, places=513), came(11)),
     (script(END, STRANGE, budget=0, places=1), came(11)),
     (script(END, STRANGE, budget=0, places=513), came(7, 1)),
+    (script(record(0, target=1), STRANGE, budget=0, places=513), came(7, 1)),
+    (script(END, record(0, target=1), budget=0, places=513), came(12, 1)),
+    (script(record(0), record(6, left=(2, 1)), budget=0, places=513), came(12, 1)),
     (script(record(0), END, budget=0, places=513), came(8, 1)),
     (script(FOREVER, FOREVER, budget=0, places=513), came(8, 2)),
     (script(record(1, target=2), places=513), came(7, 0)),

@@ -530,18 +530,27 @@ static void random_job(size_t vars, size_t nodes) {
     trailer(8 * vars, 8 * vars + 12 * nodes);
 }
 
+static int reads_expression(int number) {
+    return number == 1 || number == 2 || number == 4 || number == 6 || number == 11 || number == 12 || number == 15;
+}
+
+/* What is not read is zero. */
 static void random_expression(int number, int target, int vars) {
-    int operator = (int)below(6), kinds[2];
-    int32_t numbers[2];
-    for (int i = 0; i < 2; i++) {
+    int operator = (int)below(6), kinds[2] = {0, 0};
+    int32_t numbers[2] = {0, 0};
+    for (int i = 0; i < (operator == 0 ? 1 : 2); i++) {
         kinds[i] = vars == 0 && one_in(2) ? NODE_VALUE : (int)below(4);
         kinds[i] = vars == 0 && kinds[i] == VARIABLE ? CONSTANT : kinds[i];
-        numbers[i] = kinds[i] == VARIABLE ? (int32_t)below((uint32_t)vars) : (int32_t)below(7) - 2;
+        if (kinds[i] == VARIABLE) {
+            numbers[i] = (int32_t)below((uint32_t)vars);
+        } else if (kinds[i] == CONSTANT) {
+            numbers[i] = (int32_t)below(7) - 2;
+        }
     }
     record(number, target, operator, kinds[0], kinds[1], numbers[0], numbers[1]);
 }
 
-/* A script that the checks 7 and 8 let pass, but for a few. */
+/* A script that the checks 7, 12 and 8 let pass, but for a few. */
 static void random_script(int vars) {
     int open = 0;
     for (uint32_t i = below(14); i > 0; i--) {
@@ -556,7 +565,12 @@ static void random_script(int vars) {
         if (number == 5) {
             open--;
         }
-        random_expression(number, number == 1 ? (int)below((uint32_t)vars) : (int)below(4), vars);
+        if (!reads_expression(number)) {
+            command(number);
+            continue;
+        }
+        int target = number == 1 ? (int)below((uint32_t)vars) : number == 11 || number == 12 ? (int)below(4) : 0;
+        random_expression(number, target, vars);
     }
     while (open-- > 0 && !one_in(20)) {
         command(5);
@@ -663,7 +677,7 @@ static void *all(void *unused) {
     for (long i = 0; i < rounds; i++) {
         came[changed_round()]++;
     }
-    static const int must[] = {0, 7, 8, 9, 10, 11, 21, 22, 23, 24, 25};
+    static const int must[] = {0, 7, 8, 9, 10, 11, 12, 21, 22, 23, 24, 25};
     for (size_t i = 0; rounds >= 10000 && i < sizeof must / sizeof must[0]; i++) {
         same("an ending came often", 1, came[must[i]] >= rounds / 1000);
     }

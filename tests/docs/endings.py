@@ -7,8 +7,8 @@ import unittest
 
 from support import HOME, assembled, job, program
 
-# "Ways a job can end" of paper 01, and 11 of paper 02, which no job ends with: it is for follow-on scripts alone.
-NUMBERS = [*range(1, 12), *range(21, 28)]
+# "Ways a job can end" of paper 01, and those of paper 02. No job ends with 11: it is for follow-on scripts alone.
+NUMBERS = [*range(1, 13), *range(21, 28)]
 BY_REPLAY = (9, 10)
 BY_HISTORY = 11
 NEVER = 26
@@ -107,7 +107,7 @@ class Jobs(unittest.TestCase):
                 said = page.block("text")
                 self.assertEqual(said.split("\n")[0], f"ending {page.number} {page.name}")
                 got = answer("inspect", page.job())
-                if page.number <= 10:
+                if page.number < 21:
                     self.assertEqual(got, said)  # a refusal has these two lines only
                 else:
                     self.assertEqual(said.count("\n"), 4)  # ending, record, steps, lines

@@ -4,7 +4,7 @@ import unittest
 
 from support import HOME, job, tool, tool_process
 
-VERBS = ("assemble", "list", "picture", "explain", "run", "probe")
+VERBS = ("assemble", "list", "clean", "picture", "explain", "run", "probe")
 
 
 class Help(unittest.TestCase):
@@ -66,7 +66,7 @@ class Explain(unittest.TestCase):
             self.assertIn(f"  {number:2}  {name}\n", done.output)
 
     def test_no_such_ending(self):
-        for number in ("12", "20", "28"):
+        for number in ("16", "20", "28"):
             done = tool("explain", number)
             self.assertEqual((done.status, done.output), (2, ""))
             self.assertIn(f"there is no ending {number}", done.error)

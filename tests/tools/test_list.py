@@ -63,6 +63,12 @@ DAMAGED = (
     (with_script(b"\x06\0\x01\0\x04"), 7, 0, "its right kind is 4"),
     (with_script(b"\x06\0\0\x01"), 7, 0, "its left side is variable 0"),
     (with_script(b"\x06\0\x01\0\x01"), 7, 0, "its right side is variable 0"),
+    (b"\0\0\7" + bytes(5) + hexed(ROOT) + hexed("0000 0800 1400 1400"), 12, 0, "variable 0, bytes 0 to 7: its byte 2 is 7; nobody reads it there"),
+    (hexed("ffff 000000 000009 0a000000 0000 0000 0c00 0c00"), 12, 0, "node 0, bytes 0 to 11: its byte 7 is 9"),
+    (with_script(b"\0", b"\x08\1"), 12, 1, "record 1, bytes 28 to 43: its byte 1, of the target, is 1"),
+    (with_script(b"\x06\0\0\0\x04"), 12, 0, "its byte 4, of the right kind, is 4"),
+    (with_script(b"\x06\0\x01\x02\x03\0\0\0\0\1"), 12, 0, "its byte 9, of the left number, is 1"),
+    (with_script(b"\x06\0\x01\x02\x03" + bytes(10) + b"\2"), 12, 0, "its byte 15, of the right number, is 2"),
     (with_script(b"\x05"), 8, 0, "record 0, bytes 12 to 27: it is an end, and no block is open"),
     (with_script(b"\x03"), 8, 0, "it is an else, and no block is open"),
     (with_script(b"\x04", b"\x03", b"\x05"), 8, 1, "it is an else, and the innermost open block is a while"),
@@ -72,6 +78,8 @@ DAMAGED = (
     # Each check goes over its whole section before the next number starts.
     (with_nodes((65535, 1, 1, 1), TOP), 5, 1, "it has no parent"),
     (with_script(b"\x05", b"\x11"), 7, 1, "its command is 17"),
+    (with_script(b"\0\1", b"\x11"), 7, 1, "its command is 17"),
+    (with_script(b"\x05", b"\0\1"), 12, 1, "its byte 1, of the target, is 1"),
 )
 
 CLEAN = """\
@@ -107,13 +115,6 @@ class Lists(unittest.TestCase):
     def test_order_of_records(self):
         text = "tree\n  n0 = 1 record 0\n    n1 = 2 record 1\n      n3 = 3 record 3\n    n2 = 4 record 2\n"
         self.assertEqual(tool("list", "-", data=assembled(text)).output, text)
-
-    def test_spare_bytes_are_noted(self):
-        data = bytearray(assembled("tree\n  n0 = 1\nscript\n  up\n"))
-        data[5] = data[13] = data[20] = 7  # a spare byte of the root, two of a record that reads its command only
-        done = tool("list", "-", data=bytes(data))
-        self.assertEqual((done.status, done.output), (0, "tree\n  n0 = 1\nscript\n  up\n"))
-        self.assertIn("3 bytes that nobody reads are not zero", done.error)
 
     def test_a_source_is_no_job(self):
         done = tool("list", str(HOME / "examples" / "first.yoke"))
@@ -164,17 +165,14 @@ class Bare(unittest.TestCase):
             self.assertEqual((done.status, done.output), (1, ""))
             self.assertIn("its left side is variable 2, and there are 2 variables", done.error)
 
-    def test_spare_bytes_are_noted(self):
-        done = self.listed(b"\x08\0\0\0\0\1" + bytes(9) + b"\2")
-        self.assertEqual((done.status, done.output), (0, "script\n  up\n"))
-        self.assertIn("2 bytes that nobody reads are not zero", done.error)
-
     def test_sections_that_are_refused(self):
         for data, number, message in (
                 (bytes(15), 11, "the section has 15 bytes, which is no multiple of 16"),
                 (bytes(16 * 1025), 11, "the section has 1,025 records; it must have 0 to 1,024"),
                 (b"\x11" + bytes(15), 7, "record 0, bytes 0 to 15: its command is 17"),
                 (b"\x01\x40" + bytes(14), 7, "record 0, bytes 0 to 15: its target is variable 64, and there are 64 variables"),
+                (bytes(16) + b"\x08\0\0\0\0\1" + bytes(9) + b"\2", 12, "record 1, bytes 16 to 31: its byte 5 is 1; nobody reads it there, so it must be 0"),
+                (b"\x04" + bytes(14) + b"\7", 12, "record 0, bytes 0 to 15: its byte 15, of the right number, is 7"),
                 (b"\x04" + bytes(15), 8, "the script's end: the script ends with 1 block still open")):
             done = self.listed(data)
             self.assertEqual((done.status, done.output), (1, ""))
@@ -245,7 +243,7 @@ class Checks(unittest.TestCase):
                 self.assertEqual(answer, [f"ending {fault.number} index {fault.index} steps 0 lines 0"], data.hex())
             else:
                 self.assertRegex(answer[0], r"^ending (0|2[0-9]) ", data.hex())
-        self.assertEqual(seen, set(range(1, 9)))
+        self.assertEqual(seen, {*range(1, 9), 12})
 
 
 if __name__ == "__main__":

@@ -1,4 +1,4 @@
-"""The checks 1 to 11."""
+"""The checks 1 to 12."""
 
 from typing import NamedTuple
 
@@ -23,8 +23,8 @@ def plural(count, noun):
     return f"{count:,} {noun}" + ("" if count == 1 else "s")
 
 
-def check(data):
-    """The first of the checks 1 to 8 that the bytes fail, or None."""
+def check(data, spare=True):
+    """The first of the checks 1 to 8 that the bytes fail, with 12 before 8 unless spare bytes may hold anything, or None."""
     if not 8 <= len(data) <= MAX_BYTES:
         return Fault(1, 0, "", 0, len(data),
                      f"the job has {plural(len(data), 'byte')}; it must have 8 to {MAX_BYTES:,}")
@@ -38,12 +38,20 @@ def check(data):
         (5, "node", nodes, NODE.size, parent_faults(job)),
         (6, "node", nodes, NODE.size, tree_faults(job)),
         (7, "record", script, RECORD.size, field_faults(job.records, len(job.variables))),
+        *(spare_searches(data, job) if spare else ()),
         (8, "record", script, RECORD.size, block_faults(job.records)),
     ), len(data))
 
 
+def spare_searches(data, job):
+    """Check 12, section by section."""
+    _, nodes, script, _ = TRAILER.unpack(data[-8:])
+    sections = (("variable", 0, VARIABLE, job.variables), ("node", nodes, NODE, job.nodes), ("record", script, RECORD, job.records))
+    return [(12, section, start, form.size, spare_faults(section, data[start:], form, parts)) for section, start, form, parts in sections]
+
+
 def check_section(data, variables):
-    """The first of the checks 11, 7 and 8 that a bare section fails, over a tree and so many variables that stand, or None."""
+    """The first of the checks 11, 7, 12 and 8 that a bare section fails, over a tree and so many variables that stand, or None."""
     if len(data) % RECORD.size:
         return Fault(11, 0, "", 0, len(data), f"the section has {plural(len(data), 'byte')}, which is no multiple of {RECORD.size}")
     records = decode_script(data)
@@ -51,6 +59,7 @@ def check_section(data, variables):
         return Fault(11, 0, "", 0, len(data), f"the section has {plural(len(records), 'record')}; it must have 0 to {MAX_RECORDS:,}")
     return first_fault((
         (7, "record", 0, RECORD.size, field_faults(records, variables)),
+        (12, "record", 0, RECORD.size, spare_faults("record", data, RECORD, records)),
         (8, "record", 0, RECORD.size, block_faults(records)),
     ), len(data))
 
@@ -167,6 +176,23 @@ def field_fault(record, count):
         if kind == NAMED and number >= count:
             return f"its {side} side is variable {number}, and there are {plural(count, 'variable')}"
     return ""
+
+
+FIELDS = {1: "target", 2: "operator", 3: "left kind", 4: "right kind", **dict.fromkeys(range(8, 12), "left number"),
+          **dict.fromkeys(range(12, 16), "right number")}
+
+
+def byte_name(section, byte):
+    """What a byte of a record is, where a field has a name."""
+    return f"{byte}, of the {FIELDS[byte]}," if section == "record" and byte in FIELDS else str(byte)
+
+
+def spare_faults(section, data, form, parts):
+    for index, part in enumerate(parts):
+        clean = form.pack(*(part.clean() if section == "record" else part))
+        for byte, (old, new) in enumerate(zip(data[index * form.size:], clean)):
+            if old != new:
+                yield index, f"its byte {byte_name(section, byte)} is {old}; nobody reads it there, so it must be 0"
 
 
 ELSE_FAULTS = {

@@ -66,6 +66,10 @@ class Job(NamedTuple):
     nodes: list
     records: list
 
+    def clean(self):
+        """The same job with zero in every field that is not read."""
+        return Job(self.variables, self.nodes, [record.clean() for record in self.records])
+
     def encode(self):
         sections = [
             b"".join(VARIABLE.pack(*v) for v in self.variables),

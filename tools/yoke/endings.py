@@ -13,6 +13,7 @@ ENDINGS = {
     9: "budget out of range",
     10: "buffers do not fit",
     11: "follow-on not whole",
+    12: "spare byte not zero",
     21: "flow rule broken",
     22: "node does not exist",
     23: "table full",

@@ -67,8 +67,8 @@ they are called v0 to v63, as `list --bare` calls them.
 """,
     "list": """\
 Shows a job as a source, with names v0, v1 .. and n0, n1 .. by index. Assembling
-that source gives the same bytes, except bytes that nobody reads: they become 0.
-Of a job that the monitor would refuse it says what is wrong and where.
+that source gives the same bytes. Of a job that the monitor would refuse it says
+what is wrong and where.
 
   tools/job list depths.job
   tools/job list --bare season-1.section --tree examples/season.yoke
@@ -76,6 +76,16 @@ Of a job that the monitor would refuse it says what is wrong and where.
 With --bare it shows the bare section of a follow-on script. That has no
 variables and no tree; --tree says whose names it takes and how many variables
 there are.
+""",
+    "clean": """\
+Sets the bytes of a stored job that nobody reads to zero: the monitor refuses a
+job with such a byte (ending 12). It says which bytes were not zero, and what
+stood there; that goes to standard error where the job goes to standard output.
+The cleaned job runs exactly as the old one did. A job that was refused before
+there was ending 12 is refused by its old number, and nothing is written. The
+program for this is clean, in target/bin or $CLEAN.
+
+  tools/job clean stored.job cleaned.job
 """,
     "picture": """\
 Draws the tree of a source or a job: in characters, or as SVG. House parts are

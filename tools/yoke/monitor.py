@@ -105,6 +105,43 @@ def read_outcome(text):
     return Outcome(ending, record, steps, lines, variables, tree)
 
 
+# clean: one stored job, with the rules that it was stored under.
+
+
+class Change(NamedTuple):
+    """A byte that was set to zero: in section 0 (variables), 1 (nodes) or 2 (script), of a record."""
+
+    section: int
+    index: int
+    byte: int
+    old: int
+
+
+class Cleaned(NamedTuple):
+    """The cleaner's answer: the cleaned bytes and what was changed; or refused is the number and the index, and there is nothing else."""
+
+    data: bytes
+    changes: list
+    refused: tuple = ()
+
+
+def clean(data):
+    child = start("clean")
+    output, error = child.communicate(data)
+    rows = error.decode("utf-8", "replace").split("\n")
+    try:
+        if rows.pop() or child.returncode:
+            raise ValueError("its standard error is cut off" if rows else "it ended early")
+        if not output:
+            (row,) = rows
+            return Cleaned(b"", [], tuple(int(number) for number in re.fullmatch(r"refused (\d+) at (\d+)", row).groups()))
+        if len(output) != len(data):
+            raise ValueError(f"{len(data)} bytes expected, there are {len(output)}")
+        return Cleaned(output, [Change(*(int(number) for number in row.split(" "))) for row in rows])
+    except (ValueError, TypeError, AttributeError) as problem:
+        raise misread("clean", problem, child.returncode, error.decode("utf-8", "replace")) from None
+
+
 # replay: many jobs in one process, with limits of their own. history: a job, and scripts over the tree that it leaves.
 
 

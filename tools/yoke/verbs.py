@@ -6,9 +6,9 @@ import traceback
 from pathlib import Path
 
 from .account import refusal_lines, report
-from .checks import check, check_limits, check_section, describe, plural
+from .checks import byte_name, check, check_limits, check_section, describe, plural
 from .drawings import svg_picture
-from .encoding import Job, decode, encode_script
+from .encoding import decode
 from .endings import ENDINGS, FINISHED, REFUSALS, STOPS, refused
 from .errors import JobError, RefusedError, visible
 from .files import (
@@ -16,9 +16,9 @@ from .files import (
     source_of_job, source_of_section, warn_of, write_bytes)
 from .history import History, Part, read_part
 from .limits import ASKED_BUDGET, ASKED_LINES, ASKED_PLACES, HOME, PROGRAM, Limits
-from .listing import listing, script_lines
+from .listing import listing, record_text, script_lines
 from .manual import DESCRIPTIONS, LANGUAGE, STATUS
-from .monitor import history, outcome
+from .monitor import clean, history, outcome
 from .pictures import pictured, text_picture
 from .probe import Variations, boards, probe_report, terminal_progress
 from .run import Run
@@ -73,9 +73,7 @@ def do_list(options):
     if fault:
         need_no_utf16(data, options.job)
         raise RefusedError(shown(options.job), fault)
-    job = decode(data)
-    sys.stdout.write(listing(job))
-    note_spare(options.job, data, Job(job.variables, job.nodes, [record.clean() for record in job.records]).encode())
+    sys.stdout.write(listing(decode(data)))
     return 0
 
 
@@ -84,15 +82,44 @@ def list_section(options):
     data, over = read_section(options.job), read_over(options.tree)
     source = source_of_section(data, options.job, over)
     print("\n".join(script_lines(source.job.records, over.names.variables)))
-    note_spare(options.job, data, encode_script(source.job.records))
     return 0
 
 
-def note_spare(path, data, clean):
-    spare = sum(a != b for a, b in zip(clean, data))
-    if spare:
-        warn(f"{shown(path)}: note: {plural(spare, 'byte')} that nobody reads {'is' if spare == 1 else 'are'} not zero; "
-             "the source does not keep them")
+def do_clean(options):
+    data = read_bytes(options.job)
+    if is_source(data):
+        raise JobError(f"{shown(options.job)}: this is a source and no job; `{PROGRAM} assemble` writes zero in every byte that nobody reads")
+    answer = clean(data)
+    if answer.refused:
+        need_no_utf16(data, options.job)
+        fault = check(data, spare=False)
+        if fault is None or (fault.number, fault.index) != answer.refused:
+            raise JobError(f"{shown(options.job)}: the cleaner refused this job with {answer.refused[0]} at {answer.refused[1]}, and this tool "
+                           f"{'holds that it is ' + describe(fault) if fault else 'accepts it'}\nThe cleaner is right. Please report this job.")
+        raise RefusedError(shown(options.job), fault)
+    write_bytes(options.output, answer.data)
+    rows = "\n".join(changed_rows(options.job, decode(answer.data), answer.changes))
+    if options.output == "-":
+        warn(rows)
+    else:
+        print(rows)
+    return 0
+
+
+def changed_rows(path, job, changes):
+    if not changes:
+        return [f"{shown(path)}: the job was clean and stays as it is"]
+    said = f"{plural(len(changes), 'byte')} that nobody reads {'was' if len(changes) == 1 else 'were'} not zero"
+    return [f"{shown(path)}: {said}"] + [f"  {change_text(job, change)}" for change in changes]
+
+
+def change_text(job, change):
+    """A byte that was cleaned, in words."""
+    section = ("variable", "node", "record")[change.section]
+    what = f"{section} {change.index}"
+    if section == "record":
+        what += f" ({record_text(job.records[change.index], [f'v{index}' for index in range(len(job.variables))])})"
+    return f"{what}: byte {byte_name(section, change.byte)} was {change.old}"
 
 
 def do_picture(options):
@@ -257,6 +284,9 @@ def parser():
     one.add_argument("job", metavar="JOB", help="a job, or - for standard input")
     one.add_argument("--bare", action="store_true", help="JOB is the bare section of a follow-on script")
     one.add_argument("--tree", metavar="TREE", help="with --bare: take the names of variables from this source or job")
+    one = verb("clean", "zero in every byte of a stored job that nobody reads", do_clean)
+    one.add_argument("job", metavar="IN", help="a job, or - for standard input")
+    one.add_argument("output", metavar="OUT", help="where to write the cleaned job, - for standard output; it may be IN")
     one = verb("picture", "the tree of a source or job", do_picture)
     one.add_argument("job", metavar="JOB|SOURCE", help="a job or a source, or - for standard input")
     kinds = one.add_mutually_exclusive_group()
