@@ -109,7 +109,7 @@ class Said(unittest.TestCase):
     def test_needs(self):
         """What is needed for which command: each command of the Makefile that needs something, each program."""
         (table,) = re.findall(r"^\| to use \| you need \|\n\|[-|]+\|\n((?:\|.*\|\n)+)", TEXT, re.M)
-        for program_name in ("gcc", "g++", "valgrind", "cargo", "clang", "rt", "pkg-config", "xxd", "python3"):
+        for program_name in ("gcc", "g++", "valgrind", "objdump", "cargo", "clang", "rt", "pkg-config", "xxd", "python3"):
             self.assertIn(f"`{program_name}`", table)
         self.assertIn("Python 3.7", table)
         rules = set(re.findall(r"^([a-z]+):", (HOME / "Makefile").read_text(encoding="utf-8"), re.M))

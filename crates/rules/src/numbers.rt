@@ -1,7 +1,6 @@
 // Signed 32-bit numbers: their bits, and what each operator makes of two of them.
 ghost use mathlib.Core.Path.{_≡_};
 ghost use lib.IntN.{_+ℤ_, _-ℤ_};
-ghost use lib.Signed.{shrZ};
 ghost use Rattle.rules.specs.Number.{Fits, bits, signed, fitting, truth, equal, less, mean, isZero};
 ghost use Rattle.rules.specs.Answers.{valueOf};
 
@@ -88,19 +87,12 @@ pub fn less(a: i64, b: i64) -> i64
     truth(a < b)
 }
 
-// Half of a number, rounded down. Division rounds toward zero, so below zero it halves the next number up, and one is taken off.
-fn half(s: i64) -> i64
-    ensures { λ r. ⌜ r ≡ shrZ s 2 ⌝ }
-{
-    if s < 0 { (s + 1) / 2 - 1 } else { s / 2 }
-}
-
-// Rounded down, below zero too, of the exact sum.
+// Rounded down, below zero too, of the exact sum: an arithmetic shift rounds down, where a division would round toward zero.
 pub fn mean(a: i64, b: i64) -> i64
     requires { ⌜ Fits a × Fits b ⌝ }
     ensures { λ r. ⌜ r ≡ mean a b ⌝ }
 {
-    half(a + b)
+    (a + b) >> 1
 }
 
 pub fn is_zero(a: i32) -> bool
