@@ -1,8 +1,8 @@
 //! What the programs `board` and `inspect` must print for a job.
 
 use std::fmt::Write;
-use std::io::Write as _;
-use std::process::{Command, Stdio};
+use std::io::{ErrorKind, Write as _};
+use std::process::{Command, Output, Stdio};
 use std::thread;
 
 use reference::ending::Ending;
@@ -91,8 +91,8 @@ fn name(ending: Ending) -> &'static str {
     }
 }
 
-/// What the program at `path` prints for the job on its standard input.
-pub fn printed(path: &str, job: &[u8]) -> Result<Streams, String> {
+/// What the program at `path` puts out for the job on its standard input.
+pub fn streams(path: &str, job: &[u8]) -> Result<Output, String> {
     let mut child = Command::new(path)
         .stdin(Stdio::piped())
         .stdout(Stdio::piped())
@@ -102,11 +102,23 @@ pub fn printed(path: &str, job: &[u8]) -> Result<Streams, String> {
     let mut input = child.stdin.take().expect("piped");
     let job = job.to_vec();
     // A program need not read all of a job that is too long.
-    let writer = thread::spawn(move || drop(input.write_all(&job)));
+    let writer = thread::spawn(move || match input.write_all(&job) {
+        Err(error) if error.kind() != ErrorKind::BrokenPipe => Err(error.to_string()),
+        _ => Ok(()),
+    });
     let output = child
         .wait_with_output()
         .map_err(|error| error.to_string())?;
-    writer.join().expect("the writer ends");
+    writer.join().expect("the writer ends")?;
+    if !output.status.success() {
+        return Err(format!("{path} ended with {}", output.status));
+    }
+    Ok(output)
+}
+
+/// The same as text.
+pub fn printed(path: &str, job: &[u8]) -> Result<Streams, String> {
+    let output = streams(path, job)?;
     Ok(Streams {
         output: String::from_utf8_lossy(&output.stdout).into_owned(),
         error: String::from_utf8_lossy(&output.stderr).into_owned(),
