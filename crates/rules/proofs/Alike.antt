@@ -2,13 +2,13 @@
 -- where that is visible, the same value; or neither level is visible. Assumes nothing.
 use mathlib.Core.Path.{_≡_, refl, sym, _∙_, ap}
 use Prim.Native.Nat.{ℕ}
-use mathlib.Core.Bool.{Bool, true, false, cond}
-use mathlib.Core.Option.{Option, none, some, Option·some-injective}
-use mathlib.Core.List.{List, map}
+use mathlib.Core.Bool.{true, false}
+use mathlib.Core.Option.{some, Option·some-injective}
+use mathlib.Core.List.{map}
 use lib.ListN.{getD, List·getD-map}
 use lib.IntN.{ℤ, pos}
 use Rattle.rules.specs.Level.{Level, public, join, visible}
-use Rattle.rules.specs.Tree.{Label, Forest, child, along, Place, to, sub, label, count, withValue}
+use Rattle.rules.specs.Tree.{Label, child, along, Place, to, sub, label, count, withValue}
 use Rattle.rules.specs.Script.{Operand, Expression, alone, both, apply}
 use Rattle.rules.specs.Job.{Variable}
 use Rattle.rules.specs.Run.{Memory, noVariable, variableAt, current, operandValue, operandLevel, value, levelOf}
@@ -18,7 +18,7 @@ use Rattle.rules.proofs.Lattice.{vis-down, vis-left, vis-right, hid-lef
 use Rattle.rules.proofs.Trees.{loAt, hiAt, hiOf}
 use Rattle.rules.proofs.Cut.{mask, cutLabel, cut, cut-sub, count-cut, Heads, seen, hidden, heads}
 use Rattle.rules.proofs.Sound.{Sound, there}
-use Rattle.rules.proofs.View.{view, seenCursor}
+use Rattle.rules.proofs.View.{view, seenAt, seenCursor}
 
 module _ (o : Level) where
   -- two levels with a value each: equal, with the same value where that is visible; or both hidden
@@ -100,13 +100,13 @@ module _ (o : Level) where
     cursor-eq = ap (λ w. w .cursor) v
 
     pub cursors : Cursors
-    unfolding seenCursor
+    unfolding seenCursor seenAt
     cursors = pick (test (visible o (m₁ .level))) (test (visible o (m₂ .level)))
       where
         pick : Test (visible o (m₁ .level)) → Test (visible o (m₂ .level)) → Cursors
         pick (holds e) (holds f) =
             let r = Option·some-injective _ _ (rw (e, f) at cursor-eq) in
-            seenBoth e (ap (λ c. c .place) r) (ap (λ c. c .level) r)
+            seenBoth e (Option·some-injective _ _ (ap (λ c. c .place) r)) (ap (λ c. c .level) r)
         pick (holds e) (fails f) = let k = rw (e, f) at cursor-eq in let z : true ≡ false = cc in clash refl z
         pick (fails e) (holds f) = let k = rw (e, f) at cursor-eq in let z : true ≡ false = cc in clash refl z
         pick (fails e) (fails f) = seenNeither e f

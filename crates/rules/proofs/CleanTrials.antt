@@ -39,12 +39,18 @@ pub noted-refused :
 unfolding computed tidy noted
 noted-refused = (refl, refl)
 
--- a spare byte in record 0 with command 17 in record 1; a spare byte in record 1 behind a lone end; the lone end alone. The first gets its old number from the cleaner
+-- a spare byte in record 0 with command 18 in record 1; a spare byte in record 1 behind a lone end; the lone end alone
 pub order-holds :
-    (map checkBytes (set (set tidy 41 2) 56 17 ∷ set (set tidy 40 5) 60 3 ∷ set tidy 40 5 ∷ []) ≡ refused 7 1 ∷ refused 12 1 ∷ refused 8 0 ∷ [])
-    × (leftClean (set (set tidy 41 2) 56 17) ≡ set (set tidy 41 2) 56 17)
+    map checkBytes (set (set tidy 41 2) 56 18 ∷ set (set tidy 40 5) 60 3 ∷ set tidy 40 5 ∷ []) ≡ refused 7 1 ∷ refused 12 1 ∷ refused 8 0 ∷ []
 unfolding computed tidy
-order-holds = (refl, refl)
+order-holds = refl
+
+-- an if that comes back, with its end and a note in it: 12 to the rules of today, and 7 to the cleaner, which leaves it as it is
+pub later-command :
+    let b = set (usual (pos 5) (one 17 0 (v 1) ∷ bare 5 ∷ [])) 57 2 in
+    (checkBytes b ≡ refused 12 1) × (checkBytes (set b 57 0) ≡ accepted) × (checkBytesBy first b ≡ refused 7 0) × (leftClean b ≡ b)
+unfolding computed
+later-command = (refl, refl, refl, refl)
 
 -- what records read: target, expression, right side, left number, right number. Root; v0 := v1; new first child of value, mark 3; print 1 plus children; write the mean
 -- of value and v0; command 200

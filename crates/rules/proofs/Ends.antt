@@ -2,19 +2,19 @@
 -- a while's part is closed by its end, an if's by its end or by its else, whose part the end closes. Assumes nothing.
 use mathlib.Core.Path.{_≡_, refl, sym, ap, _∙_, subst}
 use mathlib.Core.Logic.{_⊎_, inl, inr}
-use mathlib.Core.Bool.{true, cond}
+use mathlib.Core.Bool.{true, false, cond}
 use mathlib.Core.List.{List, [], _∷_, tail, nil≢cons, head-eq-of-cons-eq, Forall₂·cons}
 use Prim.Native.Nat.{ℕ, suc, _-_, _<_}
 use native.Mathlib.Nat.{le-of-lt}
 use native.Mathlib.Omega.{arith}
 use lib.Dec.{eqb}
 use borrow.Author.Tests.{eqb-true}
-use Rattle.rules.specs.Blocks.{opens, closes, headIs, parts, headIsIf, blockRule, closesPart, closer}
+use Rattle.rules.specs.Blocks.{branches, opens, closes, headIs, parts, headIsIf, blockRule, closesPart, closer, nest}
 use Rattle.rules.proofs.Tests.{both, clash}
 use Rattle.rules.proofs.Search.{search}
-use Rattle.rules.proofs.Parts.{else-closes, closes-either, not-else, placed-else, placed-end, Begins, byElse, opens-begins}
+use Rattle.rules.proofs.Parts.{else-closes, closes-either, not-else, if-not-else, else-not-if, placed-else, placed-end, Begins, byElse, opens-begins}
 use Rattle.rules.proofs.Jumps.{isIn, closed-here, closed}
-use Rattle.rules.proofs.Nests.{nest, nest-head, Owner, one, two, Pairs, is-placed, pairs, parts-done}
+use Rattle.rules.proofs.Nests.{nest-head, Owner, one, two, Pairs, is-placed, pairs, parts-done}
 
 -- the end of the block o of n records: the record that closes its first part or, if that is an else, its second
 unfoldable pub endOf : (ℕ → ℕ) → ℕ → ℕ → ℕ
@@ -90,15 +90,15 @@ module _ (code : ℕ → ℕ) (n : ℕ) where
     nest-not-empty j h k e = nil≢cons (sym e ∙ nest-some j h k .1)
 
     -- an else closes a part that an if began
-    by-if : (j p : ℕ) → Closes j p → code j ≡ 3 → code p ≡ 2
+    by-if : (j p : ℕ) → Closes j p → code j ≡ 3 → branches (code p) ≡ true
     unfolding headIsIf
     by-if j p m e =
         let f = sym (placed-else code (code j) (parts code j) e) ∙ is-placed code n right j (m .range) in
-        eqb-true (code p) 2 (sym (ap (headIsIf code) (m .there)) ∙ f)
+        sym (ap (headIsIf code) (m .there)) ∙ f
 
     -- a part that no if began is closed by an end
-    pub by-end : (p : ℕ) → p < n → Begins (code p) → (code p ≡ 2 → ⊥) → code (closer code n p) ≡ 5
-    by-end p h b d = let m = closing p h b in elim (closes-either _ (m .how)) [ inl e ↦ absurd (d (by-if _ p m e)) | inr e ↦ e ]
+    pub by-end : (p : ℕ) → p < n → Begins (code p) → branches (code p) ≡ false → code (closer code n p) ≡ 5
+    by-end p h b d = let m = closing p h b in elim (closes-either _ (m .how)) [ inl e ↦ clash (by-if _ p m e) d | inr e ↦ e ]
 
     -- the first part of a block is closed in it
     pub first-inside : (o : ℕ) → o < n → opens (code o) ≡ true → nest code (closer code n o) ≡ o ∷ nest code o
@@ -108,11 +108,11 @@ module _ (code : ℕ → ℕ) (n : ℕ) where
         m .inside ∙ ap (λ (x : ℕ). x ∷ nest code x) (sym z)
 
     -- an else closes the first part of its block, which is an if
-    pub else-closer : (p o : ℕ) (os : List ℕ) → p < n → code p ≡ 3 → nest code p ≡ o ∷ os → (closer code n o ≡ p) × (code o ≡ 2)
+    pub else-closer : (p o : ℕ) (os : List ℕ) → p < n → code p ≡ 3 → nest code p ≡ o ∷ os → (closer code n o ≡ p) × (branches (code o) ≡ true)
     else-closer p o os h k e =
         let (q, m) = closed-part p h (else-closes (code p) k) in
-        let i : code q ≡ 2 = by-if p q m k in
-        let z : q ≡ o = is-first q (m .block) (m .owner) (λ (x : code q ≡ 3). omega arith) ∙ head-eq-of-cons-eq (sym (m .inside) ∙ e) in
+        let i : branches (code q) ≡ true = by-if p q m k in
+        let z : q ≡ o = is-first q (m .block) (m .owner) (if-not-else (code q) i) ∙ head-eq-of-cons-eq (sym (m .inside) ∙ e) in
         let c : closer code n q ≡ p = closed-here code n p q (tail (parts code p)) h (m .there) (m .how) in
         (rw z at c, rw z at i)
 
@@ -135,5 +135,5 @@ module _ (code : ℕ → ℕ) (n : ℕ) where
         go (inr e) = rw (end-first o _ refl e) (record { range = m .range; isEnd = e; inside = first-inside o h k })
         go (inl e) =
             let r = closing _ (m .range) (byElse e) in
-            let d : code (closer code n (closer code n o)) ≡ 5 = by-end _ (m .range) (byElse e) (λ (x : code (closer code n o) ≡ 2). omega arith) in
+            let d : code (closer code n (closer code n o)) ≡ 5 = by-end _ (m .range) (byElse e) (else-not-if _ e) in
             rw (end-second o _ _ refl e refl) (record { range = r .range; isEnd = d; inside = second-inside _ (m .range) e ∙ first-inside o h k })

@@ -8,11 +8,12 @@ use Prim.Native.Nat.{ℕ, suc, _≤_, _<_}
 use native.Mathlib.Nat.{le-of-lt, lt-trans}
 use native.Mathlib.Omega.{arith}
 use lib.Dec.{eqb}
-use Rattle.rules.specs.Blocks.{opens, blockRule, closer, pastEnd, goesTo}
+use borrow.Author.Tests.{ne-eqb}
+use Rattle.rules.specs.Blocks.{branches, opens, blockRule, closer, pastEnd, goesTo, nest}
 use Rattle.rules.proofs.Tests.{Test, holds, fails, test}
-use Rattle.rules.proofs.Parts.{before, Kind, opener, divider, ender, other, kind, if-opens, while-opens, else-closes, end-closes, opens-either, closes-either, byIf, byElse, byWhile}
+use Rattle.rules.proofs.Parts.{before, Kind, opener, divider, ender, other, kind, if-opens, while-opens, if-not-while, else-not-if, while-not-if, else-closes, end-closes, opens-either, closes-either, byIf, byElse, byWhile}
 use Rattle.rules.proofs.Jumps.{closed-here, goes-plain, goes-past-else, goes-past-end, goes-to-end, goes-back}
-use Rattle.rules.proofs.Nests.{nest, nest-else, nest-end, nest-tail, Owner, one, two}
+use Rattle.rules.proofs.Nests.{nest-else, nest-end, nest-tail, Owner, one, two}
 use Rattle.rules.proofs.Ends.{endOf, end-first, end-second, Closes, closing, closed-part, nest-some, by-end, first-inside, else-closer, ends}
 
 -- where the end of the block o goes: of a while back to it, of an if onwards
@@ -45,7 +46,7 @@ module _ (code : ℕ → ℕ) (n : ℕ) where
           go (one z f) = let x : p ≡ o = z ∙ same in (end-first code n o i (rw x at c) k, g ∙ ap (pastEnd code i) x)
           go (two z f) =
               let r = else-closer code n right p o _ (lt-trans (before code i p _ (m .there)) h) z (rw same at f) in
-              (end-second code n o i p (r .0) z c, g ∙ rw (z, r .1))
+              (end-second code n o i p (r .0) z c, g ∙ rw (z, ne-eqb (code o) 4 (if-not-while (code o) (r .1))))
 
       both-ways : (endOf code n o ≡ i) × (goesTo code n i ≡ pastEnd code i o)
       both-ways = let (p, m) = closed-part code n right i h (end-closes (code i) k) in left p m
@@ -68,22 +69,22 @@ module _ (code : ℕ → ℕ) (n : ℕ) where
     -- a while with a zero guard goes behind its end
     pub while-target : (o : ℕ) → o < n → code o ≡ 4 → goesTo code n o ≡ suc (endOf code n o)
     while-target o h e =
-        let d : code (closer code n o) ≡ 5 = by-end code n right o h (byWhile e) (λ (x : code o ≡ 2). omega arith) in
+        let d : code (closer code n o) ≡ 5 = by-end code n right o h (byWhile e) (while-not-if (code o) e) in
         goes-past-end code n _ o e refl ∙ ap suc (sym (end-first code n o _ refl d))
 
     -- an else goes to the end of its block
     pub else-target : (p o : ℕ) (os : List ℕ) → p < n → code p ≡ 3 → nest code p ≡ o ∷ os → goesTo code n p ≡ endOf code n o
     else-target p o os h k e =
-        let d : code (closer code n p) ≡ 5 = by-end code n right p h (byElse k) (λ (x : code p ≡ 2). omega arith) in
+        let d : code (closer code n p) ≡ 5 = by-end code n right p h (byElse k) (else-not-if (code p) k) in
         let c : closer code n o ≡ p = else-closer code n right p o os h k e .0 in
         goes-to-end code n _ p (byElse k) (λ (x : code p ≡ 4). omega arith) refl d ∙ sym (end-second code n o _ p c k refl)
 
-    pub if-target : (o : ℕ) → o < n → code o ≡ 2 → IfZero o
+    pub if-target : (o : ℕ) → o < n → branches (code o) ≡ true → IfZero o
     if-target o h e = go (closes-either _ (closing code n right o h (byIf e) .how))
       where
         go : (code (closer code n o) ≡ 3) ⊎ (code (closer code n o) ≡ 5) → IfZero o
         go (inl d) = behind d (goes-past-else code n _ o e refl d)
-        go (inr d) = atEnd (goes-to-end code n _ o (byIf e) (λ (x : code o ≡ 4). omega arith) refl d ∙ sym (end-first code n o _ refl d))
+        go (inr d) = atEnd (goes-to-end code n _ o (byIf e) (if-not-while (code o) e) refl d ∙ sym (end-first code n o _ refl d))
 
     -- behind the end of a block the blocks around it are open, and so they are where it is left
     pub past-end : (o : ℕ) → o < n → opens (code o) ≡ true → nest code (suc (endOf code n o)) ≡ nest code o
@@ -101,7 +102,7 @@ module _ (code : ℕ → ℕ) (n : ℕ) where
     pub while-exit : (o : ℕ) → o < n → code o ≡ 4 → nest code (goesTo code n o) ≡ nest code o
     while-exit o h e = ap (nest code) (while-target o h e) ∙ past-end o h (while-opens (code o) e)
 
-    pub if-exit : (o : ℕ) → o < n → code o ≡ 2 → nest code (goesTo code n o) ≡ o ∷ nest code o
+    pub if-exit : (o : ℕ) → o < n → branches (code o) ≡ true → nest code (goesTo code n o) ≡ o ∷ nest code o
     if-exit o h e = go (if-target o h e)
       where
         go : IfZero o → nest code (goesTo code n o) ≡ o ∷ nest code o
@@ -129,7 +130,7 @@ module _ (code : ℕ → ℕ) (n : ℕ) where
         end : opens (code i) ≡ true → endOf code n i < n
         end k = ends code n right i h k .range
 
-        zero-guard : (code i ≡ 2) ⊎ (code i ≡ 4) → goesTo code n i ≤ n
+        zero-guard : (branches (code i) ≡ true) ⊎ (code i ≡ 4) → goesTo code n i ≤ n
         zero-guard (inl e) = branch (if-target i h e)
           where
             branch : IfZero i → goesTo code n i ≤ n

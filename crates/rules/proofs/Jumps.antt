@@ -10,14 +10,10 @@ use native.Mathlib.Omega.{arith}
 use lib.Dec.{eqb}
 use borrow.Author.Tests.{eq-eqb, ne-eqb}
 unfoldable pub use Rattle.rules.specs.Blocks.{isIn}
-use Rattle.rules.specs.Blocks.{closes, headIs, after, parts, closesPart, firstFrom, closer, pastElse, pastEnd, goesTo}
+use Rattle.rules.specs.Blocks.{branches, closes, headIs, after, parts, closesPart, firstFrom, closer, pastElse, pastEnd, goesTo}
 use Rattle.rules.proofs.Search.{here, further, search}
 use Rattle.rules.proofs.Tests.{clash}
-use Rattle.rules.proofs.Parts.{Plain, Kind, opener, divider, ender, other, kind, after-open, after-else, after-end, after-plain, if-opens, while-opens, else-closes, end-closes, opens-closes, plain-closes, Falls, empty, next, raise, known, Begins, byIf, byElse, byWhile}
-
-or-true : (b : Bool) → (b || true) ≡ true
-or-true true = refl
-or-true false = refl
+use Rattle.rules.proofs.Parts.{or-true, Plain, Kind, opener, divider, ender, other, kind, after-open, after-else, after-end, after-plain, if-opens, while-opens, else-not-if, while-not-if, end-not-if, else-closes, end-closes, opens-closes, plain-closes, Falls, empty, next, raise, known, Begins, byIf, byElse, byWhile}
 
 and-false : (b : Bool) → (b && false) ≡ false
 and-false true = refl
@@ -115,23 +111,23 @@ module _ (code : ℕ → ℕ) where
 module _ (code : ℕ → ℕ) (n : ℕ) where
   pub goes-plain : (i : ℕ) → Plain (code i) → goesTo code n i ≡ suc i
   unfolding goesTo
-  goes-plain i p = rw (ne-eqb _ 2 (p .not2), ne-eqb _ 3 (p .not3), ne-eqb _ 4 (p .not4), ne-eqb _ 5 (p .not5))
+  goes-plain i p = rw (p .notIf, ne-eqb _ 3 (p .not3), ne-eqb _ 4 (p .not4), ne-eqb _ 5 (p .not5))
 
   module _ (i o : ℕ) where
-    pub goes-past-else : code o ≡ 2 → closer code n o ≡ i → code i ≡ 3 → goesTo code n o ≡ suc i
+    pub goes-past-else : branches (code o) ≡ true → closer code n o ≡ i → code i ≡ 3 → goesTo code n o ≡ suc i
     unfolding goesTo pastElse
     goes-past-else a e b = rw (a, e, b)
 
     pub goes-past-end : code o ≡ 4 → closer code n o ≡ i → goesTo code n o ≡ suc i
     unfolding goesTo
-    goes-past-end a e = rw (a, e)
+    goes-past-end a e = rw (while-not-if (code o) a, a, e)
 
     pub goes-to-end : Begins (code o) → (code o ≡ 4 → ⊥) → closer code n o ≡ i → code i ≡ 5 → goesTo code n o ≡ i
     unfolding goesTo pastElse
     goes-to-end (byIf a) m e b = rw (a, e, b)
-    goes-to-end (byElse a) m e b = rw (a, e)
+    goes-to-end (byElse a) m e b = rw (else-not-if (code o) a, a, e)
     goes-to-end (byWhile a) m e b = absurd (m a)
 
   pub goes-back : (i p : ℕ) (ps : List ℕ) → code i ≡ 5 → parts code i ≡ p ∷ ps → goesTo code n i ≡ pastEnd code i p
   unfolding goesTo headD
-  goes-back i p ps a e = rw (a, e)
+  goes-back i p ps a e = rw (end-not-if (code i) a, a, e)

@@ -1,9 +1,9 @@
 -- The lattice laws of levels, and what a reader sees of joined levels. Nothing else opens `join`, `notAbove`, `visible` or `isLevel`,
 -- and no law says that two levels which a reader does not see are equal. Assumes nothing.
-use mathlib.Core.Path.{_≡_, refl}
-use Prim.Native.Nat.{_≤_, max}
+use mathlib.Core.Path.{_≡_}
+use Prim.Native.Nat.{max}
 use native.Mathlib.Omega.{arith}
-use mathlib.Core.Bool.{Bool, true, false}
+use mathlib.Core.Bool.{true, false}
 use borrow.Author.Tests.{leb-true, le-leb}
 use Rattle.rules.specs.Level.{Level, public, secret, join, notAbove, isLevel, visible}
 use Rattle.rules.proofs.Tests.{Test, holds, fails, test, clash}
@@ -31,6 +31,11 @@ na-right a b = le-leb b (max a b) (omega arith)
 pub na-join : (a b c : Level) → notAbove a c ≡ true → notAbove b c ≡ true → notAbove (join a b) c ≡ true
 unfolding notAbove join
 na-join a b c h k = le-leb (max a b) c (omega (arith, leb-true a c h, leb-true b c k))
+
+-- what joins nothing new
+pub join-below : (a b : Level) → notAbove b a ≡ true → join a b ≡ a
+unfolding notAbove join
+join-below a b h = let l = leb-true b a h in omega arith
 
 -- levels: everything from `public` to `secret`
 

@@ -21,10 +21,12 @@ pub mod ReadBytes
 pub mod Accepted
 pub mod Lattice
 pub mod Trees
+pub mod Places
 pub mod Cut
 pub mod Results
 pub mod Sound
 pub mod View
+pub mod Relocate
 pub mod Alike
 pub mod Lockstep
 pub mod Runs
@@ -50,5 +52,6 @@ pub mod Reached
 pub mod Preserved
 pub mod Size
 pub mod Stores
+pub mod Returns
 pub mod History
 pub mod HistoryTrials

@@ -6,10 +6,10 @@ use mathlib.Core.List.{List, [], _∷_, _++_, IsPrefix, append-nil, append-assoc
 use lib.IntN.{ℤ}
 use Rattle.rules.specs.Level.{Level}
 use Rattle.rules.specs.Tree.{Place}
-use Rattle.rules.specs.Script.{Expression, Action, Command, act, fetch}
-use Rattle.rules.specs.Run.{Memory, State, Buffers, withVariables, withTree, withCursor, withLine, assign, output, moveTo, goTo, insertAt, removeAt, write, effect, stepped, enterIf, enterWhile, carried, step, run}
-use Rattle.rules.proofs.Results.{Good, good-need, good-given, good-map, good-onward}
-use Rattle.rules.proofs.Runs.{run-keeps}
+use Rattle.rules.specs.Script.{Expression, Action, Command}
+use Rattle.rules.specs.Run.{Memory, State, Buffers, withVariables, withTree, withCursor, withLine, assign, output, moveTo, goTo, insertAt, removeAt, write, effect, run}
+use Rattle.rules.proofs.Results.{Good, good-need, good-given, good-map}
+use Rattle.rules.proofs.Runs.{memory-keeps}
 
 -- a record, so that the lists can be read off
 pub record Extends (xs ys : List ℤ) : Type 0 where
@@ -53,25 +53,14 @@ module _ (pc : Level) (m : Memory) where
   effect-lines lent (Action.write e) = good-need (Longer m) _ _ _ λ _. good-given (Longer m) _ _ λ _. extends-refl refl
   effect-lines lent Action.raise = good-need (Longer m) _ _ _ λ _. extends-refl refl
 
-module _ (lent : Buffers) (cs : List Command) where
-  -- a state with no line less
-  Later : State → State → Type 0
-  Later s s′ = Extends (s .memory .lines) (s′ .memory .lines)
+moved-lines : (m n : Memory) (p : Place) (l : Level) → Longer m n → Longer m (withCursor n p l)
+unfolding Longer withCursor
+moved-lines m n p l h = h
 
-  carried-lines : (s : State) (j : ℕ) (c : Command) → Good (Later s) (carried s lent j c)
-  unfolding Longer Later carried enterIf enterWhile stepped
-  carried-lines s j (act a) = good-onward (Longer (s .memory)) (Later s) s (λ m h. h) _ (effect-lines _ (s .memory) lent a)
-  carried-lines s j (Command.if e) = good-given (Later s) _ _ λ _. extends-refl refl
-  carried-lines s j (Command.while e) = good-given (Later s) _ _ λ _. extends-refl refl
-  carried-lines s j Command.else = extends-refl refl
-  carried-lines s j Command.end = extends-refl refl
-
-  step-lines : (s : State) → Good (Later s) (step lent cs s)
-  unfolding step
-  step-lines s = carried-lines s _ (fetch cs (s .at))
-
-  -- the lines so far begin those of the whole run
-  pub run-lines : (n : ℕ) (s : State) → Extends (s .memory .lines) ((run lent cs n s) .last .memory .lines)
-  unfolding Later
-  run-lines n s =
-      run-keeps lent cs (Later s) (λ s′ e h. good-map (Later s′) (Later s) (λ t k. extends-trans h k) (step lent cs s′) (step-lines s′)) n s (extends-refl refl)
+-- the lines so far begin those of the whole run
+pub run-lines : (lent : Buffers) (cs : List Command) (n : ℕ) (s : State) → Extends (s .memory .lines) ((run lent cs n s) .last .memory .lines)
+unfolding Longer
+run-lines lent cs n s =
+    memory-keeps lent cs (Longer (s .memory))
+    (λ pc m a h. good-map (Longer m) (Longer (s .memory)) (λ m′ k. extends-trans h k) (effect lent pc m a) (effect-lines pc m lent a))
+    (moved-lines (s .memory)) n s (extends-refl refl)

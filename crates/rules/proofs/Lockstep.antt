@@ -2,25 +2,25 @@
 -- the same again. Where the cursor is seen both do the same to the cut; where it is not, each is confined. Assumes nothing.
 use mathlib.Core.Path.{_≡_, refl, sym, _∙_, ap}
 use Prim.Native.Nat.{ℕ, zero, suc}
-use mathlib.Core.Bool.{Bool, true, false, cond}
+use mathlib.Core.Bool.{true, false}
 use mathlib.Core.Option.{Option, none, some, Option·some-injective}
 use mathlib.Core.List.{List, [], _∷_, _++_, map}
 use lib.ListN.{set}
-use lib.IntN.{ℤ, pos}
+use lib.IntN.{ℤ}
 use Rattle.rules.specs.Level.{Level, public, secret, join, notAbove, visible}
 use Rattle.rules.specs.Tree as Tree
-use Rattle.rules.specs.Tree.{Label, Forest, Side, Place, root, to, up, sub, label, exists, change, setValue, withValue}
+use Rattle.rules.specs.Tree.{Forest, Side, Place, root, to, up, sub, label, change, setValue, withValue}
 use Rattle.rules.specs.Script.{Expression, Action}
 use Rattle.rules.specs.Job.{Variable}
-use Rattle.rules.specs.Run.{Memory, Buffers, Stop, absent, Result, variableAt, current, levelOf, value, withVariables, withTree, withCursor, withLine, secretIf, position, flowOf, contextFlow, assign, output, moveTo, goTo, mayTouch, newLabel, insertAt, removeAt, write, effect}
+use Rattle.rules.specs.Run.{Memory, Buffers, absent, Result, variableAt, current, levelOf, value, withVariables, withTree, withCursor, withLine, secretIf, position, flowOf, contextFlow, assign, output, moveTo, goTo, newLabel, insertAt, removeAt, write, effect}
 use Rattle.rules.specs.Public.{seenVariable, seenValue}
-use Rattle.rules.proofs.Tests.{Test, holds, fails, test, clash}
+use Rattle.rules.proofs.Tests.{Test, holds, fails, test}
 use Rattle.rules.proofs.Lattice.{level-secret, vis-public, vis-down, vis-both, vis-left, hid-up, hid-right}
 use Rattle.rules.proofs.Cut.{mask, cutLabel, cut, cut-change, insert-seen, remove-seen, set-seen, Heads, seen, hidden, heads}
 use Rattle.rules.proofs.Results.{Good, Good₂, good₂-need, good₂-given, good₂-stop, good₂-of}
 use Rattle.rules.proofs.Sound.{Sound, there}
-use Rattle.rules.proofs.View.{view, seenCursor, Kept, kept-go, kept-insert, kept-remove, kept-write}
-use Rattle.rules.proofs.Alike.{Agrees, agree-value, expressions, levels-eq, existence-eq, content-eq, tree-eq, variables-eq, variable-eq, Cursors, seenBoth, seenNeither, cursors, subs, Nodes, nodes}
+use Rattle.rules.proofs.View.{view, seenAt, seenCursor, Kept, kept-go, kept-insert, kept-remove, kept-write}
+use Rattle.rules.proofs.Alike.{agree-value, expressions, levels-eq, existence-eq, content-eq, tree-eq, variables-eq, variable-eq, Cursors, seenBoth, seenNeither, cursors, subs, nodes}
 
 map-set : {A B : Type 0} (f : A → B) (xs : List A) (i : ℕ) (x : A) → map f (set xs i x) ≡ set (map f xs) i (f x)
 map-set f [] i x = refl
@@ -111,7 +111,7 @@ module _ (o : Level) where
 
       -- 16: where the cursor is not seen, neither is the level that it is raised to
       lock-raise : Good₂ SameView (moveTo pc m₁ (m₁ .cursor) secret) (moveTo pc m₂ (m₂ .cursor) secret)
-      unfolding moveTo seenCursor
+      unfolding moveTo seenCursor seenAt
       lock-raise = good₂-need SameView _ _ _ _ _ _ λ _ _. view-cursor _ _ _ _ (pick (cursors o m₁ m₂ s₁ s₂ v))
         where
           pick : Cursors o m₁ m₂ s₁ s₂ v → seenCursor o (m₁ .cursor) secret ≡ seenCursor o (m₂ .cursor) secret
@@ -120,7 +120,7 @@ module _ (o : Level) where
 
       -- 8, 9, 10
       go-seen : (p q : Option Place) → p ≡ q → m₁ .level ≡ m₂ .level → Good₂ SameView (goTo pc m₁ p) (goTo pc m₂ q)
-      unfolding goTo moveTo seenCursor
+      unfolding goTo moveTo seenCursor seenAt
       go-seen none q w l = tt
       go-seen (some p) none w l = good₂-stop SameView (goTo pc m₁ (some p)) absent
       go-seen (some p) (some q) w l =

@@ -1,29 +1,23 @@
 -- The open blocks of a script, each by its if or while. In a right script they go together with the open parts, as a part is the first of its block
 -- or, begun by an else, the second: so their number is within bounds, and none is open at the end. Assumes nothing.
 use mathlib.Core.Path.{_≡_, refl, sym, ap, _∙_, subst}
-use mathlib.Core.Bool.{true, cond}
+use mathlib.Core.Bool.{true}
 use mathlib.Core.List.{List, [], _∷_, tail, Forall₂, Forall₂·nil, Forall₂·cons}
 use Prim.Native.Nat.{ℕ, zero, suc, _≤_, _<_}
 use native.Mathlib.Nat.{le-suc, lt-suc-self, le-of-lt}
 use native.Mathlib.Omega.{arith}
-use lib.Dec.{eqb}
 use lib.ListN.{length}
 use borrow.Author.Tests.{eqb-true, ltb-true, ne-eqb}
 use Rattle.rules.specs.Limits.{maxDepth}
-use Rattle.rules.specs.Blocks.{opens, after, parts, headIsIf, placed, blockRule}
+use Rattle.rules.specs.Blocks.{branches, opens, after, parts, nest, headIsIf, placed, blockRule}
 use Rattle.rules.proofs.Tests.{clash}
 use Rattle.rules.proofs.Parts.{Plain, Kind, opener, divider, ender, other, kind, plain-opens, after-open, after-else, after-end, after-plain, placed-open, placed-else, rule-inside, rule-end, Falls, empty, next, raise, rest, first, known}
-
--- the blocks that are open at record i, each by its if or while, the innermost first
-unfoldable pub nest : (ℕ → ℕ) → ℕ → List ℕ
-nest code zero = []
-nest code (suc i) = cond (opens (code i)) (i ∷ nest code i) (cond (eqb (code i) 5) (tail (nest code i)) (nest code i))
 
 tail-length : (os : List ℕ) → length (tail os) ≤ length os
 tail-length [] = omega arith
 tail-length (o ∷ os) = le-suc (length os)
 
-no-length : (os : List ℕ) → length os ≡ 0 → os ≡ []
+pub no-length : (os : List ℕ) → length os ≡ 0 → os ≡ []
 no-length [] e = refl
 no-length (o ∷ os) e = absurd (omega arith)
 
@@ -33,11 +27,11 @@ module _ (code : ℕ → ℕ) where
   nest-open i e = rw e
 
   pub nest-else : (i : ℕ) → code i ≡ 3 → nest code (suc i) ≡ nest code i
-  unfolding nest opens
+  unfolding nest opens branches
   nest-else i e = rw e
 
   pub nest-end : (i : ℕ) → code i ≡ 5 → nest code (suc i) ≡ tail (nest code i)
-  unfolding nest opens
+  unfolding nest opens branches
   nest-end i e = rw e
 
   pub nest-plain : (i : ℕ) → Plain (code i) → nest code (suc i) ≡ nest code i

@@ -1,8 +1,8 @@
 -- The open parts of a script: what each of the four kinds of records asks of them and makes of them, so that they fall, each begun after the one
 -- around it. Assumes nothing.
-use mathlib.Core.Path.{_≡_, subst}
+use mathlib.Core.Path.{_≡_, refl, ap, subst}
 use mathlib.Core.Logic.{_⊎_, inl, inr}
-use mathlib.Core.Bool.{true, false, _||_}
+use mathlib.Core.Bool.{Bool, true, false, _||_}
 use mathlib.Core.List.{List, [], _∷_, tail}
 use Prim.Native.Nat.{ℕ, zero, suc, _≤_, _<_}
 use native.Mathlib.Nat.{le-suc, lt-suc-self}
@@ -11,12 +11,12 @@ use lib.Dec.{eqb, ltb}
 use lib.ListN.{length}
 use borrow.Author.Tests.{ne-eqb, eqb-true, eqb-false, lt-ltb, le-ltb}
 use Rattle.rules.specs.Limits.{maxDepth}
-use Rattle.rules.specs.Blocks.{opens, closes, after, parts, headIsIf, placed, blockRule}
+use Rattle.rules.specs.Blocks.{branches, opens, closes, after, parts, headIsIf, placed, blockRule}
 use Rattle.rules.proofs.Tests.{Test, holds, fails, test, neither, clash}
 
 -- no if, else, while or end
 pub record Plain (k : ℕ) : Type 0 where
-  pub not2 : k ≡ 2 → ⊥
+  pub notIf : branches k ≡ false
   pub not3 : k ≡ 3 → ⊥
   pub not4 : k ≡ 4 → ⊥
   pub not5 : k ≡ 5 → ⊥
@@ -37,8 +37,8 @@ kind k = go (test (opens k)) (test (eqb k 3)) (test (eqb k 5))
     go (fails e) (holds f) d = divider (eqb-true k 3 f)
     go (fails e) (fails f) (holds g) = ender (eqb-true k 5 g)
     go (fails e) (fails f) (fails g) =
-        let z = neither (eqb k 2) (eqb k 4) e in
-        other (record { not2 = eqb-false k 2 (z .0); not3 = eqb-false k 3 f; not4 = eqb-false k 4 (z .1); not5 = eqb-false k 5 g })
+        let z = neither (branches k) (eqb k 4) e in
+        other (record { notIf = z .0; not3 = eqb-false k 3 f; not4 = eqb-false k 4 (z .1); not5 = eqb-false k 5 g })
 
 either : (k a b : ℕ) → (eqb k a || eqb k b) ≡ true → (k ≡ a) ⊎ (k ≡ b)
 either k a b e = go (test (eqb k a))
@@ -47,14 +47,50 @@ either k a b e = go (test (eqb k a))
     go (holds q) = inl (eqb-true k a q)
     go (fails q) = inr (eqb-true k b (rw q at e))
 
+pub or-true : (a : Bool) → (a || true) ≡ true
+or-true true = refl
+or-true false = refl
+
 module _ (k : ℕ) where
-  pub if-opens : k ≡ 2 → opens k ≡ true
+  pub is-if : k ≡ 2 → branches k ≡ true
+  unfolding branches
+  is-if e = rw e
+
+  pub is-back : k ≡ 17 → branches k ≡ true
+  unfolding branches
+  is-back e = rw e
+
+  pub if-opens : branches k ≡ true → opens k ≡ true
   unfolding opens
   if-opens e = rw e
 
   pub while-opens : k ≡ 4 → opens k ≡ true
   unfolding opens
-  while-opens e = rw e
+  while-opens e = rw (ap (λ (j : ℕ). eqb j 4) e) (or-true (branches k))
+
+  -- an if is no else, while or end
+  pub if-not : (j : ℕ) → branches j ≡ false → branches k ≡ true → k ≡ j → ⊥
+  if-not j f e q = clash (subst (λ (i : ℕ). branches i ≡ true) q e) f
+
+  pub if-not-else : branches k ≡ true → k ≡ 3 → ⊥
+  unfolding branches
+  if-not-else e q = if-not 3 refl e q
+
+  pub if-not-while : branches k ≡ true → k ≡ 4 → ⊥
+  unfolding branches
+  if-not-while e q = if-not 4 refl e q
+
+  pub else-not-if : k ≡ 3 → branches k ≡ false
+  unfolding branches
+  else-not-if q = rw q
+
+  pub while-not-if : k ≡ 4 → branches k ≡ false
+  unfolding branches
+  while-not-if q = rw q
+
+  pub end-not-if : k ≡ 5 → branches k ≡ false
+  unfolding branches
+  end-not-if q = rw q
 
   pub else-closes : k ≡ 3 → closes k ≡ true
   unfolding closes
@@ -64,20 +100,28 @@ module _ (k : ℕ) where
   unfolding closes
   end-closes e = rw e
 
-  pub opens-either : opens k ≡ true → (k ≡ 2) ⊎ (k ≡ 4)
+  pub opens-either : opens k ≡ true → (branches k ≡ true) ⊎ (k ≡ 4)
   unfolding opens
-  opens-either e = either k 2 4 e
+  opens-either e = go (test (branches k))
+    where
+      go : Test (branches k) → (branches k ≡ true) ⊎ (k ≡ 4)
+      go (holds q) = inl q
+      go (fails q) = inr (eqb-true k 4 (rw q at e))
 
   pub closes-either : closes k ≡ true → (k ≡ 3) ⊎ (k ≡ 5)
   unfolding closes
   closes-either e = either k 3 5 e
 
   pub opens-closes : opens k ≡ true → closes k ≡ false
-  unfolding closes
+  unfolding closes branches
   opens-closes e = go (opens-either e)
     where
-      go : (k ≡ 2) ⊎ (k ≡ 4) → closes k ≡ false
-      go (inl q) = rw q
+      branch : (k ≡ 2) ⊎ (k ≡ 17) → closes k ≡ false
+      branch (inl q) = rw q
+      branch (inr q) = rw q
+
+      go : (branches k ≡ true) ⊎ (k ≡ 4) → closes k ≡ false
+      go (inl q) = branch (either k 2 17 q)
       go (inr q) = rw q
 
   pub not-else : opens k ≡ true → k ≡ 3 → ⊥
@@ -85,7 +129,7 @@ module _ (k : ℕ) where
 
   pub plain-opens : Plain k → opens k ≡ false
   unfolding opens
-  plain-opens p = rw (ne-eqb k 2 (p .not2), ne-eqb k 4 (p .not4))
+  plain-opens p = rw (p .notIf, ne-eqb k 4 (p .not4))
 
   pub plain-closes : Plain k → closes k ≡ false
   unfolding closes
@@ -97,11 +141,11 @@ module _ (code : ℕ → ℕ) (k : ℕ) (ps : List ℕ) where
   placed-open e = rw e
 
   pub placed-else : k ≡ 3 → placed code k ps ≡ headIsIf code ps
-  unfolding placed opens
+  unfolding placed opens branches
   placed-else e = rw e
 
   pub placed-end : k ≡ 5 → placed code k ps ≡ ltb 0 (length ps)
-  unfolding placed opens
+  unfolding placed opens branches
   placed-end e = rw e
 
   pub placed-plain : Plain k → placed code k ps ≡ true
@@ -114,11 +158,11 @@ module _ (k i : ℕ) (ps : List ℕ) where
   after-open e = rw e
 
   pub after-else : k ≡ 3 → after k i ps ≡ i ∷ tail ps
-  unfolding after opens
+  unfolding after opens branches
   after-else e = rw e
 
   pub after-end : k ≡ 5 → after k i ps ≡ tail ps
-  unfolding after opens
+  unfolding after opens branches
   after-end e = rw e
 
   pub after-plain : Plain k → after k i ps ≡ ps
@@ -147,14 +191,19 @@ module _ {P : ℕ → List ℕ → Type 0} where
 
 -- a record that begins a part
 pub data Begins (k : ℕ) : Type 0 where
-  byIf : k ≡ 2 → Begins k
+  byIf : branches k ≡ true → Begins k
   byElse : k ≡ 3 → Begins k
   byWhile : k ≡ 4 → Begins k
+
+pub begins-not : {k : ℕ} → Begins k → k ≡ 5 → ⊥
+begins-not {k} (byIf e) q = clash e (end-not-if k q)
+begins-not (byElse e) q = omega arith
+begins-not (byWhile e) q = omega arith
 
 pub opens-begins : (k : ℕ) → opens k ≡ true → Begins k
 opens-begins k e = go (opens-either k e)
   where
-    go : (k ≡ 2) ⊎ (k ≡ 4) → Begins k
+    go : (branches k ≡ true) ⊎ (k ≡ 4) → Begins k
     go (inl q) = byIf q
     go (inr q) = byWhile q
 

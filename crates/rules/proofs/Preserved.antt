@@ -13,32 +13,11 @@ use Rattle.rules.specs.Limits.{maxNodes}
 use Rattle.rules.specs.Level.{Level}
 use Rattle.rules.specs.Tree as Tree
 use Rattle.rules.specs.Tree.{Label, Forest, nil, tree, Side, child, sibling, Place, root, to, up, exists, count, size, along, sub, onSide, change, setValue}
-use Rattle.rules.specs.Script.{Expression, Action, Command, act, fetch}
-use Rattle.rules.specs.Run.{Memory, State, Buffers, withVariables, withTree, withCursor, withLine, newLabel, assign, output, moveTo, goTo, insertAt, removeAt, write, effect, stepped, enterIf, enterWhile, carried, step, run}
+use Rattle.rules.specs.Script.{Expression, Action, Command}
+use Rattle.rules.specs.Run.{Memory, State, Buffers, withVariables, withTree, withCursor, withLine, newLabel, assign, output, moveTo, goTo, insertAt, removeAt, write, effect, run}
 use Rattle.rules.proofs.Tests.{clash}
-use Rattle.rules.proofs.Results.{Good, good-need, good-given, good-onward}
-use Rattle.rules.proofs.Runs.{more, run-keeps}
-
--- what every action keeps of the memory, a run keeps
-module _ (lent : Buffers) (cs : List Command) (P : Memory → Type 0) (keep : (pc : Level) (m : Memory) (a : Action) → P m → Good P (effect lent pc m a)) where
-  On : State → Type 0
-  On s = P (s .memory)
-
-  carried-keeps : (s : State) (j : ℕ) (c : Command) → P (s .memory) → Good On (carried s lent j c)
-  unfolding On carried enterIf enterWhile stepped
-  carried-keeps s j (act a) h = good-onward P On s (λ m k. k) _ (keep _ (s .memory) a h)
-  carried-keeps s j (Command.if e) h = good-given On _ _ λ _. h
-  carried-keeps s j (Command.while e) h = good-given On _ _ λ _. h
-  carried-keeps s j Command.else h = h
-  carried-keeps s j Command.end h = h
-
-  step-keeps : (s : State) → more lent cs s ≡ true → On s → Good On (step lent cs s)
-  unfolding On step
-  step-keeps s e h = carried-keeps s _ (fetch cs (s .at)) h
-
-  pub memory-keeps : (n : ℕ) (s : State) → P (s .memory) → P ((run lent cs n s) .last .memory)
-  unfolding On
-  memory-keeps n s h = run-keeps lent cs On step-keeps n s h
+use Rattle.rules.proofs.Results.{Good, good-need, good-given}
+use Rattle.rules.proofs.Runs.{memory-keeps}
 
 -- how many nodes a change adds
 on-size : (k : ℕ) (d : Side) (f : Forest → Forest) → ((x : Forest) → size (f x) ≤ k + size x) → (x : Forest) → size (onSide d f x) ≤ k + size x
@@ -128,15 +107,15 @@ pub record Held (v : ℕ) (m : Memory) : Type 0 where
   pub rooted : count (m .tree) ≡ 1
   pub small : size (m .tree) ≤ maxNodes
 
-module _ (lent : Buffers) (places : lent .places ≤ maxNodes) (v : ℕ) (pc : Level) (m : Memory) (h : Held v m) where
-  moved : (p : Place) (l : Level) → Held v (withCursor m p l)
-  unfolding withCursor
-  moved p l = record { variables = h .variables; rooted = h .rooted; small = h .small }
+moved : (v : ℕ) (m : Memory) (p : Place) (l : Level) → Held v m → Held v (withCursor m p l)
+unfolding withCursor
+moved v m p l h = record { variables = h .variables; rooted = h .rooted; small = h .small }
 
+module _ (lent : Buffers) (places : lent .places ≤ maxNodes) (v : ℕ) (pc : Level) (m : Memory) (h : Held v m) where
   go-held : (q : Option Place) → Good (Held v) (goTo pc m q)
   unfolding goTo moveTo
   go-held none = tt
-  go-held (some p) = good-need (Held v) _ _ _ λ _. good-need (Held v) _ _ _ λ _. moved _ _
+  go-held (some p) = good-need (Held v) _ _ _ λ _. good-need (Held v) _ _ _ λ _. moved v m _ _ h
 
   insert-held : (d : Side) (q : Option Place) (mark : ℕ) (e : Expression) → up (to d (m .cursor)) ≡ q
       → Good (Held v) (insertAt pc m (lent .places) (to d (m .cursor)) q mark e)
@@ -178,14 +157,14 @@ module _ (lent : Buffers) (places : lent .places ≤ maxNodes) (v : ℕ) (pc : L
       good-need (Held v) _ _ _ λ _. good-given (Held v) _ _ λ _. record { variables = length-set (m .variables) i _ ∙ h .variables; rooted = h .rooted; small = h .small }
   effect-held (Action.output e) =
       good-need (Held v) _ _ _ λ _. good-given (Held v) _ _ λ _. good-need (Held v) _ _ _ λ _. record { variables = h .variables; rooted = h .rooted; small = h .small }
-  effect-held Action.goRoot = good-need (Held v) _ _ _ λ _. moved _ _
+  effect-held Action.goRoot = good-need (Held v) _ _ _ λ _. moved v m _ _ h
   effect-held Action.goParent = go-held _
   effect-held (Action.go d) = go-held _
   effect-held (Action.insert d mark e) = insert-held d _ mark e refl
   effect-held (Action.remove d) = remove-held d
   effect-held (Action.write e) = write-held e
-  effect-held Action.raise = good-need (Held v) _ _ _ λ _. moved _ _
+  effect-held Action.raise = good-need (Held v) _ _ _ λ _. moved v m _ _ h
 
 pub run-held : (lent : Buffers) → lent .places ≤ maxNodes → (cs : List Command) (v n : ℕ) (s : State) → Held v (s .memory)
     → Held v ((run lent cs n s) .last .memory)
-run-held lent places cs v n s h = memory-keeps lent cs (Held v) (λ pc m a k. effect-held lent places v pc m k a) n s h
+run-held lent places cs v n s h = memory-keeps lent cs (Held v) (λ pc m a k. effect-held lent places v pc m k a) (moved v) n s h

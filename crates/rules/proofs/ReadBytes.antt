@@ -73,7 +73,8 @@ command-reads (suc (suc (suc (suc (suc (suc (suc (suc (suc (suc (suc (suc (suc (
 command-reads (suc (suc (suc (suc (suc (suc (suc (suc (suc (suc (suc (suc (suc (suc (suc zero))))))))))))))) t u e f h g =
     ap (λ (y : Expression). act (Action.write y)) (g refl)
 command-reads (suc (suc (suc (suc (suc (suc (suc (suc (suc (suc (suc (suc (suc (suc (suc (suc zero)))))))))))))))) t u e f h g = refl
-command-reads (suc (suc (suc (suc (suc (suc (suc (suc (suc (suc (suc (suc (suc (suc (suc (suc (suc k))))))))))))))))) t u e f h g = refl
+command-reads (suc (suc (suc (suc (suc (suc (suc (suc (suc (suc (suc (suc (suc (suc (suc (suc (suc zero))))))))))))))))) t u e f h g = ap Command.ifBack (g refl)
+command-reads (suc (suc (suc (suc (suc (suc (suc (suc (suc (suc (suc (suc (suc (suc (suc (suc (suc (suc k)))))))))))))))))) t u e f h g = refl
 
 -- two jobs with the same bytes where the record at a place is read
 module _

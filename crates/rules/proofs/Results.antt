@@ -1,9 +1,12 @@
 -- What holds of the results of steps: of one, wherever it goes on or stops, and of two, wherever both go on. Assumes nothing.
 use mathlib.Core.Path.{_≡_, refl}
+use Prim.Native.Nat.{ℕ}
 use mathlib.Core.Bool.{Bool, true, false}
 use mathlib.Core.Option.{Option, none, some}
+use mathlib.Core.List.{List}
 use lib.IntN.{ℤ}
-use Rattle.rules.specs.Run.{Memory, State, Stop, overflow, Result, next, stop, need, given, stepped, onward}
+use Rattle.rules.specs.Tree.{Place}
+use Rattle.rules.specs.Run.{Memory, Saved, Block, State, Stop, overflow, absent, Result, next, stop, need, given, withCursor, restore, leave, stepped, onward}
 
 module _ {A : Type 0} where
   -- P holds of what a result goes on with
@@ -78,22 +81,41 @@ module _ {A : Type 0} where
   pub good₂-next : (R : A → A → Type 0) (r q : Result A) (a b : A) → r ≡ next a → q ≡ next b → Good₂ R r q → R a b
   good₂-next R r q a b e f h = rw (e, f) at h
 
--- what holds of the memory after an action holds of the state after it
-pub good-onward : (P : Memory → Type 0) (Q : State → Type 0) (s : State)
-    → ((m : Memory) → P m → Q (stepped s m (s .blocks) (Prim.Native.Nat.suc (s .at)))) → (r : Result Memory) → Good P r → Good Q (onward s r)
+-- what holds of the memory after a command holds of the state after it
+pub good-onward : (P : Memory → Type 0) (Q : State → Type 0) (s : State) (bs : List Block) (i : ℕ) → ((m : Memory) → P m → Q (stepped s m bs i))
+    → (r : Result Memory) → Good P r → Good Q (onward s bs i r)
 unfolding onward
-good-onward P Q s f (next m) h = f m h
-good-onward P Q s f (stop k) h = tt
+good-onward P Q s bs i f (next m) h = f m h
+good-onward P Q s bs i f (stop k) h = tt
 
-pub stops-onward : (K : Stop → Type 0) (s : State) (r : Result Memory) → Stops K r → Stops K (onward s r)
+pub stops-onward : (K : Stop → Type 0) (s : State) (bs : List Block) (i : ℕ) (r : Result Memory) → Stops K r → Stops K (onward s bs i r)
 unfolding onward
-stops-onward K s (next m) h = tt
-stops-onward K s (stop k) h = h
+stops-onward K s bs i (next m) h = tt
+stops-onward K s bs i (stop k) h = h
 
-pub good₂-onward : (P : Memory → Memory → Type 0) (Q : State → State → Type 0) (s t : State)
-    → ((m n : Memory) → P m n → Q (stepped s m (s .blocks) (Prim.Native.Nat.suc (s .at))) (stepped t n (t .blocks) (Prim.Native.Nat.suc (t .at))))
-    → (r q : Result Memory) → Good₂ P r q → Good₂ Q (onward s r) (onward t q)
+pub good₂-onward : (P : Memory → Memory → Type 0) (Q : State → State → Type 0) (s t : State) (bs cs : List Block) (i j : ℕ)
+    → ((m n : Memory) → P m n → Q (stepped s m bs i) (stepped t n cs j)) → (r q : Result Memory) → Good₂ P r q → Good₂ Q (onward s bs i r) (onward t cs j q)
 unfolding onward
-good₂-onward P Q s t f (next m) (next n) h = f m n h
-good₂-onward P Q s t f (next m) (stop k) h = tt
-good₂-onward P Q s t f (stop k) q h = tt
+good₂-onward P Q s t bs cs i j f (next m) (next n) h = f m n h
+good₂-onward P Q s t bs cs i j f (next m) (stop k) h = tt
+good₂-onward P Q s t bs cs i j f (stop k) q h = tt
+
+-- what holds of a memory, and of it with the cursor at the remembered place, holds of it after the end of a block
+pub good-leave : (P : Memory → Type 0) (m : Memory) (r : Option Saved) → P m
+    → ((x : Saved) → r ≡ some x → (p : Place) → x .place ≡ some p → P (withCursor m p (x .level))) → Good P (leave m r)
+unfolding leave restore
+good-leave P m none h f = h
+good-leave P m (some r) h f = go (r .place) refl
+  where
+    go : (p : Option Place) → r .place ≡ p → Good P (restore m p (r .level))
+    go none e = tt
+    go (some p) e = f r refl p e
+
+pub stops-leave : (K : Stop → Type 0) (m : Memory) (r : Option Saved) → K absent → Stops K (leave m r)
+unfolding leave restore
+stops-leave K m none h = tt
+stops-leave K m (some r) h = go (r .place)
+  where
+    go : (p : Option Place) → Stops K (restore m p (r .level))
+    go none = h
+    go (some p) = tt

@@ -1,17 +1,19 @@
 -- The four laws of a run: its budget is used up, its script is over, it goes on, it stops. Nothing else opens `run`. From them by induction on the
 -- budget: a run with a larger budget goes on where one with a smaller budget was spent, and is the same otherwise; what every step keeps, a run
--- keeps; and how a run ends. Assumes nothing.
+-- keeps; what every action keeps of the memory, a run keeps; and how a run ends. Assumes nothing.
 use mathlib.Core.Path.{_≡_, refl, sym, _∙_, ap}
 use Prim.Native.Nat.{ℕ, zero, suc, _+_}
 use native.Mathlib.Nat.{zero-add, suc-add}
 use mathlib.Core.Bool.{Bool, true, false}
-use mathlib.Core.List.{List}
+use mathlib.Core.List.{List, [], _∷_}
 use lib.ListN.{length}
 use lib.Dec.{ltb}
-use Rattle.rules.specs.Script.{Command}
-use Rattle.rules.specs.Run.{State, Buffers, Stop, spent, Result, next, stop, finished, stopped, Ended, step, run}
+use Rattle.rules.specs.Level.{Level}
+use Rattle.rules.specs.Tree.{Place}
+use Rattle.rules.specs.Script.{Action, Command, act, fetch}
+use Rattle.rules.specs.Run.{Memory, Block, State, Buffers, Stop, spent, Result, next, stop, withCursor, effect, stepped, raised, enterIf, enterWhile, enterBack, leaveBlock, carried, finished, stopped, Ended, step, run}
 use Rattle.rules.proofs.Tests.{Test, holds, fails, test}
-use Rattle.rules.proofs.Results.{Good, good-next}
+use Rattle.rules.proofs.Results.{Good, good-given, good-next, good-onward, good-leave}
 
 -- a run that a number ends, in a state
 abbrev pub halted : Stop → State → Ended
@@ -97,6 +99,37 @@ module _ (lent : Buffers) (cs : List Command) (P : State → Type 0) (keep : (s 
   pub run-keeps : (n : ℕ) (s : State) → P s → P ((run lent cs n s) .last)
   run-keeps zero s h = keeps-zero s h (test _)
   run-keeps (suc n) s h = keeps-suc n (run-keeps n) s h (test _)
+
+-- what every action keeps of the memory, wherever the cursor is, a run keeps
+module _
+    (lent : Buffers) (cs : List Command) (P : Memory → Type 0) (keep : (pc : Level) (m : Memory) (a : Action) → P m → Good P (effect lent pc m a))
+    (anywhere : (m : Memory) (p : Place) (l : Level) → P m → P (withCursor m p l))
+  where
+    On : State → Type 0
+    On s = P (s .memory)
+
+    end-keeps : (s : State) (j : ℕ) (bs : List Block) → P (s .memory) → Good On (leaveBlock s j bs)
+    unfolding On leaveBlock stepped
+    end-keeps s j [] h = h
+    end-keeps s j (b ∷ bs) h =
+        good-onward P On s bs j (λ m k. k) _ (good-leave P (s .memory) (b .saved) h (λ x e p f. anywhere (s .memory) p (x .level) h))
+
+    carried-keeps : (s : State) (j : ℕ) (c : Command) → P (s .memory) → Good On (carried s lent j c)
+    unfolding On carried enterIf enterWhile enterBack raised stepped
+    carried-keeps s j (act a) h = good-onward P On s _ _ (λ m k. k) _ (keep _ (s .memory) a h)
+    carried-keeps s j (Command.if e) h = good-given On _ _ λ _. h
+    carried-keeps s j (Command.while e) h = good-given On _ _ λ _. h
+    carried-keeps s j (Command.ifBack e) h = good-given On _ _ λ _. anywhere (s .memory) _ _ h
+    carried-keeps s j Command.else h = h
+    carried-keeps s j Command.end h = end-keeps s j (s .blocks) h
+
+    step-keeps : (s : State) → more lent cs s ≡ true → On s → Good On (step lent cs s)
+    unfolding On step
+    step-keeps s e h = carried-keeps s _ (fetch cs (s .at)) h
+
+    pub memory-keeps : (n : ℕ) (s : State) → P (s .memory) → P ((run lent cs n s) .last .memory)
+    unfolding On
+    memory-keeps n s h = run-keeps lent cs On step-keeps n s h
 
 -- how a run ends: its script is over, its budget is used up, or the record that comes next stops it
 module _ (lent : Buffers) (cs : List Command) where

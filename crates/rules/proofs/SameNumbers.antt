@@ -1,17 +1,17 @@
 -- Two scripts with the same n command numbers have the same parts, the same faults and the same jumps, as these read no number from n on.
 -- Assumes nothing.
 use mathlib.Core.Path.{_≡_, refl, sym, ap, _∙_}
-use mathlib.Core.Bool.{false}
+use mathlib.Core.Bool.{true, false}
 use mathlib.Core.List.{List, headD}
 use Prim.Native.Nat.{ℕ, zero, suc, _-_, _≤_, _<_}
 use native.Mathlib.Nat.{le-of-lt}
-use native.Mathlib.Decide.{ℕ-discrete, decLt}
+use native.Mathlib.Decide.{decLt}
 use native.Mathlib.Omega.{arith}
 use lib.Dec.{eqb}
 use lib.ListN.{length}
-use borrow.Author.Tests.{ne-eqb}
-use Rattle.rules.specs.Blocks.{parts, headIsIf, placed, blockRule, closesPart, closer, pastElse, pastEnd, goesTo}
+use Rattle.rules.specs.Blocks.{branches, parts, nest, headIsIf, placed, blockRule, closesPart, closer, pastElse, pastEnd, goesTo}
 use Rattle.rules.specs.Check.{firstFault}
+use Rattle.rules.proofs.Tests.{Test, holds, fails, test}
 use Rattle.rules.proofs.Search.{first-agree, fault-agree}
 use Rattle.rules.proofs.Parts.{Below, empty, next, parts-below, rule-inside, rule-end}
 
@@ -20,6 +20,11 @@ module _ (f g : ℕ → ℕ) (n : ℕ) (same : (j : ℕ) → j < n → f j ≡ g
   unfolding parts
   parts-agree zero h = refl
   parts-agree (suc i) h = rw (same i h, parts-agree i (le-of-lt h))
+
+  pub nest-agree : (i : ℕ) → i ≤ n → nest f i ≡ nest g i
+  unfolding nest
+  nest-agree zero h = refl
+  nest-agree (suc i) h = rw (same i h, nest-agree i (le-of-lt h))
 
   if-agree : {i : ℕ} {ps : List ℕ} → Below f i ps → i ≤ n → headIsIf f ps ≡ headIsIf g ps
   unfolding headIsIf
@@ -51,12 +56,12 @@ module _ (f g : ℕ → ℕ) (n : ℕ) (same : (j : ℕ) → j < n → f j ≡ g
   inner-below (next l b r) h = omega arith
 
   -- in a script where the part that record k begins is closed
-  pub goes-agree : (k : ℕ) → k < n → (f k ≡ 2 → closer f n k < n) → goesTo f n k ≡ goesTo g n k
+  pub goes-agree : (k : ℕ) → k < n → (branches (f k) ≡ true → closer f n k < n) → goesTo f n k ≡ goesTo g n k
   unfolding goesTo pastElse pastEnd
-  goes-agree k h c = go (ℕ-discrete (f k) 2)
+  goes-agree k h c = go (test (branches (f k)))
     where
-      go : Dec (f k ≡ 2) → goesTo f n k ≡ goesTo g n k
-      go (yes q) = let r : g k ≡ 2 = sym (same k h) ∙ q in rw (q, r, same (closer f n k) (c q), closer-agree k h)
-      go (no q) =
-          let r : eqb (g k) 2 ≡ false = rw (same k h) at (ne-eqb (f k) 2 q) in
+      go : Test (branches (f k)) → goesTo f n k ≡ goesTo g n k
+      go (holds q) = let r : branches (g k) ≡ true = rw (same k h) at q in rw (q, r, same (closer f n k) (c q), closer-agree k h)
+      go (fails q) =
+          let r : branches (g k) ≡ false = rw (same k h) at q in
           rw (same k h, r, same (headD (parts f k) 0) (inner-below (parts-below f k) h), closer-agree k h, parts-agree k (le-of-lt h))

@@ -82,7 +82,7 @@ module _ (m : Memory) (sound : Sound m) where
   expression-level (Script.both f a b) = level-join _ _ (operand-level a) (operand-level b)
 
   -- the memory with the cursor elsewhere
-  moved : (p : Place) (l : Level) → exists (sub p (m .tree)) ≡ true → notAbove ((label (sub p (m .tree))) .existence) l ≡ true → isLevel l ≡ true
+  pub moved : (p : Place) (l : Level) → exists (sub p (m .tree)) ≡ true → notAbove ((label (sub p (m .tree))) .existence) l ≡ true → isLevel l ≡ true
       → Sound (withCursor m p l)
   unfolding withCursor current
   moved p l e h k = record { rules = sound .rules; stands = e; covered = h; cursor = k; variables = sound .variables }

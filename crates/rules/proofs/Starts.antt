@@ -9,13 +9,12 @@ use Rattle.rules.specs.Level.{Level, public}
 use Rattle.rules.specs.Bytes.{recordPlace}
 use Rattle.rules.specs.Tree.{Forest, exists, sub, TreeRules}
 use Rattle.rules.specs.Script.{Command}
-use Rattle.rules.specs.Blocks.{blockRule}
+use Rattle.rules.specs.Blocks.{blockRule, nest}
 use Rattle.rules.specs.Check.{recordRule, code}
 use Rattle.rules.specs.Job.{Variable, allLevels, scriptOf}
 use Rattle.rules.specs.Run.{context, current, start}
 use Rattle.rules.specs.Public.{Agree, AgreeVariables}
 use Rattle.rules.proofs.Lattice.{level-public, vis-public}
-use Rattle.rules.proofs.Nests.{nest}
 use Rattle.rules.proofs.Trees.{fit-first}
 use Rattle.rules.proofs.View.{view}
 use Rattle.rules.proofs.ByPlace.{cuts-equal}
@@ -50,6 +49,8 @@ start-valid vs t h cs =
       guards = level-public;
       within = omega arith;
       depth = refl;
+      kinds = refl;
+      restorable = tt;
     }
 
 pub start-twins : (o : Level) (vs ws : List Variable) (t u : Forest) → Kept vs t → Kept ws u → Agree o vs ws t u → Twins o (start vs t) (start ws u)

@@ -1,4 +1,4 @@
--- Twelve ways to leak, each as two jobs that differ in what the house owns, with what the rules give. By computation. Where a rule is loosened,
+-- Fifteen ways to leak, each as two jobs that differ in what the house owns, with what the rules give. By computation. Where a rule is loosened,
 -- both runs of its pair finish and their boards differ. Last, a pair that counts under cover and finishes. Assumes nothing.
 use mathlib.Core.Path.{_≡_, refl}
 use Prim.Native.Nat.{ℕ}
@@ -6,8 +6,8 @@ use mathlib.Core.List.{List, [], _∷_, _++_, map}
 use lib.IntN.{ℤ, pos}
 use Rattle.rules.specs.Limits.{noParent}
 use Rattle.rules.specs.Level.{public, secret}
-use Rattle.rules.specs.Outcome.{Outcome, Answer, answer, boardLines, runJob}
-use Rattle.rules.specs.Trials.{job, pair, node, one, both, bare, v, number, value, children, withPlaces, usual, guarded}
+use Rattle.rules.specs.Outcome.{Outcome, answer, boardLines, runJob}
+use Rattle.rules.specs.Trials.{job, pair, node, one, both, bare, v, number, value, children, withPlaces, usual, guarded, returning}
 use Rattle.rules.proofs.Computed.{computed}
 
 -- ending, index and lines
@@ -87,6 +87,12 @@ traps =
     ∷ by-value (one 2 0 (v 1) ∷ one 1 0 (number (pos 1)) ∷ bare 5 ∷ one 6 0 (v 0) ∷ []) (blocked 1) (done (pos 0 ∷ []))
     -- a removal under a house guard: if v1, remove first child, end
     ∷ by-value (guarded 13 ++ tell-children) (blocked 1) (done (pos 1 ∷ []))
+    -- an if that comes back, without its guard: v0 := 1 in it, then print v0
+    ∷ by-value (returning (v 1) (one 1 0 (number (pos 1)) ∷ []) ++ (one 6 0 (v 0) ∷ [])) (blocked 1) (done (pos 0 ∷ []))
+    -- its end without the place: first child in it, then print value
+    ∷ by-value (returning (v 1) (bare 9 ∷ []) ++ (one 6 0 value ∷ [])) (done (pos 10 ∷ [])) (done (pos 10 ∷ []))
+    -- its end without the level: cover, if v1, first child, end, come back at once, print value
+    ∷ by-value (bare 16 ∷ (guarded 9 ++ (returning (number (pos 0)) [] ++ (one 6 0 value ∷ [])))) (blocked 6) (blocked 6)
     -- what is read at a covered cursor: print value
     ∷ by-value (covered ++ (one 6 0 value ∷ [])) (blocked 4) (blocked 4)
     -- the same: print children

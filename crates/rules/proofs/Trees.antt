@@ -1,11 +1,11 @@
 -- The tree rules and look-up, at a place and after a change there. Each law goes along one side of a node first, then up the place.
 -- Assumes nothing.
 use mathlib.Core.Path.{_≡_, refl, _∙_, ap, fun-ext}
-use mathlib.Core.Bool.{true, false}
+use mathlib.Core.Bool.{true}
 use mathlib.Core.Option.{some}
 use lib.IntN.{ℤ}
-use Rattle.rules.specs.Level.{Level, public, notAbove}
-use Rattle.rules.specs.Tree.{Label, Forest, nil, tree, Side, child, sibling, along, Place, root, to, up, sub, label, exists, change, onSide, remove, setValue, withValue, Levels, Fit, Fits}
+use Rattle.rules.specs.Level.{Level, notAbove}
+use Rattle.rules.specs.Tree.{Label, Forest, nil, tree, Side, child, sibling, along, Place, root, to, up, sub, label, exists, change, onSide, remove, setValue, withValue, Fit, Fits}
 use Rattle.rules.proofs.Tests.{clash}
 use Rattle.rules.proofs.Lattice.{na-trans}
 
@@ -93,7 +93,7 @@ fits-value v lo hi (tree l c r) h =
 
 -- what stands at a place after a change there
 
-exists-along : (d : Side) (x : Forest) → exists (along d x) ≡ true → exists x ≡ true
+pub exists-along : (d : Side) (x : Forest) → exists (along d x) ≡ true → exists x ≡ true
 unfolding along exists
 exists-along d nil h = h
 exists-along d (tree l c r) h = refl

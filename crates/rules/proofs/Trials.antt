@@ -1,9 +1,13 @@
--- The twelve trials, from job bytes to outcome, by computation. Assumes nothing.
+-- The twelve trials, and those of the if that comes back, from job bytes to outcome, by computation. Assumes nothing.
 use mathlib.Core.Path.{_≡_, refl}
 use mathlib.Core.List.{map}
-use Rattle.rules.specs.Trials.{Trial, shown, trials}
+use Rattle.rules.specs.Trials.{shown, trials, backTrials}
 use Rattle.rules.proofs.Computed.{computed}
 
 pub trials-hold : map (λ t. shown (t .came)) trials ≡ map (λ t. t .due) trials
 unfolding computed
 trials-hold = refl
+
+pub back-trials-hold : map (λ t. shown (t .came)) backTrials ≡ map (λ t. t .due) backTrials
+unfolding computed
+back-trials-hold = refl

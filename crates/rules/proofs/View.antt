@@ -1,33 +1,34 @@
--- What a reader sees of a memory, and confinement: an action whose context the reader does not see changes nothing of it. Assumes nothing.
-use mathlib.Core.Path.{_≡_, refl, sym, _∙_, ap}
+-- What a reader sees of a memory and of open blocks, and confinement: an action whose context the reader does not see changes nothing of it. Assumes nothing.
+use mathlib.Core.Path.{_≡_, refl, ap}
 use Prim.Native.Nat.{ℕ, zero, suc}
-use mathlib.Core.Bool.{Bool, true, false, cond}
+use mathlib.Core.Bool.{true, false, cond}
 use mathlib.Core.Option.{Option, none, some}
 use mathlib.Core.List.{List, [], _∷_, map}
 use lib.ListN.{getD, set}
 use lib.IntN.{ℤ}
-use Rattle.rules.specs.Level.{Level, public, secret, join, notAbove, visible}
+use Rattle.rules.specs.Level.{Level, notAbove, visible}
 use Rattle.rules.specs.Tree as Tree
-use Rattle.rules.specs.Tree.{Forest, nil, tree, Place, sub, label, exists, change}
+use Rattle.rules.specs.Tree.{Forest, nil, tree, Place, label, exists}
 use Rattle.rules.specs.Script.{Expression, Action}
 use Rattle.rules.specs.Job.{Variable}
-use Rattle.rules.specs.Run.{Memory, Buffers, Result, noVariable, variableAt, current, levelOf, withVariables, withTree, withCursor, position, flowOf, contextFlow, assign, output, moveTo, goTo, mayTouch, newLabel, insertAt, removeAt, write, effect}
+use Rattle.rules.specs.Run.{Memory, Saved, Block, Buffers, noVariable, variableAt, current, withVariables, withTree, withCursor, position, flowOf, contextFlow, assign, output, moveTo, goTo, mayTouch, newLabel, insertAt, removeAt, write, effect}
 use Rattle.rules.specs.Public.{SeenVariable, seenVariable, seenValue}
-use Rattle.rules.proofs.Tests.{Test, holds, fails, test, clash}
-use Rattle.rules.proofs.Lattice.{level-secret, vis-public, vis-down, vis-left, vis-right, hid-up, hid-left, hid-right}
-use Rattle.rules.proofs.Cut.{cut, cut-kept, cut-hidden, insert-hidden, remove-hidden, set-hidden}
+use Rattle.rules.proofs.Tests.{clash}
+use Rattle.rules.proofs.Lattice.{level-secret, vis-public, vis-down, hid-up, hid-left, hid-right}
+use Rattle.rules.proofs.Cut.{cut, cut-kept, insert-hidden, remove-hidden, set-hidden}
 use Rattle.rules.proofs.Results.{Good, good-need, good-given}
 use Rattle.rules.proofs.Sound.{Sound, there}
-
-pub record Cursor : Type 0 where
-  pub place : Place
-  pub level : Level
 
 pub record View : Type 0 where
   pub variables : List SeenVariable
   pub tree : Forest
-  pub cursor : Option Cursor
+  pub cursor : Option Saved
   pub lines : List ℤ
+
+-- what is seen of a block: its guard, whether it comes back, and to what if that is seen
+pub record SeenBlock : Type 0 where
+  pub guard : Level
+  pub saved : Option (Option Saved)
 
 -- an element that looks the same, in place of another
 map-set : {A B : Type 0} (f : A → B) (xs : List A) (i : ℕ) (x d : A) → f x ≡ f (getD xs i d) → map f (set xs i x) ≡ map f xs
@@ -36,9 +37,23 @@ map-set f (y ∷ ys) zero x d h = ap (λ z. z ∷ map f ys) h
 map-set f (y ∷ ys) (suc i) x d h = ap (λ z. f y ∷ z) (map-set f ys i x d h)
 
 module _ (o : Level) where
+  -- a place that is remembered, where its level is visible
+  unfoldable pub seenAt : Option Place → Level → Option Saved
+  seenAt p l = cond (visible o l) (some (record { place = p; level = l })) none
+
   -- the cursor, where its level is visible
-  unfoldable pub seenCursor : Place → Level → Option Cursor
-  seenCursor p l = cond (visible o l) (some (record { place = p; level = l })) none
+  unfoldable pub seenCursor : Place → Level → Option Saved
+  seenCursor p l = seenAt (some p) l
+
+  unfoldable pub seenSaved : Option Saved → Option (Option Saved)
+  seenSaved none = none
+  seenSaved (some r) = some (seenAt (r .place) (r .level))
+
+  unfoldable pub seenBlock : Block → SeenBlock
+  seenBlock b = record { guard = b .guard; saved = seenSaved (b .saved) }
+
+  unfoldable pub looks : List Block → List SeenBlock
+  looks bs = map seenBlock bs
 
   unfoldable pub view : Memory → View
   view m =
@@ -54,7 +69,7 @@ module _ (o : Level) where
 
   -- the cursor moves, unseen before and after
   pub kept-cursor : (m : Memory) (p : Place) (l : Level) → visible o (m .level) ≡ false → visible o l ≡ false → Kept m (withCursor m p l)
-  unfolding Kept view withCursor seenCursor
+  unfolding Kept view withCursor seenCursor seenAt
   kept-cursor m p l e h = rw (e, h)
 
   hidden-variable : (v : Variable) (z : ℤ) → visible o (v .level) ≡ false → seenVariable o (record { level = v .level; value = z }) ≡ seenVariable o v

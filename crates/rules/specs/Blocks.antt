@@ -1,5 +1,5 @@
 -- How the blocks of a script are nested, over the command number of each record. A block has one part, or two with an else between them:
--- an if, an else and a while begin a part, an else and an end close one. Assumes nothing.
+-- an if, an else and a while begin a part, an else and an end close one. An if that comes back counts as an if. Assumes nothing.
 use Prim.Native.Nat.{ℕ, zero, suc, _-_}
 use mathlib.Core.Bool.{Bool, true, false, _&&_, _||_, cond}
 use mathlib.Core.List.{List, [], _∷_, tail, headD}
@@ -7,9 +7,13 @@ use lib.ListN.{length}
 use lib.Dec.{eqb, ltb}
 use Rattle.rules.specs.Limits.{maxDepth}
 
+-- an if, or an if that comes back
+unfoldable pub branches : ℕ → Bool
+branches k = eqb k 2 || eqb k 17
+
 -- an if or a while opens a block
 unfoldable pub opens : ℕ → Bool
-opens k = eqb k 2 || eqb k 4
+opens k = branches k || eqb k 4
 
 -- an else or an end closes a part
 unfoldable pub closes : ℕ → Bool
@@ -40,10 +44,15 @@ module _ (code : ℕ → ℕ) where
   parts zero = []
   parts (suc i) = after (code i) i (parts i)
 
+  -- the blocks that are open at record i, each as the record that opened it, the innermost first
+  unfoldable pub nest : ℕ → List ℕ
+  nest zero = []
+  nest (suc i) = cond (opens (code i)) (i ∷ nest i) (cond (eqb (code i) 5) (tail (nest i)) (nest i))
+
   -- the innermost of the open parts was begun by an if
   unfoldable pub headIsIf : List ℕ → Bool
   headIsIf [] = false
-  headIsIf (p ∷ ps) = eqb (code p) 2
+  headIsIf (p ∷ ps) = branches (code p)
 
   -- 8: a command k among the open parts: no "17th nested block", no "else with no block open or whose innermost open block is no if" and no "second else", no "end with none open"
   unfoldable pub placed : ℕ → List ℕ → Bool
@@ -72,7 +81,7 @@ module _ (code : ℕ → ℕ) where
   -- where record i of n goes if not to the next: an if with a zero guard, an else "to end", a while with a zero guard "past end", an end
   unfoldable pub goesTo : ℕ → ℕ → ℕ
   goesTo n i =
-      cond (eqb (code i) 2) (pastElse (closer n i))
+      cond (branches (code i)) (pastElse (closer n i))
       (cond (eqb (code i) 3) (closer n i)
       (cond (eqb (code i) 4) (suc (closer n i))
       (cond (eqb (code i) 5) (pastEnd i (headD (parts i) 0)) (suc i))))

@@ -14,5 +14,6 @@ pub mod Outcome
 pub mod Public
 pub mod Board
 pub mod History
+pub mod Returns
 pub mod Clean
 pub mod Trials

@@ -46,9 +46,9 @@ recordSize = 16
 abbrev pub noParent : ℕ
 noParent = 65535
 
--- "One fixed table of seventeen rows"
+-- "One fixed table of seventeen rows", and one more for the if that comes back
 abbrev pub commandCount : ℕ
-commandCount = 17
+commandCount = 18
 
 -- 1: the number of bytes
 abbrev pub badLength : ℕ

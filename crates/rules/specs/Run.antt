@@ -1,14 +1,14 @@
 -- One run of a script over variables and a tree. Assumes nothing.
 use Prim.Native.Nat.{ℕ, zero, suc, _%_}
 use mathlib.Core.Bool.{Bool, true, false, cond}
-use mathlib.Core.Option.{Option, none, some}
-use mathlib.Core.List.{List, [], _∷_, _++_, tail}
+use mathlib.Core.Option.{Option, none, some, Option·map, bind}
+use mathlib.Core.List.{List, [], _∷_, _++_, map}
 use lib.ListN.{length, getD, set}
 use lib.IntN.{ℤ, pos}
 use lib.Dec.{leb, ltb, eqb}
 use Rattle.rules.specs.Level.{Level, public, secret, join, notAbove}
 use Rattle.rules.specs.Number.{isZero}
-use Rattle.rules.specs.Tree.{Label, Forest, nil, tree, Side, child, along, Place, root, to, up, label, exists, count, size, sub, change, setValue}
+use Rattle.rules.specs.Tree.{Label, Forest, nil, tree, child, along, Place, root, to, up, label, exists, count, size, sub, change, setValue, afterInsert, afterRemove}
 use Rattle.rules.specs.Tree as Tree
 use Rattle.rules.specs.Script.{Operand, Expression, alone, both, Action, Command, act, apply, fetch, numberAt}
 use Rattle.rules.specs.Blocks.{goesTo}
@@ -22,9 +22,15 @@ pub record Memory : Type 0 where
   pub level : Level
   pub lines : List ℤ
 
--- an open block, by its guard's level
+-- what an if that comes back remembers: where the working node stands now, nowhere if it was removed meanwhile, and the cursor level
+pub record Saved : Type 0 where
+  pub place : Option Place
+  pub level : Level
+
+-- an open block: its guard's level and, of an if that comes back, what it remembers
 pub record Block : Type 0 where
   pub guard : Level
+  pub saved : Option Saved
 
 -- a run between two steps: at is the record that comes next, blocks are the open ones, innermost first
 pub record State : Type 0 where
@@ -216,19 +222,63 @@ effect lent pc m (Action.remove d) = removeAt pc m (to d (m .cursor))
 effect lent pc m (Action.write e) = write pc m e
 effect lent pc m Action.raise = moveTo pc m (m .cursor) secret
 
+-- where the node at q stands after an action with the cursor at c
+unfoldable pub relocate : Action → Place → Place → Option Place
+relocate Action.skip c q = some q
+relocate (Action.assign i e) c q = some q
+relocate (Action.output e) c q = some q
+relocate Action.goRoot c q = some q
+relocate Action.goParent c q = some q
+relocate (Action.go d) c q = some q
+relocate (Action.insert d mark e) c q = some (afterInsert (to d c) q)
+relocate (Action.remove d) c q = afterRemove (to d c) q
+relocate (Action.write e) c q = some q
+relocate Action.raise c q = some q
+
+-- what is remembered, its place relocated
+unfoldable pub onSaved : (Place → Option Place) → Saved → Saved
+onSaved f r = record { place = bind (r .place) f; level = r .level }
+
+-- a block, its remembered place relocated
+unfoldable pub onBlock : (Place → Option Place) → Block → Block
+onBlock f b = record { guard = b .guard; saved = Option·map (onSaved f) (b .saved) }
+
+-- the cursor brought back to a remembered place and level: 22 where the node "was removed meanwhile"
+unfoldable pub restore : Memory → Option Place → Level → Result Memory
+restore m none l = stop absent
+restore m (some p) l = next (withCursor m p l)
+
+-- what the end of a block does to the memory: of an if that comes back, it "brings both back"
+unfoldable pub leave : Memory → Option Saved → Result Memory
+leave m none = next m
+leave m (some r) = restore m (r .place) (r .level)
+
 module _ (s : State) where
   -- "Each record carried out is one step": the state after it, at record i
   unfoldable pub stepped : Memory → List Block → ℕ → State
   stepped m bs i = record { memory = m; blocks = bs; at = i; steps = suc (s .steps) }
 
-  -- on to the next record after an action
-  unfoldable pub onward : Result Memory → Result State
-  onward (next m) = next (stepped m (s .blocks) (suc (s .at)))
-  onward (stop k) = stop k
+  -- with the blocks bs on to record i
+  unfoldable pub onward : List Block → ℕ → Result Memory → Result State
+  onward bs i (next m) = next (stepped m bs i)
+  onward bs i (stop k) = stop k
+
+  -- the open blocks after an action, which may change where their remembered nodes stand
+  unfoldable pub relocated : Action → List Block
+  relocated a = map (onBlock (relocate a (s .memory .cursor))) (s .blocks)
 
   -- the blocks with one more, which has the guard e: "push E"
   unfoldable pub pushed : Expression → List Block
-  pushed e = record { guard = levelOf (s .memory) e } ∷ s .blocks
+  pushed e = record { guard = levelOf (s .memory) e; saved = none } ∷ s .blocks
+
+  -- the blocks with one more, which "remembers the working node and the cursor level"
+  unfoldable pub saving : Expression → List Block
+  saving e =
+      record { guard = levelOf (s .memory) e; saved = some (record { place = some (s .memory .cursor); level = s .memory .level }) } ∷ s .blocks
+
+  -- the memory in the block: "joins the context, with its guard, to the cursor level"
+  unfoldable pub raised : Expression → Memory
+  raised e = withCursor (s .memory) (s .memory .cursor) (join (s .memory .level) (context (saving e)))
 
   -- 2: "push E; zero goes past else, or to end if none", which is the record j
   unfoldable pub enterIf : ℕ → Expression → ℤ → State
@@ -238,13 +288,23 @@ module _ (s : State) where
   unfoldable pub enterWhile : ℕ → Expression → ℤ → State
   enterWhile j e z = stepped (s .memory) (cond (isZero z) (s .blocks) (pushed e)) (cond (isZero z) j (suc (s .at)))
 
+  -- 17: an if that comes back
+  unfoldable pub enterBack : ℕ → Expression → ℤ → State
+  enterBack j e z = stepped (raised e) (saving e) (cond (isZero z) j (suc (s .at)))
+
+  -- 5: "pop", and with no block open nothing
+  unfoldable pub leaveBlock : ℕ → List Block → Result State
+  leaveBlock j [] = next (stepped (s .memory) [] j)
+  leaveBlock j (b ∷ bs) = onward bs j (leave (s .memory) (b .saved))
+
   -- one record carried out, which jumps to j if it jumps; 3: "when reached, go to end"; 5: "pop; of a while: back to it"
   unfoldable pub carried : Buffers → ℕ → Command → Result State
-  carried lent j (act a) = onward (effect lent (context (s .blocks)) (s .memory) a)
+  carried lent j (act a) = onward (relocated a) (suc (s .at)) (effect lent (context (s .blocks)) (s .memory) a)
   carried lent j (Command.if e) = given (value (s .memory) e) λ z. next (enterIf j e z)
   carried lent j (Command.while e) = given (value (s .memory) e) λ z. next (enterWhile j e z)
+  carried lent j (Command.ifBack e) = given (value (s .memory) e) λ z. next (enterBack j e z)
   carried lent j Command.else = next (stepped (s .memory) (s .blocks) j)
-  carried lent j Command.end = next (stepped (s .memory) (tail (s .blocks)) j)
+  carried lent j Command.end = leaveBlock j (s .blocks)
 
 -- one step: the record that comes next is carried out
 unfoldable pub step : Buffers → List Command → State → Result State

@@ -1,4 +1,4 @@
--- The script: operands, expressions, commands with their numbers, and the table of seventeen rows. Assumes nothing.
+-- The script: operands, expressions, commands with their numbers, and the table of eighteen rows. Assumes nothing.
 use Prim.Native.Nat.{ℕ}
 use mathlib.Core.Bool.{Bool, true, false}
 use mathlib.Core.Option.{Option, some}
@@ -35,10 +35,10 @@ pub data Action : Type 0 where
   write : Expression → Action
   raise : Action
 
--- the commands: an action, or one of the four that say which record comes next
+-- the commands: an action, or one of the five that say which record comes next; `ifBack` is the if that comes back
 pub data Command : Type 0 where
   act : Action → Command
-  if while : Expression → Command
+  if while ifBack : Expression → Command
   else end : Command
 
 -- what an operator makes of two numbers, if that is a number
@@ -69,6 +69,7 @@ commands t e =
     ∷ act (Action.remove sibling)  -- 14 remove right sibling
     ∷ act (Action.write e)  -- 15
     ∷ act Action.raise  -- 16 cover
+    ∷ Command.ifBack e  -- 17
     ∷ []
 
 -- the number of an action
@@ -93,6 +94,7 @@ number (act a) = actionNumber a
 number (Command.if e) = 2
 number Command.else = 3
 number (Command.while e) = 4
+number (Command.ifBack e) = 17
 number Command.end = 5
 
 -- a row of the table: whether a command reads its target as a variable's index, its target as a mark, its expression
@@ -105,7 +107,7 @@ pub record Row : Type 0 where
 abbrev pub row : Bool → Bool → Bool → Row
 row t m e = record { target = t; mark = m; expression = e }
 
--- "One fixed table of seventeen rows says which fields each command reads; the others are ignored."
+-- "One fixed table of seventeen rows", here with an eighteenth, "says which fields each command reads; the others are ignored."
 unfoldable pub rows : List Row
 rows =
     row false false false  -- 0
@@ -125,6 +127,7 @@ rows =
     ∷ row false false false  -- 14 remove right sibling
     ∷ row false false true  -- 15
     ∷ row false false false  -- 16 cover
+    ∷ row false false true  -- 17 if that comes back
     ∷ []
 
 -- the row of a command's number

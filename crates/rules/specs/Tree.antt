@@ -1,8 +1,8 @@
 -- The labelled tree, its places, what a command does at a place, and the tree rules. Assumes nothing.
 use mathlib.Core.Path.{_≡_}
 use Prim.Native.Nat.{ℕ, suc, _+_}
-use mathlib.Core.Bool.{Bool, true, false, _&&_}
-use mathlib.Core.Option.{Option, none, some}
+use mathlib.Core.Bool.{Bool, true, false, _&&_, cond}
+use mathlib.Core.Option.{Option, none, some, Option·map, Option·elim, bind}
 use lib.IntN.{ℤ, pos}
 use Rattle.rules.specs.Level.{Level, public, notAbove, isLevel}
 
@@ -87,6 +87,37 @@ insert l t = tree l nil t
 unfoldable pub remove : Forest → Forest
 remove nil = nil
 remove (tree l c r) = r
+
+-- the two sides are one
+unfoldable pub sameSide : Side → Side → Bool
+sameSide child child = true
+sameSide child sibling = false
+sameSide sibling child = false
+sameSide sibling sibling = true
+
+-- the place that a way w from p leads to; a way is a place as seen from p
+unfoldable pub beyond : Place → Place → Place
+beyond p root = p
+beyond p (to d w) = to d (beyond p w)
+
+-- a way without its first move, where that goes to the side d
+unfoldable pub without : Side → Place → Option Place
+without d root = none
+without d (to e root) = cond (sameSide e d) (some root) none
+without d (to e (to f w)) = Option·map (to e) (without d (to f w))
+
+-- the way from p to q, where the way from the root to q leads over p
+unfoldable pub past : Place → Place → Option Place
+past root q = some q
+past (to d p) q = bind (past p q) (without d)
+
+-- where the node at q stands after a node was inserted at p: what stood at p stands right of the new node
+unfoldable pub afterInsert : Place → Place → Place
+afterInsert p q = Option·elim (past p q) q (beyond (to sibling p))
+
+-- where the node at q stands after the one at p was removed "with its subtree": what stood right of p stands at p, and what stood at p or below is nowhere
+unfoldable pub afterRemove : Place → Place → Option Place
+afterRemove p q = Option·elim (past p q) (some q) (λ w. Option·map (beyond p) (without sibling w))
 
 -- a label with another value
 unfoldable pub withValue : ℤ → Label → Label

@@ -1,4 +1,5 @@
--- The paper's twelve trials, as job bytes with what is to come of them. `trials-hold`, in proofs/, says that the rules give it. Assumes nothing.
+-- The paper's twelve trials and those of the if that comes back, as job bytes with what is to come of them. `trials-hold` and `back-trials-hold`, in
+-- proofs/, say that the rules give it. Assumes nothing.
 use Prim.Native.Nat.{ℕ, _+_, _*_, _%_, _/_}
 use mathlib.Core.List.{List, [], _∷_, _++_, map, flatMap}
 use lib.ListN.{length}
@@ -8,7 +9,7 @@ use Rattle.rules.specs.Level.{Level, public, secret}
 use Rattle.rules.specs.Number.{bits}
 use Rattle.rules.specs.Tree.{Label, Forest, nil, tree}
 use Rattle.rules.specs.Run.{Buffers}
-use Rattle.rules.specs.Outcome.{Outcome, rejected, ran, Answer, answer, boardLines, runJob}
+use Rattle.rules.specs.Outcome.{Outcome, rejected, ran, answer, boardLines, runJob}
 
 -- the two bytes of a 16-bit number
 unfoldable pub two : ℕ → List ℕ
@@ -173,4 +174,37 @@ trials =
     ∷ trial (try (pos 0) (both 6 0 5 (number (negsuc 2)) (number (pos 0)) ∷ [])) (finishes 1 (negsuc 1 ∷ []) (values (pos 0) (pos 0)) same)  -- 12, mean of -3 and 0
     ∷ trial (try (pos 0) (both 6 0 1 (number (pos 2147483647)) (number (pos 1)) ∷ []))
     (stops 27 0 0 [] (values (pos 0) (pos 0)) same)  -- 12, 2147483647 plus 1
+    ∷ []
+
+-- an if that comes back, with a guard, over some records
+unfoldable pub returning : Field → List (List ℕ) → List (List ℕ)
+returning g cs = one 17 0 g ∷ (cs ++ (bare 5 ∷ []))
+
+-- from the first child: up, then some records, in an if that comes back
+unfoldable pub fromChild : List (List ℕ) → List (List ℕ)
+fromChild cs = bare 9 ∷ returning (number (pos 1)) (bare 8 ∷ cs)
+
+-- the if that comes back
+unfoldable pub backTrials : List Trial
+backTrials =
+    -- under a house guard, to the neighbour and back; with the guard zero, from behind the else
+    trial (try (pos 1) (returning (v 1) (bare 9 ∷ []) ++ (one 6 0 value ∷ []))) (finishes 4 (pos 10 ∷ []) (values (pos 0) (pos 1)) same)
+    ∷ trial (try (pos 0) (returning (v 1) (bare 9 ∷ bare 3 ∷ bare 16 ∷ []) ++ (one 6 0 value ∷ []))) (finishes 4 (pos 10 ∷ []) (values (pos 0) (pos 0)) same)
+    -- to a node that moved among its siblings meanwhile
+    ∷ trial (try (pos 0) (fromChild (one 11 0 (number (pos 5)) ∷ []) ++ (one 6 0 value ∷ [])))
+    (finishes 6 (pos 3 ∷ []) (values (pos 0) (pos 0)) (over (leaf (pos 5) (leaf (pos 3) nil))))
+    -- to a node that was removed meanwhile, also where another stands in its place, or that an ancestor of it took along
+    ∷ trial (try (pos 0) (fromChild (bare 13 ∷ []))) (stops 22 4 4 [] (values (pos 0) (pos 0)) (over nil))
+    ∷ trial (try (pos 0) (fromChild (bare 13 ∷ one 11 0 (number (pos 5)) ∷ []))) (stops 22 5 5 [] (values (pos 0) (pos 0)) (over (leaf (pos 5) nil)))
+    ∷ trial (try (pos 0) (bare 9 ∷ one 11 0 (number (pos 4)) ∷ bare 9 ∷ returning (number (pos 1)) (bare 7 ∷ bare 13 ∷ [])))
+    (stops 22 6 6 [] (values (pos 0) (pos 0)) (over nil))
+    -- one in another; one in a while; a guard that has no value
+    ∷ trial (try (pos 1) (returning (number (pos 1)) (bare 9 ∷ (returning (v 1) (bare 8 ∷ []) ++ (one 6 0 value ∷ []))) ++ (one 6 0 value ∷ [])))
+    (finishes 8 (pos 3 ∷ pos 10 ∷ []) (values (pos 0) (pos 1)) same)
+    ∷ trial
+    (try (pos 1)
+    (both 4 0 4 (v 0) (number (pos 2))
+    ∷ (returning (v 1) (bare 9 ∷ []) ++ (both 1 0 1 (v 0) (number (pos 1)) ∷ bare 5 ∷ one 6 0 value ∷ []))))
+    (finishes 14 (pos 10 ∷ []) (values (pos 2) (pos 1)) same)
+    ∷ trial (try (pos 0) (both 17 0 1 (number (pos 2147483647)) (number (pos 1)) ∷ bare 5 ∷ [])) (stops 27 0 0 [] (values (pos 0) (pos 0)) same)
     ∷ []
