@@ -1,17 +1,20 @@
 -- What a caller learns from the answer of the checks: an accepted job meets all eight rules and has the layout of its trailer. Assumes nothing.
-use mathlib.Core.Path.{_≡_, refl, sym, _∙_, subst}
+use mathlib.Core.Path.{_≡_, refl, sym, _∙_, ap₂, subst}
 use mathlib.Core.Bool.{true}
-use mathlib.Core.List.{List}
+use mathlib.Core.List.{List, [], _∷_, headD}
 use Prim.Native.Nat.{ℕ, suc, _<_}
+use native.Mathlib.Nat.{le-of-lt}
 use native.Mathlib.Omega.{arith}
 use lib.ListN.{length}
 use Rattle.rules.specs.Limits.{badBlock}
 use Rattle.rules.specs.Bytes.{scriptAt, variableCount, nodeCount, recordCount, recordPlace}
 use Rattle.rules.specs.Check as Check
 use Rattle.rules.specs.Check.{code, lengthRule, offsetRule, countRule, recordRule}
-use Rattle.rules.specs.Blocks.{blockRule}
+use Rattle.rules.specs.Blocks.{nest, blockRule}
 use Rattle.rules.specs.Script.{numberAt}
 use Rattle.rules.specs.Job.{scriptOf, script}
+use Rattle.rules.proofs.Nests.{nest-tail}
+use Rattle.rules.proofs.SameNumbers.{nest-agree}
 use Rattle.rules.proofs.Checks.{long-enough, sections, counts}
 use Rattle.rules.proofs.Accepted.{Right, section-numbered, section-jumps}
 use Rattle.job.specs.declared.sections.Layout.{Layout}
@@ -19,7 +22,7 @@ use Rattle.job.specs.declared.checks.Checked.{Checked}
 use Rattle.job.specs.declared.checks.Checked.the-variants.{Accepted, Refused}
 use Rattle.job.specs.Layout.{layoutOf, Inside}
 use Rattle.job.specs.declared.checks.Script.the-variants.{Sound, Faulty}
-use Rattle.job.specs.Plan.{Partly, Whole, Plans}
+use Rattle.job.specs.Plan.{entry, planCode, Partly, Whole, Plans}
 use Rattle.job.specs.Answer.{answer, told, JobTold, fromVariables}
 
 pub is-accepted : (l m : Layout) (c : Check.Checked) → answer l c ≡ Accepted m → (c ≡ Check.accepted) × (m ≡ l)
@@ -45,12 +48,23 @@ inside b d e f =
     let n = counts (variableCount b) (nodeCount b) (recordCount b) f in
     record { variables = omega arith; nodes = omega arith; records = omega arith; few = n .nodes; short = n .records }
 
+-- what stands for a record follows from the commands of all
+codes-agree : (f g : ℕ → ℕ) (n : ℕ) → ((j : ℕ) → j < n → f j ≡ g j) → (k : ℕ) → k < n → planCode f k ≡ planCode g k
+unfolding planCode headD
+codes-agree f g n same k h = rw (same k h, nest-agree f g n same k (le-of-lt h), same (headD (nest g k) 0) (inner (nest g k) refl))
+  where
+    inner : (os : List ℕ) → nest g k ≡ os → headD os 0 < n
+    inner [] e = omega arith
+    inner (o ∷ os) e = let l = nest-tail g k o os e .earlier in omega arith
+
 -- a plan by the bytes of n records from base on is one by their script
 pub section-plan : (b : List ℕ) (vars base n : ℕ) → ((i : ℕ) → i < n → recordRule b vars (recordPlace base i) ≡ true)
     → ((i : ℕ) → i < suc n → blockRule (code b base) n i ≡ true) → (p p′ : List ℕ) → Whole (code b base) n p p′ → Whole (numberAt (scriptOf b base n)) n p p′
 section-plan b vars base n records blocks p p′ w =
     record {
-      each = λ k l. w .each k l ∙ rw (section-numbered b vars base n records blocks k l, section-jumps b vars base n records blocks k l);
+      each = λ k l.
+          w .each k l
+          ∙ ap₂ entry (codes-agree _ _ n (section-numbered b vars base n records blocks) k l) (section-jumps b vars base n records blocks k l);
       last = w .last;
       spare = w .spare;
     }

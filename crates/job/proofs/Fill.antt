@@ -2,7 +2,7 @@
 -- that part's, since the record that closes a part is the one at which it is innermost. Assumes nothing.
 use mathlib.Core.Path.{_≡_, refl, sym, ap, _∙_, subst}
 use mathlib.Core.Bool.{Bool, true, false, cond}
-use mathlib.Core.List.{List, [], _∷_, tail}
+use mathlib.Core.List.{List, [], _∷_, tail, headD}
 use Prim.Native.Nat.{ℕ, suc, _+_, _≤_, _<_}
 use native.Mathlib.Omega.{arith}
 use native.Mathlib.Numerals.{add-one}
@@ -10,12 +10,12 @@ use lib.Dec.{eqb}
 use lib.ListN.{length, getD, set, length-set}
 use lib.Seq.{getD-set-same, getD-set-other}
 use borrow.Author.Tests.{eq-eqb, ne-eqb, eqb-true, eqb-false}
-use Rattle.rules.specs.Blocks.{parts, pastEnd, goesTo}
+use Rattle.rules.specs.Blocks.{branches, parts, nest, pastEnd, goesTo}
 use Rattle.rules.proofs.Tests.{Test, holds, fails, test}
 use Rattle.rules.proofs.Parts.{Kind, opener, divider, ender, other, kind, after-open, after-else, after-end, after-plain}
-use Rattle.rules.proofs.Parts.{Falls, empty, next, else-closes, end-closes, before, begun, parts-below}
+use Rattle.rules.proofs.Parts.{Falls, empty, next, else-closes, end-closes, before, begun, begins-not, parts-below}
 use Rattle.rules.proofs.Jumps.{isIn, closed-here, goes-plain, goes-past-else, goes-past-end, goes-to-end, goes-back}
-use Rattle.job.specs.Plan.{entry, endMark, planned, Partly, Whole}
+use Rattle.job.specs.Plan.{entry, endMark, endCode, planCode, planned, Partly, Whole}
 use Rattle.job.specs.Parts.{endStored}
 
 -- a falling list holds nothing from its bound on
@@ -28,13 +28,22 @@ absent k h (next {o = o} l p b) = rw (ne-eqb k o (λ q. omega arith)) (absent k 
 behind : {P : ℕ → List ℕ → Type 0} {i o : ℕ} {os : List ℕ} → Falls P i (o ∷ os) → Falls P o os
 behind (next l p b) = b
 
+-- what is no end stands for itself
+own-code : (code : ℕ → ℕ) (k : ℕ) → (code k ≡ 5 → ⊥) → planCode code k ≡ code k
+unfolding planCode
+own-code code k n5 = rw (ne-eqb (code k) 5 n5)
+
+end-code : (code : ℕ → ℕ) (k b : ℕ) (bs : List ℕ) → code k ≡ 5 → nest code k ≡ b ∷ bs → planCode code k ≡ endCode (code b)
+unfolding planCode headD
+end-code code k b bs a e = rw (eq-eqb (code k) 5 a, e)
+
 module _ (code : ℕ → ℕ) (n i : ℕ) (p q : List ℕ) (h : i < n) (long : i < length q) (w : Partly code n i p q) where
   -- the word of a record whose part is open, or which goes to the next
-  opened : (k j : ℕ) → isIn k (parts code j) ≡ true → entry (code k) (suc k) ≡ planned code n j k
+  open-word : (k j : ℕ) → (code k ≡ 5 → ⊥) → isIn k (parts code j) ≡ true → entry (code k) (suc k) ≡ planned code n j k
   unfolding planned
-  opened k j e = rw e
+  open-word k j n5 e = rw (own-code code k n5, e)
 
-  settled : (k j : ℕ) → isIn k (parts code j) ≡ false → entry (code k) (goesTo code n k) ≡ planned code n j k
+  settled : (k j : ℕ) → isIn k (parts code j) ≡ false → entry (planCode code k) (goesTo code n k) ≡ planned code n j k
   unfolding planned
   settled k j e = rw e
 
@@ -63,16 +72,16 @@ module _ (code : ℕ → ℕ) (n i : ℕ) (p q : List ℕ) (h : i < n) (long : i
           getD-set-other q i k u 0 (eqb-false k i e) ∙ w .each k (omega (arith, eqb-false k i e)) ∙ same k (suc i) s
 
       -- whether or not a part is taken to be open at a plain record, it goes to the next
-      to-next : (t : Bool) → goesTo code n i ≡ suc i → entry (code i) (cond t (suc i) (goesTo code n i)) ≡ u
-      to-next true e = rw add-one
-      to-next false e = rw (e, add-one)
+      to-next : (t : Bool) → goesTo code n i ≡ suc i → entry (planCode code i) (cond t (suc i) (goesTo code n i)) ≡ u
+      to-next true e = rw (own-code code i n5, add-one)
+      to-next false e = rw (own-code code i n5, e, add-one)
 
       go : (k : ℕ) → k < suc i → Kind (code i) → Test (eqb k i) → getD (set q i u) k 0 ≡ planned code n (suc i) k
       go k l (divider a) t = absurd (n3 a)
       go k l (ender a) t = absurd (n5 a)
       go k l (opener a) (fails z) = earlier k l z (rw (after-open (code i) i (parts code i) a, z))
       go k l (opener a) (holds z) =
-          rw (eqb-true k i z) (own (sym (opened i (suc i) (rw (after-open (code i) i (parts code i) a, eq-eqb i i refl))) ∙ rw add-one))
+          rw (eqb-true k i z) (own (sym (open-word i (suc i) n5 (rw (after-open (code i) i (parts code i) a, eq-eqb i i refl))) ∙ rw add-one))
       go k l (other a) (fails z) = earlier k l z (rw (after-plain (code i) i (parts code i) a))
       go k l (other a) (holds z) = rw (eqb-true k i z) (own (to-next (isIn i (parts code (suc i))) (goes-plain code n i a)))
 
@@ -105,14 +114,18 @@ module _ (code : ℕ → ℕ) (n i : ℕ) (p q : List ℕ) (h : i < n) (long : i
             getD-set-other (set q i u) o k v 0 (eqb-false k o z) ∙ getD-set-other q i k u 0 (eqb-false k i r)
             ∙ w .each k (omega (arith, eqb-false k i r)) ∙ same k (suc i) (rw a (others k r ∙ rw (e, z)))
 
-    pub fill-else : code i ≡ 3 → code o ≡ 2 → Partly code n (suc i) p (set (set q i (entry 3 (i + 1))) o (entry 2 (i + 1)))
+    -- a record that begins a part is no end
+    begins : code o ≡ 5 → ⊥
+    begins z = begins-not (begun code i o os e) z
+
+    pub fill-else : code i ≡ 3 → branches (code o) ≡ true → Partly code n (suc i) p (set (set q i (entry 3 (i + 1))) o (entry (code o) (i + 1)))
     unfolding parts isIn
     fill-else a b =
         let s : parts code (suc i) ≡ i ∷ os = after-else (code i) i (parts code i) a ∙ ap (λ (r : List ℕ). i ∷ tail r) e in
         let u : entry 3 (i + 1) ≡ entry (code i) (suc i) = rw (a, add-one i) in
-        let v : entry 2 (i + 1) ≡ entry (code o) (goesTo code n o) =
-        rw (b, goes-past-else code n i o b (closed-here code n i o os h e (else-closes (code i) a)) a, add-one i) in
-        closing _ _ (i ∷ os) s (λ k z. rw z) (u ∙ opened i (suc i) (rw (s, eq-eqb i i refl)))
+        let v : entry (code o) (i + 1) ≡ entry (planCode code o) (goesTo code n o) =
+        rw (own-code code o begins, goes-past-else code n i o b (closed-here code n i o os h e (else-closes (code i) a)) a, add-one i) in
+        closing _ _ (i ∷ os) s (λ k z. rw z) (u ∙ open-word i (suc i) (λ z. omega arith) (rw (s, eq-eqb i i refl)))
         (v ∙ settled o (suc i) (rw (s, ne-eqb o i (λ z. omega (arith, below))) (outside o (omega arith))))
 
     ended : code i ≡ 5 → parts code (suc i) ≡ os
@@ -125,12 +138,12 @@ module _ (code : ℕ → ℕ) (n i : ℕ) (p q : List ℕ) (h : i < n) (long : i
     part-goes a (fails z) =
         rw z (sym (goes-to-end code n i o (begun code i o os e) (eqb-false _ 4 z) (closed-here code n i o os h e (end-closes (code i) a)) a))
 
-    pub fill-end : code i ≡ 5 → Partly code n (suc i) p (endStored code i o q)
+    pub fill-end : (b : ℕ) (bs : List ℕ) → nest code i ≡ b ∷ bs → code i ≡ 5 → Partly code n (suc i) p (endStored code i o b q)
     unfolding endStored
-    fill-end a =
+    fill-end b bs z a =
         closing _ _ os (ended a) (λ k z. refl)
-        (rw (← goes-back code n i o os a e, ← a) (settled i (suc i) (rw (ended a) (outside i (omega (arith, below))))))
-        (rw (part-goes a (test (eqb (code o) 4))) (settled o (suc i) (rw (ended a) (outside o (omega arith)))))
+        (rw (← goes-back code n i o os a e, ← end-code code i b bs a z) (settled i (suc i) (rw (ended a) (outside i (omega (arith, below))))))
+        (rw (part-goes a (test (eqb (code o) 4)), ← own-code code o begins) (settled o (suc i) (rw (ended a) (outside o (omega arith)))))
 
 -- behind the last record no part is open, and the end mark makes the plan whole
 pub completed : (code : ℕ → ℕ) (n i : ℕ) (p q : List ℕ) → i ≡ n → n < length q → parts code i ≡ [] → Partly code n i p q → Whole code n p (set q n endMark)

@@ -9,14 +9,15 @@ use lib.Dec.{ltb}
 use borrow.Author.Tests.{le-ltb, ltb-true, ltb-false}
 use Rattle.rules.specs.Limits.{badSpare}
 use Rattle.rules.specs.Bytes.{byte, recordPlace}
-use Rattle.rules.specs.Check.{Checked, refused, Edition, firstFault, requireIf, first, clean, today, nodeRule, recordRule, recordRuleIn, recordClean}
-use Rattle.rules.proofs.Tests.{Test, holds, fails, test, both}
+use Rattle.rules.specs.Check.{Checked, refused, Edition, firstFault, requireIf, first, returning, today, nodeRule, recordRule, recordRuleIn, recordClean}
+use Rattle.rules.proofs.Tests.{Test, holds, fails, test, both, clash}
 use Rattle.rules.proofs.Search.{fault-agree, all-pass, none-faulty}
 use Rattle.rules.proofs.Checks.{stopped, through}
 use Rattle.job.specs.declared.checks.Edition as Named
 use Rattle.job.specs.declared.checks.Edition.the-variants.{First, Today}
 use Rattle.job.specs.declared.checks.Scan.{Scan}
 use Rattle.job.specs.declared.checks.Scan.the-variants.{Faulty, Passed}
+use Rattle.job.specs.Fields.{knownRule}
 use Rattle.job.specs.Fits.{nodeFits, recordFits}
 use Rattle.job.specs.Answer.{editionOf, recordRules, asked, scanOf, scanned}
 
@@ -86,21 +87,23 @@ pub nodes-right : (b : List ℕ) (base n : ℕ) → firstFault (nodeFits false b
 unfolding nodeFits
 nodes-right b base n = fault-agree (nodeFits false b base) (nodeRule b base) n 0 (λ i l m. and-true (nodeRule b base i))
 
--- both editions have the commands of the table
+-- the edition that has check 12 has the commands of the table
 twice : (a c : Bool) → (a && (a && c)) ≡ (a && c)
 twice true c = refl
 twice false c = refl
 
-known : (rules : Named.Edition) (b : List ℕ) (vars at : ℕ) → recordRuleIn (editionOf rules) b vars at ≡ recordRule b vars at
-unfolding editionOf first clean today recordRuleIn recordRule
-known First b vars at = twice (ltb (byte b at) 17) _
-known Today b vars at = twice (ltb (byte b at) 17) _
+all-known : (rules : Named.Edition) (b : List ℕ) (vars at : ℕ) → editionOf rules .spare ≡ true → recordRuleIn (editionOf rules) b vars at ≡ recordRule b vars at
+unfolding editionOf first returning today recordRuleIn recordRule
+all-known First b vars at s = clash s refl
+all-known Today b vars at s = twice (ltb (byte b at) 18) _
 
 module _ (rules : Named.Edition) (b : List ℕ) (vars base n : ℕ) where
-  pub records-right : firstFault (λ i. recordRule b vars (recordPlace base i)) n 0 ≡ firstFault (recordRules (editionOf rules) b vars base) n 0
-  records-right = fault-agree _ _ n 0 (λ i l m. sym (known rules b vars (recordPlace base i)))
+  pub records-right : {k : ℕ} → k ≡ editionOf rules .commands
+      → firstFault (λ i. knownRule k b vars (recordPlace base i)) n 0 ≡ firstFault (recordRules (editionOf rules) b vars base) n 0
+  unfolding knownRule recordRuleIn
+  records-right e = rw e
 
-  pub records-fit : firstFault (λ i. recordFits b vars (recordPlace base i)) n 0
+  pub records-fit : editionOf rules .spare ≡ true → firstFault (λ i. recordFits b vars (recordPlace base i)) n 0
       ≡ firstFault (fit (editionOf rules) (recordRules (editionOf rules) b vars base) (recordClean b base) n) n 0
   unfolding recordFits recordClean
-  records-fit = fault-agree _ _ n 0 (λ i l m. rw (known rules b vars (recordPlace base i)))
+  records-fit s = fault-agree _ _ n 0 (λ i l m. rw (all-known rules b vars (recordPlace base i) s))

@@ -8,21 +8,29 @@ use Prim.Native.Nat.{ℕ, zero, suc, _+_, _-_, _≤_, _<_}
 use native.Mathlib.Omega.{arith}
 use lib.ListN.{length, getD, set, length-set}
 use lib.Seq.{getD-set-same, getD-set-other}
-use borrow.Author.Tests.{ltb-true, eqb-true}
+use borrow.Author.Tests.{ltb-true, ne-eqb}
 use Rattle.rules.specs.Limits.{maxDepth}
-use Rattle.rules.specs.Blocks.{opens, parts, headIsIf, placed}
+use Rattle.rules.specs.Blocks.{branches, opens, parts, headIsIf, placed}
 use Rattle.rules.proofs.Tests.{clash}
-use Rattle.rules.proofs.Parts.{Plain, if-opens, while-opens, placed-open, placed-else, placed-end}
+use Rattle.rules.proofs.Parts.{Plain, is-if, is-back, if-opens, while-opens, placed-open, placed-else, placed-end}
 use Rattle.job.specs.Parts.{stack, Spells}
 
 -- the four kinds of a command that was read as r
 module _ {r k : ℕ} (e : r ≡ k) where
-  pub opening : (r ≡ 2) ⊎ (r ≡ 4) → opens k ≡ true
-  opening (inl q) = if-opens k (sym e ∙ q)
-  opening (inr q) = while-opens k (sym e ∙ q)
+  pub opening : (r ≡ 2) ⊎ (r ≡ 4) ⊎ (r ≡ 17) → opens k ≡ true
+  opening (inl q) = if-opens k (is-if k (sym e ∙ q))
+  opening (inr (inl q)) = while-opens k (sym e ∙ q)
+  opening (inr (inr q)) = if-opens k (is-back k (sym e ∙ q))
 
-  pub plain : ((r ≡ 2) ⊎ (r ≡ 4) → ⊥) → (r ≡ 3 → ⊥) → (r ≡ 5 → ⊥) → Plain k
-  plain n24 n3 n5 = record { not2 = λ q. n24 (inl (e ∙ q)); not3 = λ q. n3 (e ∙ q); not4 = λ q. n24 (inr (e ∙ q)); not5 = λ q. n5 (e ∙ q) }
+  pub plain : ((r ≡ 2) ⊎ (r ≡ 4) ⊎ (r ≡ 17) → ⊥) → (r ≡ 3 → ⊥) → (r ≡ 5 → ⊥) → Plain k
+  unfolding branches
+  plain none n3 n5 =
+      record {
+        notIf = rw (ne-eqb k 2 (λ q. none (inl (e ∙ q))), ne-eqb k 17 (λ q. none (inr (inr (e ∙ q)))));
+        not3 = λ q. n3 (e ∙ q);
+        not4 = λ q. none (inr (inl (e ∙ q)));
+        not5 = λ q. n5 (e ∙ q);
+      }
 
 stack-length : (xs : List ℕ) (d : ℕ) → length (stack xs d) ≡ d
 unfolding stack
@@ -60,9 +68,9 @@ module _ (xs : List ℕ) (d : ℕ) (ps : List ℕ) (s : Spells xs d ps) where
     unfolding headIsIf
     some-else e z = clash (sym (placed-else code k ps e) ∙ f) (ap (headIsIf code) (bottom z))
 
-    pub by-if : k ≡ 3 → code (getD xs (d - 1) 0) ≡ 2
+    pub by-if : k ≡ 3 → branches (code (getD xs (d - 1) 0)) ≡ true
     unfolding headIsIf
-    by-if e = eqb-true _ 2 (sym (ap (headIsIf code) (top (some-else e))) ∙ sym (placed-else code k ps e) ∙ f)
+    by-if e = sym (ap (headIsIf code) (top (some-else e))) ∙ sym (placed-else code k ps e) ∙ f
 
     pub some-end : k ≡ 5 → d ≡ 0 → ⊥
     some-end e z = let h : 0 < length ps = ltb-true _ _ (sym (placed-end code k ps e) ∙ f) in omega (arith, depth)

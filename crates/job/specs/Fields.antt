@@ -1,10 +1,12 @@
 -- Numbers of three and eight bytes; what a node's levels, the table's rows and a script record's fields stand for. Assumes nothing.
 use Prim.Native.Nat.{ℕ, _+_, _*_}
 use mathlib.Core.List.{List}
+use mathlib.Core.Bool.{Bool, _&&_}
+use lib.Dec.{ltb}
 use lib.ListN.{getD}
 use Rattle.rules.specs.Bytes.{byte, full}
 use Rattle.rules.specs.Script as Script
-use Rattle.rules.specs.Check.{existence, content, structure}
+use Rattle.rules.specs.Check.{existence, content, structure, recordRule}
 use Rattle.rules.specs.Job.{operand, expression}
 use Rattle.job.specs.declared.nodes.Levels.{Levels}
 use Rattle.job.specs.declared.rows.Row.{Row}
@@ -21,6 +23,10 @@ double b at = full b at + full b (at + 4) * 4294967296
 -- the levels of node i, in the section that starts at base
 unfoldable pub levelsOf : List ℕ → ℕ → ℕ → Levels
 levelsOf b base i = record { existence = existence b base i; content = content b base i; structure = structure b base i }
+
+-- check 7 of the record at a place, where there are so many commands
+unfoldable pub knownRule : ℕ → List ℕ → ℕ → ℕ → Bool
+knownRule commands b vars at = ltb (byte b at) commands && recordRule b vars at
 
 -- a row of the rules as the program holds it
 unfoldable pub rowHeld : Script.Row → Row

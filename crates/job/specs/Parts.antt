@@ -7,9 +7,9 @@ use lib.Dec.{eqb}
 use lib.ListN.{length, getD, set}
 use Rattle.rules.specs.Limits.{maxDepth, maxRecords, recordSize}
 use Rattle.rules.specs.Bytes.{recordPlace}
-use Rattle.rules.specs.Blocks.{parts, placed, blockRule, pastEnd}
+use Rattle.rules.specs.Blocks.{parts, nest, placed, blockRule, pastEnd}
 use Rattle.rules.specs.Check.{code, firstFault}
-use Rattle.job.specs.Plan.{entry, Partly, Whole}
+use Rattle.job.specs.Plan.{entry, endCode, Partly, Whole}
 
 -- the entries of a list below a depth, the last first
 unfoldable pub stack : List ℕ → ℕ → List ℕ
@@ -31,19 +31,22 @@ pub record Stands (b : List ℕ) (base : ℕ) (xs : List ℕ) (d i : ℕ) : Type
   pub inside : recordPlace base i + recordSize ≤ length b
   pub spells : Spells xs d (parts (code b base) i)
 
--- and the record passes check 8
-pub record Fits (b : List ℕ) (base : ℕ) (xs : List ℕ) (d i : ℕ) : Type 0 where
+-- and the record passes check 8, and another array spells the blocks that are open at it
+pub record Fits (b : List ℕ) (base : ℕ) (xs ys : List ℕ) (d i : ℕ) : Type 0 where
   pub stands : Stands b base xs d i
+  pub blocks : Spells ys d (nest (code b base) i)
   pub passes : placedAt b base i ≡ true
   pub few : i < maxRecords
 
--- the words that the end i of the part begun at o stores: its own goes "back" to a while, and that of a while "past end"
-unfoldable pub endStored : (ℕ → ℕ) → ℕ → ℕ → List ℕ → List ℕ
-endStored code i o p = set (set p i (entry 5 (pastEnd code i o))) o (entry (code o) (cond (eqb (code o) 4) (suc i) i))
+-- the words that the end i of the part begun at o, in the block that record b opened, stores: its own goes "back" to a while, and that of a while "past end"
+unfoldable pub endStored : (ℕ → ℕ) → ℕ → ℕ → ℕ → List ℕ → List ℕ
+endStored code i o b p = set (set p i (entry (endCode (code b)) (pastEnd code i o))) o (entry (code o) (cond (eqb (code o) 4) (suc i) i))
 
--- what record i makes of the words q: where they were those of i records they are those of one more; and an array with a depth spells the parts that are open
-pub record Advanced (code : ℕ → ℕ) (i : ℕ) (q q′ xs : List ℕ) (d : ℕ) : Type 0 where
+-- what record i makes of the words q: where they were those of i records they are those of one more; and two arrays with a depth spell the parts and the blocks
+-- that are open
+pub record Advanced (code : ℕ → ℕ) (i : ℕ) (q q′ xs ys : List ℕ) (d : ℕ) : Type 0 where
   pub spells : Spells xs d (parts code (suc i))
+  pub blocks : Spells ys d (nest code (suc i))
   pub plans : (n : ℕ) (p : List ℕ) → i < n → Partly code n i p q → Partly code n (suc i) p q′
 
 -- what check 8 finds in a script of n records, and what it makes of the words p

@@ -1,11 +1,12 @@
 -- The plan of a script: a word for each record, and the end mark behind the last. Assumes nothing.
 use mathlib.Core.Path.{_≡_}
 use mathlib.Core.Bool.{cond}
-use mathlib.Core.List.{List}
+use mathlib.Core.List.{List, headD}
 use Prim.Native.Nat.{ℕ, suc, _+_, _*_, _/_, _%_, _≤_, _<_}
+use lib.Dec.{eqb}
 use lib.ListN.{getD}
 use Rattle.rules.specs.Limits.{badBlock}
-use Rattle.rules.specs.Blocks.{isIn, parts, goesTo}
+use Rattle.rules.specs.Blocks.{isIn, parts, nest, goesTo}
 use Rattle.rules.specs.Check as Check
 
 -- the word of a record: its command, and where it goes if not to the next
@@ -24,9 +25,21 @@ nextOf w = w / 65536
 abbrev pub endMark : ℕ
 endMark = 255
 
+-- nor is what stands for the end of an if that comes back
+abbrev pub endBack : ℕ
+endBack = 254
+
+-- what stands for an end, by the command that opened its block
+unfoldable pub endCode : ℕ → ℕ
+endCode opener = cond (eqb opener 17) endBack 5
+
+-- what stands for record k: its command, but for the end of an if that comes back
+unfoldable pub planCode : (ℕ → ℕ) → ℕ → ℕ
+planCode code k = cond (eqb (code k) 5) (endCode (code (headD (nest code k) 0))) (code k)
+
 -- the word of record k of n once check 8 has come to record i: of a part that is open there the end is not known, and it goes to the next
 unfoldable pub planned : (ℕ → ℕ) → ℕ → ℕ → ℕ → ℕ
-planned code n i k = entry (code k) (cond (isIn k (parts code i)) (suc k) (goesTo code n k))
+planned code n i k = entry (planCode code k) (cond (isIn k (parts code i)) (suc k) (goesTo code n k))
 
 -- what i passed records of n make of the words p
 pub record Partly (code : ℕ → ℕ) (n i : ℕ) (p p′ : List ℕ) : Type 0 where
@@ -35,7 +48,7 @@ pub record Partly (code : ℕ → ℕ) (n i : ℕ) (p p′ : List ℕ) : Type 0 
 
 -- what a right script of n records makes of the words p: its plan
 pub record Whole (code : ℕ → ℕ) (n : ℕ) (p p′ : List ℕ) : Type 0 where
-  pub each : (k : ℕ) → k < n → getD p′ k 0 ≡ entry (code k) (goesTo code n k)
+  pub each : (k : ℕ) → k < n → getD p′ k 0 ≡ entry (planCode code k) (goesTo code n k)
   pub last : getD p′ n 0 ≡ endMark
   pub spare : (k : ℕ) → n < k → getD p′ k 0 ≡ getD p k 0
 

@@ -1,6 +1,8 @@
 // The nesting of blocks: check 8, and in the same pass the plan of the script. A block has one part, or two with an else between them: an if, an
-// else and a while begin a part, an else and an end close one. Over the open parts "second else" and "innermost open block is no if" are one test.
+// else and a while begin a part, an else and an end close one. An if that comes back counts as an if. Over the open parts "second else" and "innermost open block is no if" are one test.
+use crate::plan::END_BACK;
 use crate::plan::END_MARK;
+use crate::records::BACK;
 use crate::records::ELSE;
 use crate::records::END;
 use crate::records::IF;
@@ -12,8 +14,9 @@ ghost use Prim.Native.Nat.{_+_, _-_, _≤_, _<_};
 ghost use lib.ListN.{length, getD, set};
 ghost use Rattle.rules.specs.Limits.{maxRecords, recordSize};
 ghost use Rattle.rules.specs.Bytes.{recordPlace};
+ghost use Rattle.rules.specs.Blocks as Blocks;
 ghost use Rattle.rules.specs.Check.{code};
-ghost use Rattle.job.specs.Plan.{entry};
+ghost use Rattle.job.specs.Plan.{entry, endCode};
 ghost use Rattle.job.specs.Parts.{placedAt, Stands, Fits, endStored, Advanced, Scanned};
 
 fn wide(x: u16) -> usize
@@ -30,18 +33,25 @@ pub fn innermost(begun: &[u16], depth: usize) -> usize
     wide(begun[depth - 1])
 }
 
+// An if, or an if that comes back.
+fn branches(command: u8) -> bool
+    ensures { λ r. ⌜ r ≡ Blocks.branches command ⌝ }
+{
+    (command == IF) | (command == BACK)
+}
+
 // Check 8, of record i among the parts that are open at it.
 pub fn block_ok(job: &[u8], base: usize, begun: &[u16], depth: usize, i: usize) -> bool
     requires { ⌜ Stands (now job) base (now begun) depth i ⌝ }
     ensures { λ r. ⌜ r ≡ placedAt (now (job .entry)) base i ⌝ }
 {
     match code_at(job, base, i) {
-        IF | WHILE => depth < MAX_DEPTH,
+        IF | WHILE | BACK => depth < MAX_DEPTH,
         ELSE => {
             if depth == 0 {
                 return false;
             }
-            code_at(job, base, innermost(begun, depth)) == IF
+            branches(code_at(job, base, innermost(begun, depth)))
         }
         END => 0 < depth,
         _ => true,
@@ -65,47 +75,66 @@ fn close(plan: &mut [u32], i: usize, own: u32, o: usize, its: u32)
     plan[o] = its;
 }
 
-// The words of the end i and of record o, whose part it closes: back to a while, or on.
-fn end_part(job: &[u8], base: usize, o: usize, i: usize, plan: &mut [u32])
-    requires { ⌜ (recordPlace base o + recordSize ≤ length (now job)) × (o < i) × (i < maxRecords) × (i < length (now plan)) ⌝ }
-    ensures { λ _. ⌜ now (plan .exit) ≡ endStored (code (now (job .entry)) base) i o (now (plan .entry)) ⌝ }
+// The command of an end in the plan, by the command that opened its block: that of an if that comes back has one of its own.
+fn end_of(opener: u8) -> u8
+    ensures { λ r. ⌜ r ≡ endCode opener ⌝ }
 {
-    let opener = code_at(job, base, o);
-    if opener == WHILE {
-        close(plan, i, word(END, o), o, word(WHILE, i + 1));
+    if opener == BACK { END_BACK } else { END }
+}
+
+// The words of the end i of the block that record b opened, and of record o, whose part it closes: back to a while, or on.
+fn end_part(job: &[u8], base: usize, o: usize, b: usize, i: usize, plan: &mut [u32])
+    requires { ⌜ (recordPlace base o + recordSize ≤ length (now job)) × (recordPlace base b + recordSize ≤ length (now job)) × (o < i) × (i < maxRecords)
+        × (i < length (now plan)) ⌝ }
+    ensures { λ _. ⌜ now (plan .exit) ≡ endStored (code (now (job .entry)) base) i o b (now (plan .entry)) ⌝ }
+{
+    let end = end_of(code_at(job, base, b));
+    let beginner = code_at(job, base, o);
+    if beginner == WHILE {
+        close(plan, i, word(end, o), o, word(WHILE, i + 1));
     } else {
-        close(plan, i, word(END, i + 1), o, word(opener, i));
+        close(plan, i, word(end, i + 1), o, word(beginner, i));
     }
 }
 
-// Record i, which passes check 8: its word in the plan and that of the part which it closes, and the parts that are open after it, as their number
-// and in `begun` the records that began them.
+// Record i, which passes check 8: its word in the plan and that of the part which it closes, and the parts and blocks that are open after it, as their number,
+// in `begun` the records that began the parts, and in `opened` those that opened the blocks.
 pub fn advance(
     job: &[u8],
     base: usize,
     begun: &mut [u16],
+    opened: &mut [u16],
     depth: usize,
     i: usize,
     plan: &mut [u32],
 ) -> usize
-    requires { ⌜ Fits (now job) base (now begun) depth i × (i < length (now plan)) ⌝ }
-    ensures { λ r. ⌜ Advanced (code (now (job .entry)) base) i (now (plan .entry)) (now (plan .exit)) (now (begun .exit)) r ⌝ }
+    requires { ⌜ Fits (now job) base (now begun) (now opened) depth i × (i < length (now plan)) ⌝ }
+    ensures { λ r. ⌜ Advanced (code (now (job .entry)) base) i (now (plan .entry)) (now (plan .exit)) (now (begun .exit)) (now (opened .exit)) r ⌝ }
 {
     let command = code_at(job, base, i);
     match command {
-        IF | WHILE => {
+        IF | WHILE | BACK => {
             plan[i] = word(command, i + 1);
             begun[depth] = i as u16;
+            opened[depth] = i as u16;
             depth + 1
         }
         ELSE => {
             let o = innermost(begun, depth);
-            close(plan, i, word(ELSE, i + 1), o, word(IF, i + 1));
+            close(
+                plan,
+                i,
+                word(ELSE, i + 1),
+                o,
+                word(code_at(job, base, o), i + 1),
+            );
             begun[depth - 1] = i as u16;
             depth
         }
         END => {
-            end_part(job, base, innermost(begun, depth), i, plan);
+            let o = innermost(begun, depth);
+            let b = innermost(opened, depth);
+            end_part(job, base, o, b, i, plan);
             depth - 1
         }
         _ => {
@@ -121,13 +150,14 @@ pub fn first_fault(job: &[u8], base: usize, count: usize, plan: &mut [u32]) -> u
     ensures { λ r. ⌜ Scanned (code (now (job .entry)) base) count (now (plan .entry)) (now (plan .exit)) r ⌝ }
 {
     let mut begun = [0u16; MAX_DEPTH];
+    let mut opened = [0u16; MAX_DEPTH];
     let mut depth = 0;
     let mut i = 0;
     while i < count {
         if !block_ok(job, base, &begun, depth, i) {
             return i;
         }
-        depth = advance(job, base, &mut begun, depth, i, plan);
+        depth = advance(job, base, &mut begun, &mut opened, depth, i, plan);
         i += 1;
     }
     if depth == 0 {

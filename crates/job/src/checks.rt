@@ -22,10 +22,11 @@ use rules::limits::BAD_PARENT;
 use rules::limits::BAD_RECORD;
 use rules::limits::BAD_SPARE;
 use rules::limits::BAD_VARIABLE;
+use rules::limits::COMMANDS;
 ghost use mathlib.Core.Path.{_≡_};
 ghost use Prim.Native.Nat.{_≤_, _<_};
 ghost use lib.ListN.{length};
-ghost use Rattle.rules.specs.Limits.{maxRecords};
+ghost use Rattle.rules.specs.Limits.{commandCount, maxRecords};
 ghost use Rattle.rules.specs.Bytes.{recordPlace};
 ghost use Rattle.rules.specs.Check.{variableRule, nodeRule, variableClean, nodeClean, recordClean, firstFault, today, checkBytesBy, checkBytes};
 ghost use Rattle.job.specs.Layout.{layoutOf, Inside};
@@ -51,6 +52,16 @@ fn has_spare(rules: Edition) -> bool
     match rules {
         Edition::First => false,
         Edition::Today => true,
+    }
+}
+
+// How many commands they have.
+fn commands(rules: Edition) -> usize
+    ensures { λ r. ⌜ (r ≡ editionOf rules .commands) × (r ≤ commandCount) ⌝ }
+{
+    match rules {
+        Edition::First => 17,
+        Edition::Today => COMMANDS,
     }
 }
 
@@ -138,7 +149,7 @@ fn scan_records(bytes: &[u8], l: Layout, variables: usize, rules: Edition) -> Sc
     let count = l.records;
     if !has_spare(rules) {
         return scan_of(
-            records::first_fault(bytes, l.script, count, variables),
+            records::first_fault(bytes, l.script, count, variables, commands(rules)),
             count,
             count,
         );
@@ -148,7 +159,7 @@ fn scan_records(bytes: &[u8], l: Layout, variables: usize, rules: Edition) -> Sc
         return Scan::Passed(count);
     }
     scan_of(
-        records::first_fault(bytes, l.script, count, variables),
+        records::first_fault(bytes, l.script, count, variables, commands(rules)),
         unfit,
         count,
     )

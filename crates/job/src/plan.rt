@@ -8,7 +8,10 @@ pub const WORDS: usize = 1025;
 // No command, nor one that a request adds.
 pub const END_MARK: u32 = 255;
 
-// The command that a word holds.
+// The end of an if that comes back, which may stop: no command either.
+pub const END_BACK: u8 = 254;
+
+// The command that a word holds, or END_BACK, or the end mark.
 pub fn code(word: u32) -> u8
     ensures { λ r. ⌜ r ≡ codeOf word ⌝ }
 {

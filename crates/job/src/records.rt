@@ -3,16 +3,15 @@ use crate::reads::byte_at;
 use crate::reads::full_at;
 use crate::rows::Row;
 use crate::rows::table;
-use rules::limits::COMMANDS;
 use rules::limits::RECORD_SIZE;
 ghost use mathlib.Core.Path.{_≡_};
 ghost use Prim.Native.Nat.{_+_, _≤_};
 ghost use lib.ListN.{length};
-ghost use Rattle.rules.specs.Limits.{recordSize};
+ghost use Rattle.rules.specs.Limits.{commandCount, recordSize};
 ghost use Rattle.rules.specs.Bytes.{full, recordPlace};
 ghost use Rattle.rules.specs.Script.{row};
-ghost use Rattle.rules.specs.Check.{operandRule, expressionRule, fieldsRule, recordRule, code, firstFault};
-ghost use Rattle.job.specs.Fields.{fieldsOf};
+ghost use Rattle.rules.specs.Check.{operandRule, expressionRule, fieldsRule, code, firstFault};
+ghost use Rattle.job.specs.Fields.{knownRule, fieldsOf};
 
 // The commands that say which record comes next.
 pub const IF: u8 = 2;
@@ -22,6 +21,9 @@ pub const ELSE: u8 = 3;
 pub const WHILE: u8 = 4;
 
 pub const END: u8 = 5;
+
+// The if that comes back.
+pub const BACK: u8 = 17;
 
 // Operator 0 is the left side alone. The kind of a variable is 1.
 pub const ALONE: u8 = 0;
@@ -116,17 +118,23 @@ fn fields_ok(job: &[u8], at: usize, reads: Row, variables: usize) -> bool
     true
 }
 
-// Check 7: the first of `count` records that fails it, or the count.
-pub fn first_fault(job: &[u8], base: usize, count: usize, variables: usize) -> usize
-    requires { ⌜ recordPlace base count ≤ length (now job) ⌝ }
-    ensures { λ r. ⌜ r ≡ firstFault (λ i. recordRule (now (job .entry)) variables (recordPlace base i)) count 0 ⌝ }
+// Check 7, where there are so many commands: the first of `count` records that fails it, or the count.
+pub fn first_fault(
+    job: &[u8],
+    base: usize,
+    count: usize,
+    variables: usize,
+    commands: usize,
+) -> usize
+    requires { ⌜ (recordPlace base count ≤ length (now job)) × (commands ≤ commandCount) ⌝ }
+    ensures { λ r. ⌜ r ≡ firstFault (λ i. knownRule commands (now (job .entry)) variables (recordPlace base i)) count 0 ⌝ }
 {
     let rows = table();
     let mut i = 0;
     while i < count {
         let at = base + RECORD_SIZE * i;
         let command = byte_at(job, at);
-        if COMMANDS <= command {
+        if commands <= command {
             return i;
         }
         if !fields_ok(job, at, rows[command], variables) {

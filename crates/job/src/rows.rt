@@ -56,6 +56,7 @@ const ROWS: [Row; COMMANDS] = [
     NOTHING, // 14 remove right sibling
     EXPRESSION, // 15
     NOTHING, // 16 cover
+    EXPRESSION, // 17 if that comes back
 ];
 
 // The whole table, for a scan: a constant is built anew at each use.

@@ -35,10 +35,10 @@ returns-2 c =
 returns-3 : tie.Need-returns-3
 unfolding placedAt headIsIf
 returns-3 c =
-    let f = code (c .before .before .before .before .before .before .before .args .job .now) (c .before .before .before .before .before .before .before .args .base) in
-    let e = sym (c .before .before .before .before .code-at .ensures) ∙ c .before .before .before .match .keys2 in
-    rw (c .code-at2 .ensures, c .before .innermost .ensures)
-    (sym (placed-else f _ _ e ∙ ap (headIsIf f) (top _ _ _ (c .before .before .before .before .before .before .before .pre .spells) (c .before .before .if1 .left))))
+    let f = code (c .before .before .before .before .before .before .before .before .args .job .now) (c .before .before .before .before .before .before .before .before .args .base) in
+    let e = sym (c .before .before .before .before .before .code-at .ensures) ∙ c .before .before .before .before .match .keys2 in
+    rw (c .branches .ensures, c .before .code-at2 .ensures, c .before .before .innermost .ensures)
+    (sym (placed-else f _ _ e ∙ ap (headIsIf f) (top _ _ _ (c .before .before .before .before .before .before .before .before .pre .spells) (c .before .before .before .if1 .left))))
 
 returns-4 : tie.Need-returns-4
 unfolding placedAt
@@ -51,4 +51,4 @@ returns-5 c = let r = c .match .rest in sym (placed-plain _ _ _ (plain (c .befor
 pub block-ok-spec : {M : Type 1} → statement M
 block-ok-spec =
     tie.close (tie.spec
-    (λ c κs. search needs) returns innermost-requires code-at-requires-2 returns-2 returns-3 returns-4 returns-5)
+    (λ c κs. search needs) returns innermost-requires code-at-requires-2 (λ c κs. search needs) returns-2 returns-3 returns-4 returns-5)

@@ -33,7 +33,7 @@ loop-holds c = scan-start _ _
 
 returns : tie.Need-returns Inv-loop μ-loop
 unfolding recordFits recordRule
-returns c = scan-stop _ _ (c .before .before .before .loop .inv) (search needs) (rw (← c .before .byte-at .ensures .0, le-ltb _ 17 (c .if1 .taken)))
+returns c = scan-stop _ _ (c .before .before .before .loop .inv) (search needs) (rw (← c .before .byte-at .ensures .0, le-ltb _ 18 (c .if1 .taken)))
 
 fields-fit-requires : tie.Need-fields-fit-requires Inv-loop μ-loop
 unfolding rowHeld
