@@ -157,7 +157,8 @@ pub fn remove(words: &mut [u32; WORDS], run: Run, side: usize) -> Run
         return judge(r, false);
     }
     r.removed = more(run.removed);
-    r.free = shape::remove(words, PLACES, run.free, at, side, old);
+    let mut since = [0u16; PLACES];
+    r.free = shape::remove(words, PLACES, run.free, at, side, old, &mut since, true);
     r
 }
 

@@ -1,19 +1,21 @@
 -- A node is added on a side of the cursor's node: the view goes to that side, a free place becomes the first node there, and the view comes back.
 -- It is possible exactly where a place is free. Assumes nothing.
-use mathlib.Core.Path.{_≡_, ap, subst, _∙_}
+use mathlib.Core.Path.{_≡_, sym, ap, subst, _∙_}
 use Prim.Native.Nat.{ℕ, suc, _<_, _≤_}
 use native.Mathlib.Omega.{arith}
-use Rattle.rules.specs.Tree.{Label, Forest, Place, to, up, change, insert, count}
+use native.Mathlib.Decide.{ℕ-discrete}
+use Rattle.rules.specs.Tree.{Label, Forest, Side, child, sibling, Place, to, up, change, insert, count, afterInsert}
 use Rattle.table.specs.Cells.{cell, Table, gone, sideOf}
 use Rattle.table.specs.Holds.{Placed, empty, node, erase, head, Spare, hit, times, Holds}
 use Rattle.table.specs.Promises.{Leads, Added}
 use Rattle.table.specs.Steps.{withWord, Put, Attached, Took}
 use Rattle.table.proofs.Counting.{hit-same, differ}
 use Rattle.table.proofs.Ways.{Way, step, pathOf, parentOf, wayTimes, plug-times}
-use Rattle.table.proofs.Focus.{Focus, whole}
-use Rattle.table.proofs.Unique.{placing, lives, one-lead}
+use Rattle.table.proofs.Focus.{Focus, seen, whole}
+use Rattle.table.proofs.Unique.{Stands, held-stands, placing, lives, one-lead}
 use Rattle.table.proofs.Links.{withCount, link-count, same-count, parent-there}
 use Rattle.table.proofs.Changes.{loose, grow}
+use Rattle.table.proofs.Relocating.{stands-grown, elsewhere}
 use Rattle.table.proofs.Spares.{handed, found-room, refused}
 use Rattle.table.proofs.Moves.{few-above, to-above}
 use Rattle.table.proofs.Sides.{return, link-above, parent-above, at, way-on, forest-on, view-on}
@@ -55,14 +57,14 @@ module _ {m : Table} {n used free x : ℕ} {t : Forest} {p : Place} {u : ℕ} (h
   module _ {m₁ : Table} {y free′ used′ : ℕ} (took : Took m n used free m₁ y free′ used′) where
     pub added-none : {a : Label} → n ≤ y → Added (sideOf side) a m m₁ n used free x y free′ used′ t p
     added-none ge =
-        let q = refused view took ge in
         record {
           when = found-room view took;
-          none = λ _. q .1;
-          kept = λ _. subst (λ q. Holds m₁ n used′ free′ x t q) (at h .is-path) (return (sideOf side) (at h .k) (q .0));
+          none = λ _. refused view took ge .1;
+          kept = λ _ i q′ k. let a = seen k in subst (λ v. Holds m₁ n used′ free′ i t v) (a .is-path) (whole (a .k) (refused (a .focus) took ge .0));
           done = λ i. absurd (omega arith);
           stands = λ i. absurd (omega arith);
           vacant = λ i. absurd (omega arith);
+          moved = λ i. absurd (omega arith);
         }
 
     pub added : {a : Label} {m′ : Table} → y < n → Attached side a m₁ m′ x u y → Added (sideOf side) a m m′ n used free x y free′ used′ t p
@@ -80,4 +82,11 @@ module _ {m : Table} {n used free x : ℕ} {t : Forest} {p : Place} {u : ℕ} (h
               λ _ q k.
               omega
               (arith, lives k, ap (times y) (placing k view), plug-times y there (forest-on h (sideOf side)), new .focus .once y, hit-same y);
+          moved =
+              λ _ i q k.
+              let held = whole there f in
+              subst (λ q′. Holds m′ n used′ free′ i (change (to d q′) (insert a) t) (afterInsert (to d q′) q)) (at h .is-path)
+              (elsewhere held
+              (subst (Stands i (afterInsert (pathOf there) q)) (sym (placing held f))
+              (stands-grown q there y a (forest-on h d) (subst (Stands i q) (placing k view) (held-stands k)))));
         }

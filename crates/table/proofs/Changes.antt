@@ -5,15 +5,14 @@ use Prim.Native.Nat.{ℕ, suc, _+_, _-_, _<_, _≤_}
 use native.Mathlib.Omega.{arith}
 use native.Mathlib.Nat.{le-refl}
 use lib.IntN.{ℤ}
-use Rattle.rules.specs.Number.{signed}
-use Rattle.rules.specs.Tree.{Label, noLabel, Forest, Side, sibling, count, Place, change, insert, remove, withValue, setValue}
+use Rattle.rules.specs.Tree.{Label, noLabel, Forest, Side, sibling, count, change, insert, remove, withValue, setValue}
 use Rattle.table.specs.Cells.{Cell, cell, Table, ByteLevels, gone}
-use Rattle.table.specs.Holds.{Placed, empty, node, erase, head, Spare, more, hit, times, spareTimes, Holds}
-use Rattle.table.specs.Steps.{withWord, Put}
+use Rattle.table.specs.Holds.{Placed, empty, node, erase, head, Spare, more, hit, times, spareTimes}
+use Rattle.table.specs.Steps.{Put}
 use Rattle.table.proofs.Counting.{hit-same, differ}
 use Rattle.table.proofs.Frames.{stored, linked, freed, still-linked}
 use Rattle.table.proofs.Ways.{Way, step, pathOf, parentOf, wayTimes, Above, plug-change}
-use Rattle.table.proofs.Focus.{Focus, seen, whole}
+use Rattle.table.proofs.Focus.{Focus}
 use Rattle.table.proofs.Links.{withLink, withCount, same-above, parent-there, relink, recount}
 
 -- a cell with another parent word, or another value
@@ -142,11 +141,3 @@ module _ {n used free : ℕ} {t : Forest} {s : Spare} where
         each = λ y z. omega (arith, h .each y z);
         is-tree = sym (plug-change k (setValue v) (node x a c r) (node x (withValue v a) c r) refl) ∙ ap (change (pathOf k) (setValue v)) (h .is-tree);
       }
-
--- a value is set
-pub value-set : {m m′ : Table} {n used free x : ℕ} {t : Forest} {p : Place} (v : ℕ) → Holds m n used free x t p → Put m m′ x (withWord 4 v (m x))
-    → Holds m′ n used free x (change p (setValue (signed v)) t) p
-unfolding withWord withValue
-value-set {m′ = m′} {n} {used} {free} {x} {t} v h e =
-    let a = seen h in
-    subst (λ q. Holds m′ n used free x (change q (setValue (signed v)) t) q) (a .is-path) (whole (a .k) (revalue (a .k) (signed v) (a .focus) e))

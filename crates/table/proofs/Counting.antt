@@ -56,7 +56,7 @@ pub sum-bound : (n : ℕ) (f : ℕ → ℕ) → ((i : ℕ) → f i ≤ 1) → su
 sum-bound zero f h = omega arith
 sum-bound (suc n) f h = omega (arith, h n, sum-bound n f h)
 
-sum-term : (n p : ℕ) (f : ℕ → ℕ) → p < n → f p ≤ sumTo n f
+pub sum-term : (n p : ℕ) (f : ℕ → ℕ) → p < n → f p ≤ sumTo n f
 sum-term zero p f lt = absurd (omega arith)
 sum-term (suc n) p f lt = go (ℕ-discrete p n) (λ z. sum-term n p f z)
   where
@@ -64,7 +64,7 @@ sum-term (suc n) p f lt = go (ℕ-discrete p n) (λ z. sum-term n p f z)
     go (yes q) r = rw q (omega arith)
     go (no q) r = omega (arith, r (omega arith))
 
-sum-hit : (n x : ℕ) → x < n → sumTo n (λ y. hit y x) ≡ 1
+pub sum-hit : (n x : ℕ) → x < n → sumTo n (λ y. hit y x) ≡ 1
 sum-hit n x lt = omega (arith, sum-spike n x 1 (λ _. 0) (λ y. hit y x) lt (hit-same x) (λ i ne. hit-other i x ne), sum-zero n)
 
 pub count-size : (f : Placed) → count (erase f) ≤ size (erase f)

@@ -7,7 +7,7 @@ use Rattle.rules.specs.Limits.{maxNodes}
 use Rattle.rules.specs.Tree.{Label}
 use Rattle.table.specs.Cells.{cell, Table, gone, wordOf, ByteLevels, sideOf, link}
 use Rattle.table.specs.Promises.{Behind}
-use Rattle.table.specs.Steps.{withWord, Put, oneMore, oneLess, Attached, Detached, Pushed, some, none, Took, again, fresh, full, Cleared, Entered, under, alone}
+use Rattle.table.specs.Steps.{withWord, Put, oneMore, oneLess, Attached, Detached, Pushed, some, none, Popped, Took, again, fresh, full, Cleared, Entered, under, alone}
 use Rattle.table.proofs.Behind.{put-behind, then-behind, same-behind}
 use Rattle.table.proofs.Words.{twice, fits}
 
@@ -32,9 +32,9 @@ pub detached : {m m₁ m₂ m₃ m′ : Table} {x u y e next : ℕ} (side : ℕ)
 detached {m₁ = m₁} {m₂} {m₃} side i p q s z =
     record { m₁ = m₁; m₂ = m₂; m₃ = m₃; passed = rw i at p; cut = q; stacked = s; counted = z }
 
-pub reused : {m m₁ m′ : Table} {n used free right rest first e free′ : ℕ} → right ≡ m free .right → rest ≡ m free .parent → first ≡ m free .first
-    → free < n → Pushed m n right rest m₁ e → Pushed m₁ n first e m′ free′ → Took m n used free m′ free free′ used
-reused {m₁ = m₁} {e = e} i j k lt p q = again m₁ e lt (rw (i, j) at p) (rw k at q) refl refl
+pub popped : {m m₁ m′ : Table} {n x right rest first e r : ℕ} → right ≡ m x .right → rest ≡ m x .parent → first ≡ m x .first
+    → Pushed m n right rest m₁ e → Pushed m₁ n first e m′ r → Popped m n x m′ r
+popped {m₁ = m₁} {e = e} i j k p q = record { m₁ = m₁; rest = e; right = rw (i, j) at p; first = rw k at q }
 
 -- one place more has no children
 pub cleared-more : {m m′ : Table} {x : ℕ} → Cleared m x → Put m m′ x (withWord 5 0 (withWord 0 gone (m x))) → Cleared m′ (x + 1)
@@ -54,12 +54,15 @@ detached-behind lx lu ly g =
     then-behind (then-behind (then-behind (put-behind lx (g .passed)) (put-behind ly (g .cut))) (put-behind ly (g .stacked)))
     (put-behind lu (g .counted))
 
-pushed-behind : {m m′ : Table} {n x e r : ℕ} → Pushed m n x e m′ r → Behind n m m′
+pub pushed-behind : {m m′ : Table} {n x e r : ℕ} → Pushed m n x e m′ r → Behind n m m′
 pushed-behind (some lt p i) = put-behind lt p
 pushed-behind (none ge same i) = same-behind same
 
+pub popped-behind : {m m′ : Table} {n x r : ℕ} → Popped m n x m′ r → Behind n m m′
+popped-behind p = then-behind (pushed-behind (p .right)) (pushed-behind (p .first))
+
 pub took-behind : {m m′ : Table} {n used free x free′ used′ : ℕ} → Took m n used free m′ x free′ used′ → Behind n m m′
-took-behind (again m₁ e lt p q i u) = then-behind (pushed-behind p) (pushed-behind q)
+took-behind (again lt p i u) = popped-behind p
 took-behind (fresh ge lt same i e u) = same-behind same
 took-behind (full ge le same i e u) = same-behind same
 

@@ -3,6 +3,7 @@ pub mod Behind
 pub mod Copies
 pub mod Moves
 pub mod Once
+pub mod Remembering
 pub mod Resuming
 pub mod Unique
 pub mod Walking
@@ -16,7 +17,10 @@ mod Spares
 mod Words
 mod Effects
 mod Sides
+mod Relocating
+mod Valuing
 mod Removing
+mod Forgetting
 mod Adding
 mod Kids
 mod Loading

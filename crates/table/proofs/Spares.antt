@@ -10,7 +10,7 @@ use borrow.Author.Tests.{lt-ltb, le-ltb}
 use Rattle.rules.specs.Tree.{Forest, count, size}
 use Rattle.table.specs.Cells.{Table, gone}
 use Rattle.table.specs.Holds.{Placed, empty, node, erase, head, Stored, Spare, end, more, top, Linked, Free, hit, times, spareTimes}
-use Rattle.table.specs.Steps.{Pushed, some, none, Took, again, fresh, full, withWord}
+use Rattle.table.specs.Steps.{Pushed, some, none, Popped, Took, again, fresh, full, withWord}
 use Rattle.table.proofs.Counting.{hit-same, hit-other, differ, none-beyond, free-beyond, size-all, size-less}
 use Rattle.table.proofs.Frames.{stored, linked, freed}
 use Rattle.table.proofs.Ways.{Way, plug, parentOf, wayTimes, replug, plug-times}
@@ -19,24 +19,24 @@ use Rattle.table.proofs.Links.{same-above, unchanged}
 use Rattle.table.proofs.Changes.{loose}
 
 -- the stack with a forest on it
-abbrev onto : Placed → Spare → Spare
+abbrev pub onto : Placed → Spare → Spare
 onto empty s = s
 onto (node x l c r) s = more x c r s
 
-onto-times : (y : ℕ) (f : Placed) (s : Spare) → spareTimes y (onto f s) ≡ times y f + spareTimes y s
+pub onto-times : (y : ℕ) (f : Placed) (s : Spare) → spareTimes y (onto f s) ≡ times y f + spareTimes y s
 onto-times y empty s = omega arith
 onto-times y (node x l c r) s = omega arith
 
 module _ {m m′ : Table} {n used : ℕ} (few : n ≤ gone) (room : used ≤ n) where
   -- a push changes only the forest's first cell
-  push-same : (f : Placed) {e r : ℕ} → Linked m used f → Pushed m n (head f) e m′ r → (y : ℕ) → times y f ≡ 0 → m′ y ≡ m y
+  pub push-same : (f : Placed) {e r : ℕ} → Linked m used f → Pushed m n (head f) e m′ r → (y : ℕ) → times y f ≡ 0 → m′ y ≡ m y
   push-same empty h (some lt p e) y z = absurd (omega arith)
   push-same empty h (none ge same e) y z = same y
   push-same (node x l c r) h (some lt p e) y z = p .off y (λ q. omega (arith, hit-same x, ap (λ v. hit v x) q))
   push-same (node x l c r) h (none ge same e) y z = same y
 
   -- the stack after a push
-  push-free : (f : Placed) (s : Spare) {r : ℕ} → ((y : ℕ) → times y f + spareTimes y s ≤ 1) → Linked m used f → Free m used s
+  pub push-free : (f : Placed) (s : Spare) {r : ℕ} → ((y : ℕ) → times y f + spareTimes y s ≤ 1) → Linked m used f → Free m used s
       → Pushed m n (head f) (top s) m′ r → Free m′ used (onto f s) × (r ≡ top (onto f s))
   unfolding withWord
   push-free empty s once h g (some lt p e) = absurd (omega arith)
@@ -58,6 +58,28 @@ module _ {m m′ : Table} {n used : ℕ} (few : n ≤ gone) (room : used ≤ n) 
       )
   push-free (node x l c r) s once h g (none ge same e) = absurd (omega arith)
 
+-- the first place x of the stack has left it: those below it and to its right are first then
+pub record Unstacked (m m′ : Table) (used : ℕ) (c r : Placed) (s : Spare) (free : ℕ) : Type 0 where
+  pub freed : Free m′ used (onto c (onto r s))
+  pub leads : free ≡ top (onto c (onto r s))
+  pub same : (y : ℕ) → times y c + times y r ≡ 0 → m′ y ≡ m y
+
+pub unstack : {m m′ : Table} {n used free : ℕ} → n ≤ gone → used ≤ n → (x : ℕ) (c r : Placed) (s : Spare)
+    → ((y : ℕ) → hit y x + times y c + times y r + spareTimes y s ≤ 1) → Free m used (more x c r s) → Popped m n x m′ free
+    → Unstacked m m′ used c r s free
+unstack {m} {m′} {n} {used} {free} few room x c r s once g p =
+    let q₁ : Pushed m n (head r) (top s) (p .m₁) (p .rest) = rw (g .2, g .3) at (p .right) in
+    let f₁ = push-free few room r s (λ y. omega (arith, once y)) (g .5) (g .6) q₁ in
+    let q₂ : Pushed (p .m₁) n (head c) (top (onto r s)) m′ free = rw (g .1, f₁ .1) at (p .first) in
+    let kept : (y : ℕ) → times y r ≡ 0 → p .m₁ y ≡ m y = push-same few room r (g .5) q₁ in
+    let c₁ = linked m (p .m₁) (le-refl used) c (λ y z. kept y (omega (arith, once y))) (g .4) in
+    let f₂ = push-free few room c (onto r s) (λ y. omega (arith, once y, onto-times y r s)) c₁ (f₁ .0) q₂ in
+    record {
+      freed = f₂ .0;
+      leads = f₂ .1;
+      same = λ y z. push-same few room c c₁ q₂ y (omega arith) ∙ kept y (omega arith);
+    }
+
 -- the place x is handed out
 pub record Handed (m : Table) (n used free x : ℕ) (t : Forest) (k : Way) (f : Placed) : Type 0 where
   pub s : Spare
@@ -65,34 +87,26 @@ pub record Handed (m : Table) (n used free x : ℕ) (t : Forest) (k : Way) (f : 
   pub below : x < used
 
 module _ {m : Table} {n used : ℕ} {t : Forest} {k : Way} {f : Placed} where
-  pop : (s : Spare) {m₁ m₂ : Table} {e free : ℕ} → Focus m n used (top s) t empty k f s → top s < n
-      → Pushed m n (m (top s) .right) (m (top s) .parent) m₁ e → Pushed m₁ n (m (top s) .first) e m₂ free → Handed m₂ n used free (top s) t k f
-  pop end h lt p₁ p₂ = absurd (omega (arith, h .few))
-  pop (more x c r s) {m₁} {m₂} {e} {free} h lt p₁ p₂ =
-      let g = h .freed in
-      let few : n ≤ gone = omega (arith, h .few) in
-      let q₁ : Pushed m n (head r) (top s) m₁ e = rw (g .2, g .3) at p₁ in
-      let f₁ = push-free few (h .room) r s (λ y. omega (arith, h .once y)) (g .5) (g .6) q₁ in
-      let q₂ : Pushed m₁ n (head c) (top (onto r s)) m₂ free = rw (g .1, f₁ .1) at p₂ in
-      let kept : (y : ℕ) → times y r ≡ 0 → m₁ y ≡ m y = push-same few (h .room) r (g .5) q₁ in
-      let c₁ = linked m m₁ (le-refl used) c (λ y z. kept y (omega (arith, h .once y))) (g .4) in
-      let f₂ = push-free few (h .room) c (onto r s) (λ y. omega (arith, h .once y, onto-times y r s)) c₁ (f₁ .0) q₂ in
-      let ag : (y : ℕ) → 0 < times y f + wayTimes y k → m₂ y ≡ m y =
-      λ y z. push-same few (h .room) c c₁ q₂ y (omega (arith, h .once y)) ∙ kept y (omega (arith, h .once y)) in
+  pop : (s : Spare) {m′ : Table} {free : ℕ} → Focus m n used (top s) t empty k f s → top s < n → Popped m n (top s) m′ free
+      → Handed m′ n used free (top s) t k f
+  pop end h lt p = absurd (omega (arith, h .few))
+  pop (more x c r s) {m′} h lt p =
+      let u = unstack (omega (arith, h .few)) (h .room) x c r s (λ y. omega (arith, h .once y)) (h .freed) p in
+      let ag : (y : ℕ) → 0 < times y f + wayTimes y k → m′ y ≡ m y = λ y z. u .same y (omega (arith, h .once y)) in
       record {
         s = onto c (onto r s);
         focus = record {
           few = h .few;
           room = h .room;
-          stored = stored m m₂ (le-refl used) (parentOf k) f (λ y z. ag y (omega arith)) (h .stored);
-          above = same-above m m₂ (le-refl used) (head f) (count (erase f)) k (λ y z. ag y (omega arith)) (h .above);
-          freed = f₂ .0;
-          leads = sym (f₂ .1);
+          stored = stored m m′ (le-refl used) (parentOf k) f (λ y z. ag y (omega arith)) (h .stored);
+          above = same-above m m′ (le-refl used) (head f) (count (erase f)) k (λ y z. ag y (omega arith)) (h .above);
+          freed = u .freed;
+          leads = sym (u .leads);
           once = λ y. omega (arith, h .once y, onto-times y r s, onto-times y c (onto r s));
           each = λ y z. omega (arith, h .each y z, onto-times y r s, onto-times y c (onto r s));
           is-tree = h .is-tree;
         };
-        below = g .0;
+        below = h .freed .0;
       }
 
 module _ {m : Table} {n used free : ℕ} {t : Forest} {k : Way} {f : Placed} {s : Spare} (h : Focus m n used free t empty k f s) where
@@ -131,10 +145,9 @@ module _ {m : Table} {n used free : ℕ} {t : Forest} {k : Way} {f : Placed} {s 
       each y z (no q) = omega (arith, h .each y (omega arith))
 
   pub handed : {m′ : Table} {x free′ used′ : ℕ} → Took m n used free m′ x free′ used′ → x < n → Handed m′ n used′ free′ x t k f
-  handed {m′} {free′ = free′} (again m₁ e lt p₁ p₂ j u) z =
+  handed {m′} {free′ = free′} (again lt p j u) z =
       let b = h .leads in
-      let q : Handed m′ n used free′ (top s) t k f =
-      pop s (rw (← b) at h) (rw (← b) at lt) (rw (← b) at p₁) (rw (← b) at p₂) in
+      let q : Handed m′ n used free′ (top s) t k f = pop s (rw (← b) at h) (rw (← b) at lt) (rw (← b) at p) in
       rw (j, u, ← b) q
   handed (fresh ge lt same j e u) z = rw (j, e, u) (begin same lt)
   handed (full ge le same j e u) z = absurd (omega (arith, h .few))
@@ -160,12 +173,12 @@ module _ {m : Table} {n used free : ℕ} {t : Forest} {k : Way} {f : Placed} {s 
       omega (arith, ap size (h .is-tree), size-less m used gone (plug k f) s tree-stored once (top s) (q .0) (q .1))
 
   pub found-room : {m′ : Table} {x free′ used′ : ℕ} → Took m n used free m′ x free′ used′ → ltb x n ≡ ltb (size t) n
-  found-room (again m₁ e lt p₁ p₂ j u) = lt-ltb _ n (omega arith) ∙ sym (lt-ltb (size t) n (omega (arith, size-below lt, h .room)))
+  found-room (again lt p j u) = lt-ltb _ n (omega arith) ∙ sym (lt-ltb (size t) n (omega (arith, size-below lt, h .room)))
   found-room (fresh ge lt same j e u) = lt-ltb _ n (omega arith) ∙ sym (lt-ltb (size t) n (omega (arith, size-is ge)))
   found-room (full ge le same j e u) = le-ltb _ n (omega (arith, h .few)) ∙ sym (le-ltb (size t) n (omega (arith, size-is ge)))
 
   -- nothing changes where there is none
   pub refused : {m′ : Table} {x free′ used′ : ℕ} → Took m n used free m′ x free′ used′ → n ≤ x → Focus m′ n used′ free′ t empty k f s × (x ≡ gone)
-  refused (again m₁ e lt p₁ p₂ j u) z = absurd (omega arith)
+  refused (again lt p j u) z = absurd (omega arith)
   refused (fresh ge lt same j e u) z = absurd (omega arith)
   refused (full ge le same j e u) z = (rw (e, u) (unchanged h (λ y _. same y)), j)

@@ -38,7 +38,7 @@ module _ {m : Table} {n n′ used used′ free free′ x x′ : ℕ} {t t′ : F
   one-tree h h′ = sym (h .is-tree) ∙ ap erase (one-placing h h′) ∙ h′ .is-tree
 
 -- a place where a node of the forest stands is one of the forest's
-there : (x : ℕ) (p : Place) (f : Placed) → Some (part p f) → head (part p f) ≡ x → 0 < times x f
+pub there : (x : ℕ) (p : Place) (f : Placed) → Some (part p f) → head (part p f) ≡ x → 0 < times x f
 there x p f h e =
     let s = split p f h in
     omega (arith, ap (times x) (s .is-whole), plug-times x (s .k) (part p f), first (part p f) h e)
@@ -56,15 +56,15 @@ placing {m} {used = used} {k = k} {f} h g =
     same m used used gone gone (h .placed) (plug k f) le le (h .stored) (q .0) (h .is-root ∙ sym (q .1))
 
 -- a place of the tree is the root, or leads on from one of its two sides
-abbrev under : Side → Place → Place
+abbrev pub under : Side → Place → Place
 under d root = to d root
 under d (to e p) = to e (under d p)
 
-data Start : Place → Type 0 where
+pub data Start : Place → Type 0 where
   begin : Start root
   first : (d : Side) (p : Place) → Start (under d p)
 
-start : (p : Place) → Start p
+pub start : (p : Place) → Start p
 start root = begin
 start (to e p) = go p (start p)
   where
@@ -72,12 +72,12 @@ start (to e p) = go p (start p)
     go p begin = first e root
     go p (first d q) = first d (to e q)
 
-part-under : (d : Side) (p : Place) (f : Placed) → part (under d p) f ≡ part p (beside d f)
+pub part-under : (d : Side) (p : Place) (f : Placed) → part (under d p) f ≡ part p (beside d f)
 part-under d root f = refl
 part-under d (to e p) f = ap (beside e) (part-under d p f)
 
 -- the node at p stands at x
-abbrev Stands : ℕ → Place → Placed → Type 0
+abbrev pub Stands : ℕ → Place → Placed → Type 0
 Stands x p f = Some (part p f) × (head (part p f) ≡ x)
 
 nothing : (p : Place) → part p empty ≡ empty
@@ -114,7 +114,7 @@ unfolding OneWay
 apart x empty once p q h k = absurd (subst Some (nothing p) (h .0))
 apart x (node y l c r) once p q h k = one-way x y l c r once (apart x c (omega arith)) (apart x r (omega arith)) p q (start p) (start q) h k
 
-held-stands : {m : Table} {n used free x : ℕ} {t : Forest} {p : Place} (h : Holds m n used free x t p) → Stands x p (h .placed)
+pub held-stands : {m : Table} {n used free x : ℕ} {t : Forest} {p : Place} (h : Holds m n used free x t p) → Stands x p (h .placed)
 held-stands {used = used} {p = p} h =
     (some-node (part p (h .placed)) (subst (λ z. z < used) (sym (h .here)) (h .live)) (omega (arith, h .room, h .few)), h .here)
 

@@ -3,5 +3,6 @@ pub mod Cells
 pub mod Holds
 pub mod Lent
 pub mod Promises
+pub mod Since
 pub mod Stands
 pub mod Steps

@@ -6,10 +6,11 @@ use mathlib.Core.List.{List}
 use Prim.Native.Nat.{ℕ, _+_, _*_, _<_, _≤_}
 use lib.ListN.{length}
 use lib.Dec.{ltb}
+use lib.IntN.{ℤ}
 use Rattle.rules.specs.Limits.{maxNodes, nodeSize}
 use Rattle.rules.specs.Check.{parentRule}
 use Rattle.rules.specs.Job.{treeOf}
-use Rattle.rules.specs.Tree.{Label, Forest, Side, Place, root, to, sub, exists, size, change, insert}
+use Rattle.rules.specs.Tree.{Label, Forest, Side, Place, root, to, sub, exists, size, change, insert, remove, setValue, afterInsert, afterRemove}
 use Rattle.table.specs.Cells.{Table, cellSize, gone}
 use Rattle.table.specs.Holds.{Holds}
 
@@ -32,10 +33,23 @@ pub record Behind (n : ℕ) (m m′ : Table) : Type 0 where
 pub record Added (d : Side) (l : Label) (m m′ : Table) (n used free at x free′ used′ : ℕ) (t : Forest) (p : Place) : Type 0 where
   pub when : ltb x n ≡ ltb (size t) n
   pub none : n ≤ x → x ≡ gone
-  pub kept : n ≤ x → Holds m′ n used′ free′ at t p
+  pub kept : n ≤ x → (y : ℕ) (q : Place) → Holds m n used free y t q → Holds m′ n used′ free′ y t q
   pub done : x < n → Holds m′ n used′ free′ at (change (to d p) (insert l) t) p
   pub stands : x < n → Holds m′ n used′ free′ x (change (to d p) (insert l) t) (to d p)
   pub vacant : x < n → (q : Place) → Holds m n used free x t q → ⊥
+  -- every node keeps its place of the table
+  pub moved : x < n → (y : ℕ) (q : Place) → Holds m n used free y t q → Holds m′ n used′ free′ y (change (to d p) (insert l) t) (afterInsert (to d p) q)
+
+-- The first node on the side d of the cursor's node is removed with its subtree; every other node keeps its place of the table.
+pub record Removed (d : Side) (m m′ : Table) (n used free free′ at : ℕ) (t : Forest) (p : Place) : Type 0 where
+  pub done : Holds m′ n used free′ at (change (to d p) remove t) p
+  pub moved : (y : ℕ) (q r : Place) → Holds m n used free y t q → afterRemove (to d p) q ≡ some r
+      → Holds m′ n used free′ y (change (to d p) remove t) r
+
+-- The cursor's node gets the value v; every node keeps its place of the table.
+pub record Valued (v : ℤ) (m m′ : Table) (n used free at : ℕ) (t : Forest) (p : Place) : Type 0 where
+  pub done : Holds m′ n used free at (change p (setValue v) t) p
+  pub moved : (y : ℕ) (q : Place) → Holds m n used free y t q → Holds m′ n used free y (change p (setValue v) t) q
 
 -- n node records of a job, of which there is one, from base on, and room for as many places
 pub record Loadable (job words : List ℕ) (base n : ℕ) : Type 0 where

@@ -58,10 +58,16 @@ pub data Pushed (m : Table) (n x e : ℕ) (m′ : Table) (r : ℕ) : Type 0 wher
   some : x < n → Put m m′ x (withWord 2 e (m x)) → r ≡ x → Pushed m n x e m′ r
   none : n ≤ x → ((y : ℕ) → m′ y ≡ m y) → r ≡ e → Pushed m n x e m′ r
 
+-- the first place x of the stack has left it, but for the forests that hang from x; r leads to it now
+pub record Popped (m : Table) (n x : ℕ) (m′ : Table) (r : ℕ) : Type 0 where
+  pub m₁ : Table
+  pub rest : ℕ
+  pub right : Pushed m n (m x .right) (m x .parent) m₁ rest
+  pub first : Pushed m₁ n (m x .first) rest m′ r
+
 -- a place x was taken: the first of the free places, or else the first that was never used; or there is none
 pub data Took (m : Table) (n used free : ℕ) (m′ : Table) (x free′ used′ : ℕ) : Type 0 where
-  again : (m₁ : Table) (e : ℕ) → free < n → Pushed m n (m free .right) (m free .parent) m₁ e → Pushed m₁ n (m free .first) e m′ free′
-      → x ≡ free → used′ ≡ used → Took m n used free m′ x free′ used′
+  again : free < n → Popped m n free m′ free′ → x ≡ free → used′ ≡ used → Took m n used free m′ x free′ used′
   fresh : n ≤ free → used < n → ((y : ℕ) → m′ y ≡ m y) → x ≡ used → free′ ≡ free → used′ ≡ used + 1 → Took m n used free m′ x free′ used′
   full : n ≤ free → n ≤ used → ((y : ℕ) → m′ y ≡ m y) → x ≡ gone → free′ ≡ free → used′ ≡ used → Took m n used free m′ x free′ used′
 

@@ -6,6 +6,7 @@ mod levels;
 pub mod node;
 pub mod records;
 pub mod shape;
+pub mod since;
 mod space;
 pub mod standing;
 pub mod walk;

@@ -2,10 +2,10 @@
 ghost use mathlib.Core.Path.{_≡_};
 ghost use Prim.Native.Nat.{ℕ, _<_, _≤_};
 ghost use Rattle.rules.specs.Number.{signed};
-ghost use Rattle.rules.specs.Tree.{Forest, Place, sub, label, count, along, child, change, setValue};
+ghost use Rattle.rules.specs.Tree.{Forest, Place, sub, label, count, along, child};
 ghost use Rattle.table.specs.Cells.{cells, Within};
 ghost use Rattle.table.specs.Holds.{Holds};
-ghost use Rattle.table.specs.Promises.{Whenever, Behind};
+ghost use Rattle.table.specs.Promises.{Whenever, Valued, Behind};
 use super::cells;
 
 // The value, as its 32 bits.
@@ -68,7 +68,7 @@ pub fn level_read(words: &[u32], places: usize, at: usize, kind: usize) -> u8
 pub fn set_value(words: &mut [u32], places: usize, at: usize, v: u32)
     requires { ⌜ Within (now words) places at ⌝ }
     ensures { λ _. ⌜ ((used free : ℕ) (t : Forest) (p : Place) → Holds (cells (now (words .entry))) places used free at t p
-        → Holds (cells (now (words .exit))) places used free at (change p (setValue (signed v)) t) p) ⌝ }
+        → Valued (signed v) (cells (now (words .entry))) (cells (now (words .exit))) places used free at t p) ⌝ }
     ensures { λ _. ⌜ Behind places (cells (now (words .entry))) (cells (now (words .exit))) ⌝ }
 {
     cells::store(words, places, at, cells::VALUE, v);

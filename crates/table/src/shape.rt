@@ -1,16 +1,18 @@
 // Nodes come and go: on a side of the cursor's node, which is in front of its children or right after it.
 ghost use mathlib.Core.Path.{_≡_};
 ghost use mathlib.Core.Option.{some};
-ghost use Prim.Native.Nat.{ℕ, _<_};
-ghost use Rattle.rules.specs.Tree.{Forest, Place, to, up, change};
-ghost use Rattle.rules.specs.Tree as Tree;
+ghost use Prim.Native.Nat.{ℕ, _<_, _≤_};
+ghost use lib.ListN.{length};
+ghost use Rattle.rules.specs.Tree.{Forest, Place, to, up};
 ghost use Rattle.table.specs.Cells.{cells, labelNew, wordOf, sideOf, parentOn, Within};
 ghost use Rattle.table.specs.Holds.{Holds};
-ghost use Rattle.table.specs.Promises.{Leads, Added, Behind};
+ghost use Rattle.table.specs.Promises.{Leads, Added, Removed, Behind};
+ghost use Rattle.table.specs.Since.{Forgets};
 ghost use Rattle.table.specs.Steps.{Attached, Detached};
 use super::Taken;
 use super::cells;
 use super::cells::word_of;
+use super::since::forget;
 use super::space;
 
 // What a new node shows: its value, as its 32 bits, and its three levels.
@@ -92,7 +94,8 @@ pub fn add(
     got
 }
 
-// Removes the node at `old`, the first on a side of the one at `at`, with its subtree; returns what leads to the free places then.
+// Removes the node at `old`, the first on a side of the one at `at`, with its subtree; returns what leads to the free places then. Where blocks remember nodes,
+// each node of the subtree is forgotten.
 pub fn remove(
     words: &mut [u32],
     places: usize,
@@ -100,16 +103,22 @@ pub fn remove(
     at: usize,
     side: usize,
     old: usize,
+    since: &mut [u16],
+    remembered: bool,
 ) -> usize
-    requires { ⌜ Within (now words) places at × ((side < 2) × (old < places)) ⌝ }
+    requires { ⌜ Within (now words) places at × ((side < 2) × ((old < places) × (places ≤ length (now since)))) ⌝ }
     ensures { λ r. ⌜ ((used : ℕ) (t : Forest) (p : Place) → Holds (cells (now (words .entry))) places used free at t p
         → Leads (cells (now (words .entry))) places used free t (some (to (sideOf side) p)) old
-        → Holds (cells (now (words .exit))) places used r at (change (to (sideOf side) p) Tree.remove t) p) ⌝ }
+        → Removed (sideOf side) (cells (now (words .entry))) (cells (now (words .exit))) places used free r at t p
+        × Forgets remembered (sideOf side) (cells (now (words .entry))) places used free t p (now (since .entry)) (now (since .exit))) ⌝ }
     ensures { λ _. ⌜ Behind places (cells (now (words .entry))) (cells (now (words .exit))) ⌝ }
 {
     let u = parent_on(words, places, at, side);
     if u < places {
         detach(words, places, at, side, u, old, free);
+        if remembered {
+            forget(words, places, old, since);
+        }
         return old;
     }
     free
