@@ -82,7 +82,7 @@ module _ {words levels : List ℕ} {values : List ℤ} {places vars l : ℕ} (r 
     unfolding Run.assign withVariables
     did-assign u has long h is =
         goes (r .memory) is inside (λ fits. fits)
-        (record { grown = omega arith; cells = record { same = λ y h. refl }; values = λ n k. getD-set-other values j n u (pos 0) (λ p. omega arith); board = refl })
+        (record { grown = omega arith; cells = record { same = λ y h. refl }; values = λ n k. getD-set-other values j n u (pos 0) (λ p. omega arith); board = refl }) refl refl refl
         (λ μ s.
         passes flow (context-test pc x flows (level-at s) h b μ s)
         (given-passes _ (x .value b μ s ∙ ap valueOf has)
@@ -118,7 +118,7 @@ module _ {words levels : List ℕ} {values : List ℤ} {places vars l : ℕ} (r 
       let room : 4 * r .memory .lines + 4 ≤ length b = omega arith in
       rw put
       (goes (withLines (r .memory) (r .memory .lines + 1)) is inside (λ fits. omega (arith, replaced-long b (r .memory .lines) u room))
-      (record { grown = omega arith; cells = record { same = λ y h. refl }; values = λ j k. refl; board = replaced-rest b (r .memory .lines) u room })
+      (record { grown = omega arith; cells = record { same = λ y h. refl }; values = λ j k. refl; board = replaced-rest b (r .memory .lines) u room }) refl refl refl
       (λ μ s.
       passes flow (context-test pc x flows refl h b μ s)
       (given-passes _ (x .value b μ s ∙ ap valueOf has)

@@ -4,11 +4,12 @@ use mathlib.Core.Path.{_≡_, refl, sym, ap, ap₂, subst, _∙_}
 use mathlib.Core.Bool.{Bool, true, false, _&&_}
 use mathlib.Core.Option.{some}
 use mathlib.Core.List.{List}
-use Prim.Native.Nat.{ℕ, _%_, _<_, _≤_}
+use Prim.Native.Nat.{ℕ, zero, suc, _%_, _<_, _≤_}
 use native.Mathlib.Omega.{arith}
 use lib.IntN.{ℤ}
-use lib.Dec.{leb, eqb}
+use lib.Dec.{leb, ltb, eqb}
 use borrow.Author.Tests.{lt-ltb, le-ltb}
+use Rattle.rules.specs.Limits.{maxNodes}
 use Rattle.rules.specs.Number.{bits, signed}
 use Rattle.rules.specs.Answers.{valueOf}
 use Rattle.rules.specs.declared.numbers.Number.{Number}
@@ -22,16 +23,19 @@ use Rattle.rules.proofs.Tests.{clash}
 use Rattle.rules.proofs.Number.{signed-bits}
 use Rattle.table.specs.Cells.{cells, sideOf, labelWith}
 use Rattle.table.specs.Holds.{Holds}
-use Rattle.table.specs.Promises.{Whenever, Leads, Behind, Added}
+use Rattle.table.specs.Since.{number, Forgets}
+use Rattle.table.specs.Promises.{Whenever, Leads, Behind, Added, Removed, Valued as Revalued}
 use Rattle.table.proofs.Moves.{stands}
+use Rattle.table.proofs.Remembering.{added-relocates, refused-relocates, valued-relocates, removed-relocates}
 use Rattle.actions.specs.declared.memory.Memory.{Memory}
 use Rattle.actions.specs.declared.evaluate.Valued.{Valued}
 use Rattle.actions.specs.declared.control.Running.{Running}
 use Rattle.actions.specs.declared.control.Stepped.{Stepped}
 use Rattle.actions.specs.Shows.{slices, Shows, levelIn}
 use Rattle.actions.specs.Stands.{stepped, withMemory, went}
-use Rattle.actions.specs.Acts.{Does, Kept, Acts, MayFit, Evaluates, ParentOn, MayTouch, MayAdd}
-use Rattle.actions.proofs.Doing.{flow-number, absent-number, table-full-number, low-number, overflow-number, does-next, does-stop, passes, refuses, given-passes, given-stops, does-as, halts, goes, stays}
+use Rattle.actions.specs.Marks.{countAt}
+use Rattle.actions.specs.Acts.{Does, Kept, shifted, closedUp, Same, Becomes, Acting, Acts, MayFit, Evaluates, ParentOn, MayTouch, MayAdd}
+use Rattle.actions.proofs.Doing.{flow-number, absent-number, table-full-number, low-number, overflow-number, does-next, does-stop, passes, refuses, given-passes, given-stops, does-as, halts, moves-on, stays-by, stays}
 use Rattle.actions.proofs.Evaluation.{flow-shown}
 use Rattle.actions.proofs.Touched.{there, nowhere, Under, under, no-parent, position-is}
 
@@ -50,6 +54,11 @@ module _ {places vars : ℕ} {w w′ l b : List ℕ} {v : List ℤ} {m : Memory}
   unfolding withTree
   with-tree s h = record { tree = h; level = s .level; variables = s .variables; lines = s .lines }
 
+-- a number that is not zero
+open-some : {n : ℕ} → (n ≡ 0 → ⊥) → 0 < n
+open-some {n = zero} ne = absurd (ne refl)
+open-some {n = suc n} ne = omega arith
+
 -- an action that changes words and what leads to the free places touches nothing else
 words-only : {places vars n : ℕ} {w w′ l b : List ℕ} {v : List ℤ} → Behind places (cells w) (cells w′)
     → Kept places vars (slices w l v b) (slices w′ l v b) n n
@@ -64,33 +73,44 @@ Beside w places m side old =
 -- removals
 module _ (r : Running) (pc side : ℕ) {places vars old : ℕ} {w l b : List ℕ} {v : List ℤ} (inside : r .memory .cursor < places)
     (beside : Beside w places (r .memory) side old) where
-  pub remove-absent : {a : Stepped} → places ≤ old → a ≡ stepped 22 r
-      → Acts places vars (slices w l v b) (slices w l v b) r a (λ μ. removeAt pc μ (to (sideOf side) (μ .cursor)))
+  pub remove-absent : {a : Stepped} {ks : List ℕ} → places ≤ old → a ≡ stepped 22 r
+      → Acting (closedUp side) (Becomes ks ks) places vars (slices w l v b) (slices w l v b) r a (λ μ. removeAt pc μ (to (sideOf side) (μ .cursor)))
   unfolding removeAt
-  remove-absent ge is = stays inside is (λ z. omega arith) (λ μ s. refuses absent _ (nowhere (beside _ _ _ _ (s .tree)) ge) absent-number s)
+  remove-absent ge is = stays-by (λ k k′ q. q .1 ∙ sym (q .0)) inside is (λ z. omega arith) (λ μ s. refuses absent _ (nowhere (beside _ _ _ _ (s .tree)) ge) absent-number s)
 
   module _ {c : ℕ} {ok : Bool} (at : c ≡ join pc (levelIn (r .memory))) (lt : old < places) (may : MayTouch w places (r .memory) c old ok) where
     touched : {μ : Run.Memory} → Shows places vars (slices w l v b) (r .memory) μ → mayTouch pc μ (sub (to (sideOf side) (μ .cursor)) (μ .tree)) ≡ ok
     touched {μ} s = sym (may .touch pc μ _ (position-is pc at s) (beside _ _ _ _ (s .tree)))
 
-    pub remove-refused : {a : Stepped} → ok ≡ false → a ≡ stepped 21 r
-        → Acts places vars (slices w l v b) (slices w l v b) r a (λ μ. removeAt pc μ (to (sideOf side) (μ .cursor)))
+    pub remove-refused : {a : Stepped} {ks : List ℕ} → ok ≡ false → a ≡ stepped 21 r
+        → Acting (closedUp side) (Becomes ks ks) places vars (slices w l v b) (slices w l v b) r a (λ μ. removeAt pc μ (to (sideOf side) (μ .cursor)))
     unfolding removeAt
     remove-refused e is =
-        stays inside is (λ z. omega arith) (λ μ s. passes absent (stands (there (beside _ _ _ _ (s .tree)) lt)) (refuses flow _ (touched s ∙ e) flow-number s))
+        stays-by (λ k k′ q. q .1 ∙ sym (q .0)) inside is (λ z. omega arith) (λ μ s. passes absent (stands (there (beside _ _ _ _ (s .tree)) lt)) (refuses flow _ (touched s ∙ e) flow-number s))
 
-    pub removed : {w′ : List ℕ} {free : ℕ} {a : Stepped} → ok ≡ true
+    pub removed : {w′ : List ℕ} {free : ℕ} {a : Stepped} {ks ks′ : List ℕ} {kept : Bool} → ok ≡ true → kept ≡ ltb 0 (number ks countAt)
         → ((used : ℕ) (t : Forest) (p : Place) → Holds (cells w) places used (r .memory .free) (r .memory .cursor) t p
         → Leads (cells w) places used (r .memory .free) t (some (to (sideOf side) p)) old
-        → Holds (cells w′) places used free (r .memory .cursor) (change (to (sideOf side) p) Tree.remove t) p)
-        → Behind places (cells w) (cells w′) → a ≡ went r (withSpace (r .memory) free (r .memory .used))
-        → Acts places vars (slices w l v b) (slices w′ l v b) r a (λ μ. removeAt pc μ (to (sideOf side) (μ .cursor)))
-    unfolding removeAt
-    removed e gone behind is =
-        goes _ is inside (λ h. h) (words-only behind)
-        (λ μ s.
+        → Removed (sideOf side) (cells w) (cells w′) places used (r .memory .free) free (r .memory .cursor) t p
+        × Forgets kept (sideOf side) (cells w) places used (r .memory .free) t p ks ks′)
+        → Behind places (cells w) (cells w′) → places ≤ maxNodes → a ≡ went r (withSpace (r .memory) free (r .memory .used))
+        → Acting (closedUp side) (Becomes ks ks′) places vars (slices w l v b) (slices w′ l v b) r a (λ μ. removeAt pc μ (to (sideOf side) (μ .cursor)))
+    unfolding removeAt withTree
+    removed {ks = ks} {ks′} {kept} e any gone behind few is =
+        moves-on _ is inside (λ h. h) (words-only behind)
+        (λ k k′ q μ s.
+        let d = gone _ _ _ (s .tree) (beside _ _ _ _ (s .tree)) in
         passes absent (stands (there (beside _ _ _ _ (s .tree)) lt))
-        (passes flow (touched s ∙ e) (does-next _ refl (with-tree s (gone _ _ _ (s .tree) (beside _ _ _ _ (s .tree)))))))
+        (passes flow (touched s ∙ e)
+        (does-next _ refl
+        (record {
+          shows = with-tree s (d .0 .done);
+          moves = λ some-open.
+              rw (q .0, q .1)
+              (removed-relocates (d .0)
+              (subst (λ z. Forgets z (sideOf side) (cells w) places (r .memory .used) (r .memory .free) (μ .tree) (μ .cursor) ks ks′) (any ∙ lt-ltb 0 (number ks countAt) (open-some (rw (q .0) at some-open))) (d .1)));
+          behind = λ y h. rw (q .0, q .1) (d .1 .behind y (omega arith));
+        }))))
 
 -- the two rules of an insertion, tested as one
 module _ {P : Run.Memory → Type 0} {n : ℕ} {μ : Run.Memory} where
@@ -108,7 +128,7 @@ Inserts pc side mark places e μ = insertAt pc μ places (to (sideOf side) (μ .
 
 module _ (r : Running) (pc side mark : ℕ) (e : Expression) {places vars above : ℕ} {w l b : List ℕ} {v : List ℤ}
     (inside : r .memory .cursor < places) (on : ParentOn w places (r .memory) side above) where
-  pub insert-absent : {a : Stepped} → places ≤ above → a ≡ stepped 22 r → Acts places vars (slices w l v b) (slices w l v b) r a (Inserts pc side mark places e)
+  pub insert-absent : {a : Stepped} → places ≤ above → a ≡ stepped 22 r → Acting (shifted side) Same places vars (slices w l v b) (slices w l v b) r a (Inserts pc side mark places e)
   unfolding insertAt
   insert-absent ge is =
       stays inside is (λ z. omega arith)
@@ -135,7 +155,7 @@ module _ (r : Running) (pc side mark : ℕ) (e : Expression) {places vars above 
         → Inserts pc side mark places e μ ≡ insertAt pc μ places (to (sideOf side) (μ .cursor)) (some (parent s .place)) mark e
     as-under {μ} s = ap (λ o. insertAt pc μ places (to (sideOf side) (μ .cursor)) o mark e) (parent s .is)
 
-    pub insert-refused : {a : Stepped} → ok ≡ false → a ≡ stepped 21 r → Acts places vars (slices w l v b) (slices w l v b) r a (Inserts pc side mark places e)
+    pub insert-refused : {a : Stepped} → ok ≡ false → a ≡ stepped 21 r → Acting (shifted side) Same places vars (slices w l v b) (slices w l v b) r a (Inserts pc side mark places e)
     unfolding insertAt
     insert-refused shut is =
         stays inside is (λ z. omega arith) (λ μ s. does-as (as-under s) (both-refused _ _ _ (sym (gated s) ∙ shut) flow-number s))
@@ -143,7 +163,7 @@ module _ (r : Running) (pc side mark : ℕ) (e : Expression) {places vars above 
     -- y is the value and the level of the expression e
     module _ (may-go : ok ≡ true) {y : Valued} (x : Evaluates w l v places vars (r .memory) e y) where
       pub insert-over : {a : Stepped} → y .value ≡ Number.Over → a ≡ stepped 27 r
-          → Acts places vars (slices w l v b) (slices w l v b) r a (Inserts pc side mark places e)
+          → Acting (shifted side) Same places vars (slices w l v b) (slices w l v b) r a (Inserts pc side mark places e)
       unfolding insertAt
       insert-over none is =
           stays inside is (λ z. omega arith)
@@ -158,7 +178,7 @@ module _ (r : Running) (pc side mark : ℕ) (e : Expression) {places vars above 
         exists-test h s = ap₂ notAbove (existing _ _ _ _ (s .tree)) (sym (position-is pc at s)) ∙ h
 
         pub insert-low : {a : Stepped} → notAbove n c ≡ false → a ≡ stepped 26 r
-            → Acts places vars (slices w l v b) (slices w l v b) r a (Inserts pc side mark places e)
+            → Acting (shifted side) Same places vars (slices w l v b) (slices w l v b) r a (Inserts pc side mark places e)
         unfolding insertAt
         insert-low h is =
             stays inside is (λ z. omega arith)
@@ -177,33 +197,40 @@ module _ (r : Running) (pc side mark : ℕ) (e : Expression) {places vars above 
           result s = added _ _ (s .tree) (on .leads _ _ (s .tree))
 
           pub insert-full : {a : Stepped} → places ≤ z → a ≡ stepped 23 (withMemory r (withSpace (r .memory) free used))
-              → Acts places vars (slices w l v b) (slices w′ l v b) r a (Inserts pc side mark places e)
+              → Acting (shifted side) Same places vars (slices w l v b) (slices w′ l v b) r a (Inserts pc side mark places e)
           unfolding insertAt
           insert-full i is =
               halts _ is (λ z. omega arith) inside (λ h. h) (words-only behind)
-              (λ μ s.
+              (λ k k′ q μ s.
               does-as (as-under s)
               (both-passed _ _ _ (sym (gated s) ∙ may-go)
               (given-passes _ (x .value b μ s ∙ ap valueOf has)
               (passes low (exists-test high s)
-              (refuses tableFull _ (sym (result s .when) ∙ le-ltb z places i) table-full-number (with-space s (result s .kept i)))))))
+              (refuses tableFull _ (sym (result s .when) ∙ le-ltb z places i) table-full-number
+              (record {
+                shows = with-space s (result s .kept i _ _ (s .tree));
+                moves = λ _. rw q (refused-relocates (result s) i);
+                behind = λ y h. rw q;
+              }))))))
 
           pub inserted : {a : Stepped} → ((μ : Run.Memory) → Shows places vars (slices w l v b) (r .memory) μ → new ≡ newLabel pc μ mark e u) → z < places
-              → a ≡ went r (withSpace (r .memory) free used) → Acts places vars (slices w l v b) (slices w′ l v b) r a (Inserts pc side mark places e)
-          unfolding insertAt
+              → a ≡ went r (withSpace (r .memory) free used) → Acting (shifted side) Same places vars (slices w l v b) (slices w′ l v b) r a (Inserts pc side mark places e)
+          unfolding insertAt withTree
           inserted labels i is =
-              goes _ is inside (λ h. h) (words-only behind)
-              (λ μ s.
+              moves-on _ is inside (λ h. h) (words-only behind)
+              (λ k k′ q μ s.
+              let done = subst (λ a. Added (sideOf side) a (cells w) (cells w′) places (r .memory .used) (r .memory .free) (r .memory .cursor) z free used (μ .tree) (μ .cursor)) (labels μ s) (result s) in
               does-as (as-under s)
               (both-passed _ _ _ (sym (gated s) ∙ may-go)
               (given-passes _ (x .value b μ s ∙ ap valueOf has)
               (passes low (exists-test high s)
               (passes tableFull (sym (result s .when) ∙ lt-ltb z places i)
               (does-next _ refl
-              (with-tree s
-              (subst
-              (λ n. Holds (cells w′) places used free (r .memory .cursor) (change (to (sideOf side) (μ .cursor)) (Tree.insert n) (μ .tree)) (μ .cursor))
-              (labels μ s) (result s .done i)))))))))
+              (record {
+                shows = with-tree s (done .done i);
+                moves = λ _. rw q (added-relocates done i);
+                behind = λ y h. rw q;
+              })))))))
 
 -- y is the value and the level of the expression e, and k is L
 module _ {w l : List ℕ} {v : List ℤ} {places vars k : ℕ} (r : Running) {e : Expression} {y : Valued} (pc : ℕ)
@@ -248,16 +275,15 @@ module _ {w l : List ℕ} {v : List ℤ} {places vars k : ℕ} (r : Running) {e 
 
     pub written : (w′ : List ℕ) {u : ℤ} {n : ℕ} {a : Stepped} → y .value ≡ Number.Fits u → notAbove k c ≡ true → n ≡ bits u
         → ((used free : ℕ) (t : Forest) (p : Place) → Holds (cells w) places used free (r .memory .cursor) t p
-        → Holds (cells w′) places used free (r .memory .cursor) (change p (setValue (signed n)) t) p)
+        → Revalued (signed n) (cells w) (cells w′) places used free (r .memory .cursor) t p)
         → Behind places (cells w) (cells w′) → a ≡ went r (r .memory)
         → Acts places vars (slices w l v b) (slices w′ l v b) r a (λ μ. Run.write pc μ e)
-    unfolding Run.write
+    unfolding Run.write withTree
     written w′ has h i set behind is =
-        goes (r .memory) is inside (λ z. z) (words-only behind)
-        (λ μ s.
+        moves-on (r .memory) is inside (λ z. z) (words-only behind)
+        (λ k k′ q μ s.
+        let d = subst (λ z. Revalued z (cells w) (cells w′) places (r .memory .used) (r .memory .free) (r .memory .cursor) (μ .tree) (μ .cursor)) (told has i) (set _ _ _ _ (s .tree)) in
         passes flow (content-test h μ s)
         (given-passes _ (x .value b μ s ∙ ap valueOf has)
         (does-next _ refl
-        (with-tree s
-        (subst (λ z. Holds (cells w′) places (r .memory .used) (r .memory .free) (r .memory .cursor) (change (μ .cursor) (setValue z) (μ .tree)) (μ .cursor)) (told has i)
-        (set _ _ _ _ (s .tree)))))))
+        (record { shows = with-tree s (d .done); moves = λ _. rw q (valued-relocates d); behind = λ y h. rw q }))))

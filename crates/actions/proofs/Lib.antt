@@ -1,5 +1,6 @@
 -- Laws of what one record does; those that callers cite come first.
 pub mod Board
+pub mod Remembered
 pub mod Doing
 pub mod Contexts
 pub mod Stepping

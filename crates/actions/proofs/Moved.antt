@@ -56,7 +56,7 @@ module _ {places vars : ℕ} {x : Slices} (r : Running) {pc place level : ℕ} w
   acts-move {a} {action} inside lt (i, small) f = by (test (notAbove pc (levelIn (r .memory))))
     where
       by : Test (notAbove pc (levelIn (r .memory))) → Acts places vars x x r a action
-      by (holds e) = goes (withCursor (r .memory) place level) (i ∙ rw e) lt (λ h. h) kept-refl (λ μ s. there e small s (f μ s))
+      by (holds e) = goes (withCursor (r .memory) place level) (i ∙ rw e) lt (λ h. h) kept-refl refl refl refl (λ μ s. there e small s (f μ s))
       by (fails e) = stays inside (i ∙ rw e) (λ z. omega arith) (λ μ s. held e s (f μ s))
 
 module _ (pc : ℕ) (μ : Run.Memory) {o : Option Place} where

@@ -3,18 +3,18 @@ use mathlib.Core.Path.{_≡_}
 use mathlib.Core.Bool.{Bool, true, false, cond, _&&_}
 use mathlib.Core.Option.{Option, none, some}
 use Prim.Native.Nat.{ℕ, zero, suc, _-_, _*_, _<_, _≤_}
-use mathlib.Core.List.{List}
+use mathlib.Core.List.{List, map}
 use lib.ListN.{length, getD, drop}
 use lib.IntN.{ℤ, pos}
 use Rattle.rules.specs.Number.{Fits, fitting}
 use Rattle.rules.specs.Answers.{valueOf}
 use Rattle.rules.specs.declared.numbers.Number.{Number}
 use Rattle.rules.specs.Level.{notAbove}
-use Rattle.rules.specs.Tree.{Forest, Place, root, to, up, sub, label, child, sibling}
+use Rattle.rules.specs.Tree.{Forest, Place, root, to, up, sub, label, child, sibling, afterInsert, afterRemove}
 use Rattle.rules.specs.Script.{Operand, Expression}
 use Rattle.rules.specs.Run as Run
 use Rattle.rules.specs.Job.{expression}
-use Rattle.rules.specs.Run.{State, Result, next, onward, stop, stopNumber, operandValue, operandLevel, value, levelOf, position, mayTouch, moveTo, goTo}
+use Rattle.rules.specs.Run.{State, Result, next, onBlock, onward, stop, stopNumber, operandValue, operandLevel, value, levelOf, position, mayTouch, moveTo, goTo}
 use Rattle.table.specs.Cells.{cells, sideOf}
 use Rattle.table.specs.Holds.{Holds}
 use Rattle.table.specs.Promises.{Leads, Behind}
@@ -63,15 +63,39 @@ pub record Kept (places vars : ℕ) (x x′ : Slices) (n n′ : ℕ) : Type 0 wh
   pub values : (j : ℕ) → vars ≤ j → getD (x′ .values) j (pos 0) ≡ getD (x .values) j (pos 0)
   pub board : drop (4 * n′) (x′ .board) ≡ drop (4 * n′) (x .board)
 
--- an action: from the slices x and the running record r to x′ and the answer a, as the rules' action does with the memory
-pub record Acts (places vars : ℕ) (x x′ : Slices) (r : Running) (a : Stepped) (action : Run.Memory → Result Run.Memory) : Type 0 where
+-- where the node at q stands after an action with the cursor at c: that moves none; that inserts or removes one on a side of the cursor's
+abbrev pub keep : Place → Place → Option Place
+keep c q = some q
+
+abbrev pub shifted : ℕ → Place → Place → Option Place
+shifted side c q = some (afterInsert (to (sideOf side) c) q)
+
+abbrev pub closedUp : ℕ → Place → Place → Option Place
+closedUp side c q = afterRemove (to (sideOf side) c) q
+
+-- the marks stay, or one list of them becomes another
+abbrev pub Same : List ℕ → List ℕ → Type 0
+Same k k′ = k′ ≡ k
+
+abbrev pub Becomes : List ℕ → List ℕ → List ℕ → List ℕ → Type 0
+Becomes j j′ k k′ = (k ≡ j) × (k′ ≡ j′)
+
+-- an action that moves nodes: from the slices x, the marks k and the running record r to x′, k′ and the answer a, as the rules' action does with the memory
+pub record Acting (move : Place → Place → Option Place) (marks : List ℕ → List ℕ → Type 0) (places vars : ℕ) (x x′ : Slices) (r : Running) (a : Stepped)
+    (action : Run.Memory → Result Run.Memory) : Type 0 where
   pub cursor : a .running .memory .cursor < places
   pub room : 4 * r .memory .lines ≤ length (x .board) → 4 * a .running .memory .lines ≤ length (x′ .board)
   pub kept : Kept places vars x x′ (r .memory .lines) (a .running .memory .lines)
   pub within : (n : ℕ) → r .at < n → a .running .at ≤ n
   pub counted : a .stop ≡ 0 → a .running .left ≡ r .left - 1
   pub uncounted : (a .stop ≡ 0 → ⊥) → a .running .left ≡ r .left
-  pub acts : (s : State) → Stands places vars x r s → Does (Stands places vars x′ (a .running)) (a .stop) s (onward s (action (s .memory)))
+  pub acts : (k k′ : List ℕ) → marks k k′ → (s : State) → Stands places vars x k r s
+      → Does (Stands places vars x′ k′ (a .running)) (a .stop) s
+      (onward s (map (onBlock (move (s .memory .cursor))) (s .blocks)) (suc (s .at)) (action (s .memory)))
+
+-- an action that moves none and leaves the marks
+abbrev pub Acts : (places vars : ℕ) (x x′ : Slices) (r : Running) (a : Stepped) (action : Run.Memory → Result Run.Memory) → Type 0
+Acts = Acting keep Same
 
 -- the memory with the cursor at another place or level
 abbrev pub withCursor : Memory → ℕ → ℕ → Memory

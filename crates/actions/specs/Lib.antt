@@ -2,6 +2,7 @@
 pub mod Guards
 pub mod Board
 pub mod Shows
+pub mod Marks
 pub mod Stands
 pub mod Acts
 pub mod Control

@@ -2,6 +2,7 @@
 pub mod control;
 pub mod evaluate;
 pub mod guards;
+pub mod marks;
 pub mod memory;
 pub mod moves;
 pub mod nodes;

@@ -5,6 +5,7 @@ use super::control::halt;
 use super::control::onward;
 use super::control::with_memory;
 use super::evaluate::Valued;
+use super::marks;
 use super::memory::Memory;
 use super::memory::flow;
 use super::memory::position;
@@ -33,7 +34,8 @@ ghost use Rattle.rules.specs.Script.{Expression};
 ghost use Rattle.table.specs.Cells.{cellSize, Within, sideOf};
 ghost use Rattle.actions.specs.Shows.{slices};
 ghost use Rattle.actions.specs.Stands.{Timely};
-ghost use Rattle.actions.specs.Acts.{Acts, Evaluates, ParentOn, MayTouch, MayAdd};
+ghost use Rattle.actions.specs.Marks.{marksSize};
+ghost use Rattle.actions.specs.Acts.{shifted, closedUp, Same, Becomes, Acting, Acts, Evaluates, ParentOn, MayTouch, MayAdd};
 
 // The place of the parent that a node on a side of the cursor's has, or no place.
 fn parent_on(words: &[u32], places: usize, m: Memory, side: usize) -> usize
@@ -91,7 +93,7 @@ pub fn insert_on(
 ) -> Stepped
     requires { ⌜ Timely r × (Within (now words) places (r .memory .cursor) × (side < 2)) ⌝ }
     ensures { λ a. ⌜ ((l b : List ℕ) (v : List ℤ) (vars : ℕ) (x : Expression) → Evaluates (now (words .entry)) l v places vars (r .memory) x e
-        → Acts places vars (slices (now (words .entry)) l v b) (slices (now (words .exit)) l v b) r a
+        → Acting (shifted side) Same places vars (slices (now (words .entry)) l v b) (slices (now (words .exit)) l v b) r a
         (λ μ. Run.insertAt pc μ places (to (sideOf side) (μ .cursor)) (up (to (sideOf side) (μ .cursor))) mark x)) ⌝ }
 {
     let m = r.memory;
@@ -128,10 +130,17 @@ pub fn insert_on(
 }
 
 // The first node on a side goes, with its subtree.
-fn remove_on(side: usize, words: &mut [u32], places: usize, pc: u8, r: Running) -> Stepped
-    requires { ⌜ Timely r × (Within (now words) places (r .memory .cursor) × (side < 2)) ⌝ }
-    ensures { λ a. ⌜ ((l : List ℕ) (v : List ℤ) (b : List ℕ) (vars : ℕ) → Acts places vars (slices (now (words .entry)) l v b)
-        (slices (now (words .exit)) l v b) r a (λ μ. Run.removeAt pc μ (to (sideOf side) (μ .cursor)))) ⌝ }
+fn remove_on(
+    side: usize,
+    words: &mut [u32],
+    places: usize,
+    pc: u8,
+    r: Running,
+    marks: &mut [u16],
+) -> Stepped
+    requires { ⌜ Timely r × (Within (now words) places (r .memory .cursor) × ((side < 2) × (marksSize ≤ length (now marks)))) ⌝ }
+    ensures { λ a. ⌜ ((l : List ℕ) (v : List ℤ) (b : List ℕ) (vars : ℕ) → Acting (closedUp side) (Becomes (now (marks .entry)) (now (marks .exit))) places vars
+        (slices (now (words .entry)) l v b) (slices (now (words .exit)) l v b) r a (λ μ. Run.removeAt pc μ (to (sideOf side) (μ .cursor)))) ⌝ }
 {
     let m = r.memory;
     let old = walk::beside(words, places, m.cursor, side);
@@ -141,21 +150,38 @@ fn remove_on(side: usize, words: &mut [u32], places: usize, pc: u8, r: Running) 
     if !may_touch(words, places, m, position(pc, m), old) {
         return halt(r, FLOW);
     }
+    let remembered = marks::any(marks);
     let mut next = m;
-    next.free = shape::remove(words, places, m.free, m.cursor, side, old);
+    next.free = shape::remove(
+        words,
+        places,
+        m.free,
+        m.cursor,
+        side,
+        old,
+        marks,
+        remembered,
+    );
     onward(r, next)
 }
 
 // Commands 13 and 14, by the side. In each call the side is a constant: there is code for each side, which asks for none.
-pub fn remove(side: usize, words: &mut [u32], places: usize, pc: u8, r: Running) -> Stepped
-    requires { ⌜ Timely r × (Within (now words) places (r .memory .cursor) × (side < 2)) ⌝ }
-    ensures { λ a. ⌜ ((l : List ℕ) (v : List ℤ) (b : List ℕ) (vars : ℕ) → Acts places vars (slices (now (words .entry)) l v b)
-        (slices (now (words .exit)) l v b) r a (λ μ. Run.removeAt pc μ (to (sideOf side) (μ .cursor)))) ⌝ }
+pub fn remove(
+    side: usize,
+    words: &mut [u32],
+    places: usize,
+    pc: u8,
+    r: Running,
+    marks: &mut [u16],
+) -> Stepped
+    requires { ⌜ Timely r × (Within (now words) places (r .memory .cursor) × ((side < 2) × (marksSize ≤ length (now marks)))) ⌝ }
+    ensures { λ a. ⌜ ((l : List ℕ) (v : List ℤ) (b : List ℕ) (vars : ℕ) → Acting (closedUp side) (Becomes (now (marks .entry)) (now (marks .exit))) places vars
+        (slices (now (words .entry)) l v b) (slices (now (words .exit)) l v b) r a (λ μ. Run.removeAt pc μ (to (sideOf side) (μ .cursor)))) ⌝ }
 {
     if side == table::FIRST {
-        return remove_on(table::FIRST, words, places, pc, r);
+        return remove_on(table::FIRST, words, places, pc, r, marks);
     }
-    remove_on(table::RIGHT, words, places, pc, r)
+    remove_on(table::RIGHT, words, places, pc, r, marks)
 }
 
 // Command 15: the value of the cursor's node becomes the expression, whose value and level are e.
