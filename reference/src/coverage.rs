@@ -418,10 +418,10 @@ pub fn wanted() -> Vec<String> {
     names.extend(LONG_RUNS.map(length_name));
     let stops: [(Ending, &[u8]); 5] = [
         (Ending::Rule, &[1, 6, 7, 8, 9, 10, 11, 12, 13, 14, 15, 16]),
-        (Ending::Missing, &[8, 9, 10, 12, 13, 14]),
+        (Ending::Missing, &[5, 8, 9, 10, 12, 13, 14]),
         (Ending::TableFull, &[11, 12]),
         (Ending::LinesFull, &[6]),
-        (Ending::OutOfRange, &[1, 2, 4, 6, 11, 12, 15]),
+        (Ending::OutOfRange, &[1, 2, 4, 6, 11, 12, 15, 17]),
     ];
     for (ending, commands) in stops {
         names.extend(commands.iter().map(|&command| stop_name(ending, command)));
@@ -432,6 +432,7 @@ pub fn wanted() -> Vec<String> {
         Some(command::ELSE),
         Some(command::WHILE),
         Some(command::END),
+        Some(command::IF_BACK),
         None,
     ];
     names.extend(reasons.into_iter().map(block_name));
@@ -450,13 +451,16 @@ pub fn wanted() -> Vec<String> {
 }
 
 /// A line needs a public context, a move a context not above the cursor level;
-/// root leaves the context as cursor level, and cover leaves 1.
+/// root leaves the context as cursor level, cover leaves 1, and an if that comes
+/// back joins the context to it.
 fn wanted_levels() -> Vec<String> {
     let can_leave = |command: u8, context: Level, cursor: Level| match command {
         command::PRINT => context == PUBLIC,
         command::ROOT => context == cursor,
         command::COVER => cursor == HOUSE,
         command::UP | command::FIRST_CHILD | command::RIGHT_SIBLING => context <= cursor,
+        // The context has joined it.
+        command::IF_BACK => context <= cursor,
         _ => true,
     };
     let mut names = Vec::new();

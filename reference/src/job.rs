@@ -38,7 +38,11 @@ pub mod command {
     pub const REMOVE_RIGHT_SIBLING: u8 = 14;
     pub const SET_VALUE: u8 = 15;
     pub const COVER: u8 = 16;
-    pub const COUNT: usize = 17;
+    /// An if that comes back (R-6).
+    pub const IF_BACK: u8 = 17;
+    pub const COUNT: usize = 18;
+    /// Before R-6.
+    pub const FIRST_COUNT: usize = 17;
 }
 
 /// Kinds of operands.
@@ -135,7 +139,7 @@ const fn reads(target: Target, expression: bool) -> Reads {
 
 /// "One fixed table of seventeen rows says which fields each command reads;
 /// the others are ignored." "Commands 1, 2, 4, 6, 11, 12 and 15 read an
-/// expression."
+/// expression." Command 17 is "an if", and reads what an if reads.
 pub const READS: [Reads; command::COUNT] = [
     reads(Target::Ignored, false),
     reads(Target::Variable, true),
@@ -154,6 +158,7 @@ pub const READS: [Reads; command::COUNT] = [
     reads(Target::Ignored, false),
     reads(Target::Ignored, true),
     reads(Target::Ignored, false),
+    reads(Target::Ignored, true),
 ];
 
 /// The job in `bytes`, or the first check that turns it back.
@@ -164,33 +169,34 @@ pub fn decode(bytes: &[u8]) -> Result<Job, Refusal> {
 /// "Job checks go in order of number.", but for 12. Each goes over its whole
 /// section.
 pub fn decode_with(bytes: &[u8], mistake: Mistake) -> Result<Job, Refusal> {
-    let job = decode_fields(bytes, mistake)?;
+    let job = decode_fields(bytes, command::COUNT, mistake)?;
     check_spare_and_blocks(&job, mistake)?;
     Ok(job)
 }
 
-/// The job in `bytes` by the rules before R-4: its spare bytes hold anything.
+/// The job in `bytes` by the rules before R-4: its spare bytes hold anything,
+/// and there is no command 17.
 pub fn decode_first(bytes: &[u8], mistake: Mistake) -> Result<Job, Refusal> {
-    let job = decode_fields(bytes, mistake)?;
+    let job = decode_fields(bytes, command::FIRST_COUNT, mistake)?;
     check_blocks(&job.script, mistake)?;
     Ok(job)
 }
 
-/// Checks 1 to 7.
-fn decode_fields(bytes: &[u8], mistake: Mistake) -> Result<Job, Refusal> {
+/// Checks 1 to 7, where there are so many commands.
+fn decode_fields(bytes: &[u8], commands: usize, mistake: Mistake) -> Result<Job, Refusal> {
     let job = split(bytes)?;
     check_counts(&job)?;
     check_variables(&job)?;
     check_parents(&job)?;
     check_tree(&job, mistake)?;
-    check_fields(&job.script, job.variables.len(), mistake)?;
+    check_fields(&job.script, job.variables.len(), commands, mistake)?;
     Ok(job)
 }
 
 /// Checks 7, 12 and 8 of a bare script over so many variables: it has no records
 /// of other sections.
 pub fn check_script(script: &[Record], variables: usize, mistake: Mistake) -> Result<(), Refusal> {
-    check_fields(script, variables, mistake)?;
+    check_fields(script, variables, command::COUNT, mistake)?;
     if mistake == Mistake::SectionSpareUnchecked {
         return check_blocks(script, mistake);
     }
@@ -327,10 +333,17 @@ fn left_sibling(nodes: &[Node], index: usize, mistake: Mistake) -> Option<usize>
     (0..index).rev().find(same_parent)
 }
 
-/// Check 7: "command above 16, or a field read is out of range (variable
-/// index, operator, kind, mark)".
-fn check_fields(script: &[Record], variables: usize, mistake: Mistake) -> Result<(), Refusal> {
-    let in_range = |record: &Record| fields_in_range(record, variables, mistake);
+/// Check 7: a command that there is not, "or a field read is out of range
+/// (variable index, operator, kind, mark)".
+fn check_fields(
+    script: &[Record],
+    variables: usize,
+    commands: usize,
+    mistake: Mistake,
+) -> Result<(), Refusal> {
+    let in_range = |record: &Record| {
+        (record.command as usize) < commands && fields_in_range(record, variables, mistake)
+    };
     match script.iter().position(|record| !in_range(record)) {
         Some(index) => refuse(Ending::Field, index),
         None => Ok(()),
@@ -418,7 +431,7 @@ pub fn pair_blocks(script: &[Record], mistake: Mistake) -> Result<Vec<Block>, us
     let mut closed = Vec::new();
     for (index, record) in script.iter().enumerate() {
         match record.command {
-            command::IF | command::WHILE => {
+            command::IF | command::IF_BACK | command::WHILE => {
                 if open.len() == most {
                     return Err(index);
                 }
@@ -430,7 +443,7 @@ pub fn pair_blocks(script: &[Record], mistake: Mistake) -> Result<Vec<Block>, us
             }
             command::ELSE => match open.last_mut() {
                 Some(block)
-                    if script[block.opening].command == command::IF
+                    if is_if(script[block.opening].command, mistake)
                         && block.otherwise.is_none() =>
                 {
                     block.otherwise = Some(index);
@@ -451,6 +464,15 @@ pub fn pair_blocks(script: &[Record], mistake: Mistake) -> Result<Vec<Block>, us
         Ok(closed)
     } else {
         Err(script.len())
+    }
+}
+
+/// Command 17 is "an if" too.
+fn is_if(command: u8, mistake: Mistake) -> bool {
+    match command {
+        command::IF => true,
+        command::IF_BACK => mistake != Mistake::BackHasNoElse,
+        _ => false,
     }
 }
 

@@ -59,6 +59,24 @@ pub enum Mistake {
     TableFullAt512,
     /// A record that stops counts as a step.
     StopCountsStep,
+    // An if that comes back.
+    /// The context does not join the cursor level.
+    BackLevelNotJoined,
+    /// The context joins without the block's own guard.
+    BackGuardNotJoined,
+    /// The end brings back the level alone.
+    BackLevelAlone,
+    /// The end brings back the node alone.
+    BackNodeAlone,
+    /// The end brings back the node, with the cursor level 0.
+    BackResetsLevel,
+    /// The end goes where the node stood among its siblings, whatever stands
+    /// there now.
+    BackToThePlace,
+    /// An end whose node was removed goes on where the cursor is.
+    BackGoesOn,
+    /// There is no else for it.
+    BackHasNoElse,
     /// The rule of this command is not tested.
     NoRule(u8),
     // Checks of the bytes.
@@ -116,7 +134,7 @@ pub const RULED_COMMANDS: [u8; 12] = [1, 6, 7, 8, 9, 10, 11, 12, 13, 14, 15, 16]
 
 impl Mistake {
     /// Every mistake that a job shows, without `None` and `NoRule`.
-    pub const ALL: [Mistake; 33] = [
+    pub const ALL: [Mistake; 41] = [
         Mistake::MoveRaisesCursorLevel,
         Mistake::ChildrenLevelFromChildren,
         Mistake::RootResetsCursorLevel,
@@ -144,6 +162,14 @@ impl Mistake {
         Mistake::GuardsWrap,
         Mistake::TableFullAt512,
         Mistake::StopCountsStep,
+        Mistake::BackLevelNotJoined,
+        Mistake::BackGuardNotJoined,
+        Mistake::BackLevelAlone,
+        Mistake::BackNodeAlone,
+        Mistake::BackResetsLevel,
+        Mistake::BackToThePlace,
+        Mistake::BackGoesOn,
+        Mistake::BackHasNoElse,
         Mistake::LeftIsPreviousRecord,
         Mistake::RightSideAlwaysChecked,
         Mistake::SeventeenBlocksAccepted,
@@ -182,7 +208,7 @@ impl Mistake {
 
     /// The mistakes by which public lines come to depend on house parts of an
     /// accepted job.
-    pub const LEAKING: [Mistake; 10] = [
+    pub const LEAKING: [Mistake; 12] = [
         Mistake::MoveRaisesCursorLevel,
         Mistake::ChildrenLevelFromChildren,
         Mistake::RootResetsCursorLevel,
@@ -193,5 +219,7 @@ impl Mistake {
         Mistake::ChildrenForgetCursorLevel,
         Mistake::ContextForgotten,
         Mistake::SettingForgetsCursorLevel,
+        Mistake::BackLevelAlone,
+        Mistake::BackResetsLevel,
     ];
 }

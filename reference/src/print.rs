@@ -141,7 +141,10 @@ fn script(records: &[Record]) -> String {
             self::record(record)
         )
         .unwrap();
-        if matches!(record.command, command::IF | command::ELSE | command::WHILE) {
+        if matches!(
+            record.command,
+            command::IF | command::ELSE | command::WHILE | command::IF_BACK
+        ) {
             depth += 1;
         }
     }
@@ -183,6 +186,7 @@ const COMMAND_NAMES: [&str; command::COUNT] = [
     "remove right sibling",
     "set value",
     "cover",
+    "if and come back",
 ];
 
 fn expression(record: &Record) -> String {

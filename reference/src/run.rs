@@ -92,10 +92,60 @@ pub struct State {
     pub cursor_level: Level,
     /// The guards of all open blocks, the outermost first.
     pub guards: Vec<Level>,
+    /// What each of them remembers, if it is an if that comes back.
+    pub remembered: Vec<Option<Remembered>>,
     /// The record to be carried out next.
     pub next: usize,
     pub steps: u64,
     pub lines: Vec<i32>,
+}
+
+/// "an if that remembers the working node and the cursor level"
+#[derive(Clone, Debug)]
+pub struct Remembered {
+    /// The node's own name.
+    pub node: u64,
+    pub cursor_level: Level,
+    /// Where it stood: only a wrong monitor looks at it.
+    pub place: Path,
+}
+
+/// A name for each node of a tree, which no other node ever has: "If the
+/// remembered node was removed meanwhile", another one may stand in its place.
+#[derive(Clone, Debug)]
+struct Names {
+    name: u64,
+    children: Vec<Names>,
+}
+
+impl Names {
+    /// Names from `next` on.
+    fn of(tree: &Tree, next: &mut u64) -> Names {
+        let name = *next;
+        *next += 1;
+        let children = tree.children.iter();
+        Names {
+            name,
+            children: children.map(|child| Names::of(child, next)).collect(),
+        }
+    }
+
+    fn at_mut(&mut self, path: &[usize]) -> &mut Names {
+        path.iter()
+            .fold(self, |node, &place| &mut node.children[place])
+    }
+
+    /// Where the node of a name stands, if it does.
+    fn find(&self, name: u64) -> Option<Path> {
+        if self.name == name {
+            return Some(Path::new());
+        }
+        self.children.iter().enumerate().find_map(|(place, child)| {
+            let mut path = child.find(name)?;
+            path.insert(0, place);
+            Some(path)
+        })
+    }
 }
 
 /// Called after each record carried out, with the state that it left.
@@ -177,6 +227,8 @@ pub struct Monitor<'a> {
     blocks: Vec<Option<Block>>,
     limits: &'a Limits,
     mistake: Mistake,
+    names: Names,
+    next_name: u64,
     pub state: State,
 }
 
@@ -206,15 +258,20 @@ impl<'a> Monitor<'a> {
             },
             cursor_level: PUBLIC,
             guards: Vec::new(),
+            remembered: Vec::new(),
             next: 0,
             steps: 0,
             lines: Vec::new(),
         };
+        let mut next_name = 0;
+        let names = Names::of(&state.tree, &mut next_name);
         Monitor {
             script,
             blocks,
             limits,
             mistake,
+            names,
+            next_name,
             state,
         }
     }
@@ -266,7 +323,8 @@ impl<'a> Monitor<'a> {
         match record.command {
             command::NOTHING => {}
             command::ASSIGN => self.assign(record)?,
-            command::IF => return self.open_if(record),
+            command::IF => return self.open_if(record, None),
+            command::IF_BACK => return self.open_back(record),
             command::ELSE => return self.reach_else(),
             command::WHILE => return self.open_while(record),
             command::END => return self.close(),
@@ -336,11 +394,11 @@ impl<'a> Monitor<'a> {
     }
 
     /// Command 2: "push E; zero goes past else, or to end if none".
-    fn open_if(&mut self, record: &Record) -> Result<(), Ending> {
+    fn open_if(&mut self, record: &Record, remembered: Option<Remembered>) -> Result<(), Ending> {
         let guard = self.evaluate(record);
         let value = self.guard_value(&guard)?;
         let block = self.block();
-        self.push_guard(guard.level);
+        self.push_guard(guard.level, remembered);
         self.state.next = match (value, block.otherwise) {
             (0, Some(otherwise)) => {
                 if self.mistake == Mistake::ElseForgetsGuard {
@@ -351,6 +409,53 @@ impl<'a> Monitor<'a> {
             }
             (0, None) => block.end,
             _ => self.state.next + 1,
+        };
+        Ok(())
+    }
+
+    /// Command 17: "an if that remembers the working node and the cursor level,
+    /// then joins the context, with its guard, to the cursor level", whatever
+    /// the guard's value.
+    fn open_back(&mut self, record: &Record) -> Result<(), Ending> {
+        let around = self.context();
+        let remembered = Remembered {
+            node: self.names.at_mut(&self.state.cursor).name,
+            cursor_level: self.state.cursor_level,
+            place: self.state.cursor.clone(),
+        };
+        self.open_if(record, Some(remembered))?;
+        let context = match self.mistake {
+            Mistake::BackLevelNotJoined => PUBLIC,
+            Mistake::BackGuardNotJoined => around,
+            _ => self.context(),
+        };
+        self.state.cursor_level = join(self.state.cursor_level, context);
+        Ok(())
+    }
+
+    /// The end of such a block "brings both back, from either side of an else";
+    /// 22 "If the remembered node was removed meanwhile".
+    fn bring_back(&mut self, remembered: &Remembered) -> Result<(), Ending> {
+        let found = match self.mistake {
+            Mistake::BackToThePlace => {
+                let place = &remembered.place;
+                let stands = self.state.tree.stands(place);
+                stands.then(|| place.clone())
+            }
+            Mistake::BackGoesOn => {
+                let found = self.names.find(remembered.node);
+                Some(found.unwrap_or(self.state.cursor.clone()))
+            }
+            _ => self.names.find(remembered.node),
+        };
+        let node = found.ok_or(Ending::Missing)?;
+        if self.mistake != Mistake::BackLevelAlone {
+            self.state.cursor = node;
+        }
+        self.state.cursor_level = match self.mistake {
+            Mistake::BackNodeAlone => self.state.cursor_level,
+            Mistake::BackResetsLevel => PUBLIC,
+            _ => remembered.cursor_level,
         };
         Ok(())
     }
@@ -367,24 +472,29 @@ impl<'a> Monitor<'a> {
         if self.guard_value(&guard)? == 0 {
             self.state.next = self.block().end + 1;
         } else {
-            self.push_guard(guard.level);
+            self.push_guard(guard.level, None);
             self.state.next += 1;
         }
         Ok(())
     }
 
-    fn push_guard(&mut self, level: Level) {
+    fn push_guard(&mut self, level: Level, remembered: Option<Remembered>) {
         let level = match self.mistake {
             Mistake::GuardJoinsCursorLevel => join(level, self.c()),
             _ => level,
         };
         self.state.guards.push(level);
+        self.state.remembered.push(remembered);
     }
 
     /// Command 5: "pop; of a while: back to it".
     fn close(&mut self) -> Result<(), Ending> {
         let block = self.block();
+        if let Some(remembered) = self.state.remembered.last().cloned().flatten() {
+            self.bring_back(&remembered)?;
+        }
         self.state.guards.pop();
+        self.state.remembered.pop();
         self.state.next = match self.script[block.opening].command {
             command::WHILE => block.opening,
             _ => self.state.next + 1,
@@ -473,8 +583,8 @@ impl<'a> Monitor<'a> {
         let rule = self.insertion_rule(parent, parent.children.first());
         let value = self.value(&expression, rule, self.insertion_room())?;
         let node = self.new_node(record, expression.level, value);
-        let cursor = &self.state.cursor;
-        self.state.tree.at_mut(cursor).children.insert(0, node);
+        let cursor = self.state.cursor.clone();
+        self.insert(&cursor, 0, node);
         Ok(())
     }
 
@@ -487,12 +597,23 @@ impl<'a> Monitor<'a> {
         let rule = self.insertion_rule(parent, parent.children.get(place + 1));
         let value = self.value(&expression, rule, self.insertion_room())?;
         let node = self.new_node(record, expression.level, value);
-        self.state
-            .tree
-            .at_mut(above)
-            .children
-            .insert(place + 1, node);
+        let (above, place) = (above.to_vec(), place + 1);
+        self.insert(&above, place, node);
         Ok(())
+    }
+
+    /// A new node, which has a name of its own.
+    fn insert(&mut self, above: &Path, place: usize, node: Tree) {
+        let named = Names::of(&node, &mut self.next_name);
+        self.names.at_mut(above).children.insert(place, named);
+        let parent = self.state.tree.at_mut(above);
+        parent.children.insert(place, node);
+    }
+
+    fn remove(&mut self, node: &Path) {
+        let (&place, above) = node.split_last().expect("not the root");
+        self.names.at_mut(above).children.remove(place);
+        self.state.tree.at_mut(above).children.remove(place);
     }
 
     fn insertion_rule(&self, parent: &Tree, neighbour: Option<&Tree>) -> Result<(), Ending> {
@@ -544,8 +665,7 @@ impl<'a> Monitor<'a> {
     fn remove_first_child(&mut self) -> Result<(), Ending> {
         let child = self.first_child().ok_or(Ending::Missing)?;
         self.removal_rule(&child)?;
-        let cursor = &self.state.cursor;
-        self.state.tree.at_mut(cursor).children.remove(0);
+        self.remove(&child);
         Ok(())
     }
 
@@ -553,8 +673,7 @@ impl<'a> Monitor<'a> {
     fn remove_right_sibling(&mut self) -> Result<(), Ending> {
         let sibling = self.right_sibling().ok_or(Ending::Missing)?;
         self.removal_rule(&sibling)?;
-        let (place, above) = sibling.split_last().expect("not the root");
-        self.state.tree.at_mut(above).children.remove(*place);
+        self.remove(&sibling);
         Ok(())
     }
 

@@ -249,7 +249,17 @@ fn remove_variable(job: &mut Job, index: usize) {
 
 fn simpler_records(record: &Record) -> Vec<Record> {
     let mut simpler = vec![record.plain()];
-    let opens = matches!(record.command, command::IF | command::WHILE);
+    let opens = matches!(
+        record.command,
+        command::IF | command::WHILE | command::IF_BACK
+    );
+    // An if that comes back is simpler as an if.
+    if record.command == command::IF_BACK {
+        simpler.push(Record {
+            command: command::IF,
+            ..*record
+        });
+    }
     if !opens && !matches!(record.command, command::ELSE | command::END) {
         simpler.push(Record {
             command: command::NOTHING,
@@ -280,6 +290,23 @@ fn simpler_expressions(record: &Record) -> Vec<Record> {
                 right_kind: 0,
                 right: 0,
                 ..side
+            });
+        }
+    }
+    // The other operand in place of a variable.
+    if record.operator != operator::LEFT && record.left_kind != record.right_kind {
+        if record.left_kind == kind::VARIABLE {
+            simpler.push(Record {
+                left_kind: record.right_kind,
+                left: record.right,
+                ..*record
+            });
+        }
+        if record.right_kind == kind::VARIABLE {
+            simpler.push(Record {
+                right_kind: record.left_kind,
+                right: record.left,
+                ..*record
             });
         }
     }

@@ -142,6 +142,11 @@ pub fn when(guard: impl Into<Expression>) -> Record {
     with(command::IF, 0, guard)
 }
 
+/// Command 17, an if that comes back.
+pub fn come_back(guard: impl Into<Expression>) -> Record {
+    with(command::IF_BACK, 0, guard)
+}
+
 /// Command 3, else.
 pub fn otherwise() -> Record {
     bare(command::ELSE)

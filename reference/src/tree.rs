@@ -56,6 +56,17 @@ impl Tree {
         path.iter().fold(self, |node, &place| &node.children[place])
     }
 
+    /// Whether there is a node at `path`.
+    pub fn stands(&self, path: &[usize]) -> bool {
+        match path.split_first() {
+            None => true,
+            Some((&place, rest)) => {
+                let child = self.children.get(place);
+                child.is_some_and(|child| child.stands(rest))
+            }
+        }
+    }
+
     pub fn at_mut(&mut self, path: &[usize]) -> &mut Tree {
         path.iter()
             .fold(self, |node, &place| &mut node.children[place])

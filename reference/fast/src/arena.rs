@@ -28,6 +28,8 @@ pub struct Arena {
     used: usize,
     /// Head of the first chain of removed nodes.
     free: u16,
+    /// How many nodes of each place were removed while blocks remembered some.
+    removed: [u32; MAX_NODES],
 }
 
 impl Arena {
@@ -37,6 +39,7 @@ impl Arena {
             last: [NONE; MAX_NODES],
             used: 0,
             free: NONE,
+            removed: [0; MAX_NODES],
         }
     }
 
@@ -140,9 +143,38 @@ impl Arena {
         Some(place)
     }
 
+    /// Tells a node from one that stands at its place later.
+    #[inline(always)]
+    pub fn removed(&self, place: u16) -> u32 {
+        self.removed[place as usize % MAX_NODES]
+    }
+
+    /// Counts each node of a subtree as removed; the links above its top are not
+    /// looked at.
+    fn count_removed(&mut self, top: u16) {
+        let mut place = top;
+        loop {
+            self.removed[place as usize % MAX_NODES] += 1;
+            if self.at(place).first != NONE {
+                place = self.at(place).first;
+                continue;
+            }
+            while place != top && self.at(place).right == NONE {
+                place = self.at(place).parent;
+            }
+            if place == top {
+                return;
+            }
+            place = self.at(place).right;
+        }
+    }
+
     /// Removes a subtree that is unlinked already.
     #[inline(always)]
-    fn give(&mut self, top: u16) {
+    fn give(&mut self, top: u16, remembered: bool) {
+        if remembered {
+            self.count_removed(top);
+        }
         let free = self.free;
         let node = self.at_mut(top);
         node.parent = free;
@@ -189,19 +221,20 @@ impl Arena {
         true
     }
 
-    /// `first` is the first child of `parent`.
+    /// `first` is the first child of `parent`; `remembered` where a block may
+    /// remember a node.
     #[inline(always)]
-    pub fn remove_first(&mut self, parent: u16, first: u16) {
+    pub fn remove_first(&mut self, parent: u16, first: u16, remembered: bool) {
         let right = self.at(first).right;
         let above = self.at_mut(parent);
         above.first = right;
         above.children -= 1;
-        self.give(first);
+        self.give(first, remembered);
     }
 
     /// `right` is the right sibling of `left`.
     #[inline(always)]
-    pub fn remove_right(&mut self, left: u16, right: u16) {
+    pub fn remove_right(&mut self, left: u16, right: u16, remembered: bool) {
         let Node {
             parent,
             right: next,
@@ -209,7 +242,7 @@ impl Arena {
         } = *self.at(right);
         self.at_mut(left).right = next;
         self.at_mut(parent).children -= 1;
-        self.give(right);
+        self.give(right, remembered);
     }
 
     /// Each node with its depth, a parent before its children.

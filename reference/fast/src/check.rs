@@ -5,7 +5,7 @@ use crate::arena::{Node, NONE};
 use crate::{ending, Answer, Buffers, Op, Variable};
 use crate::{MAX_BLOCKS, MAX_BYTES, MAX_NODES, MAX_RECORDS, MAX_VARIABLES};
 
-/// Codes of decoded records: the paper's command numbers, with the two kinds of
+/// Codes of decoded records: the paper's command numbers, with the three kinds of
 /// end apart.
 pub mod code {
     pub const NOTHING: u8 = 0;
@@ -25,8 +25,10 @@ pub mod code {
     pub const REMOVE_RIGHT_SIBLING: u8 = 14;
     pub const SET_VALUE: u8 = 15;
     pub const COVER: u8 = 16;
-    pub const END_WHILE: u8 = 17;
-    pub const FINISH: u8 = 18;
+    pub const IF_BACK: u8 = 17;
+    pub const END_WHILE: u8 = 18;
+    pub const END_BACK: u8 = 19;
+    pub const FINISH: u8 = 20;
 }
 
 pub mod kind {
@@ -51,7 +53,7 @@ const VARIABLE_TARGET: u8 = 2;
 const MARK_TARGET: u8 = 4;
 
 /// "Commands 1, 2, 4, 6, 11, 12 and 15 read an expression."
-const READS: [u8; 17] = [
+const READS: [u8; 18] = [
     0,
     EXPRESSION | VARIABLE_TARGET,
     EXPRESSION,
@@ -69,6 +71,7 @@ const READS: [u8; 17] = [
     0,
     EXPRESSION,
     0,
+    EXPRESSION,
 ];
 
 /// Fills `buffers` from an accepted job. Where the job is turned back they
@@ -175,6 +178,7 @@ fn check_nodes(buffers: &mut Buffers, section: &[u8]) -> Result<Option<usize>, A
 struct Open {
     opening: u16,
     is_if: bool,
+    comes_back: bool,
     otherwise: Option<u16>,
 }
 
@@ -202,13 +206,14 @@ pub fn check_script(
         }
         if fault.is_none() {
             match op.code {
-                code::IF | code::WHILE => {
+                code::IF | code::IF_BACK | code::WHILE => {
                     if depth == MAX_BLOCKS {
                         fault = Some(index);
                     } else {
                         open[depth] = Open {
                             opening: index as u16,
-                            is_if: op.code == code::IF,
+                            is_if: op.code != code::WHILE,
+                            comes_back: op.code == code::IF_BACK,
                             otherwise: None,
                         };
                         depth += 1;
@@ -256,6 +261,9 @@ fn close(ops: &mut [Op; MAX_RECORDS + 1], block: Open, end: u16, op: &mut Op) {
         op.code = code::END_WHILE;
         op.jump = block.opening;
         return;
+    }
+    if block.comes_back {
+        op.code = code::END_BACK;
     }
     match block.otherwise {
         None => opening.jump = end,

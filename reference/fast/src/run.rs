@@ -3,7 +3,7 @@
 use crate::arena::{Arena, Node, NONE};
 use crate::check::{check, code, kind, operator};
 use crate::{ending, Answer, Buffers, Limits, Op, Variable};
-use crate::{MAX_BUDGET, MAX_NODES, MAX_VARIABLES};
+use crate::{MAX_BLOCKS, MAX_BUDGET, MAX_NODES, MAX_VARIABLES};
 
 /// The answer for a job; its lines go to `area`, 4 little-endian bytes each.
 /// What is left in `buffers` after a run is the last state.
@@ -97,6 +97,15 @@ fn new_node(mark: u8, value: i32, e: u8, c: u8) -> Node {
     }
 }
 
+/// What an if that comes back remembers: its node's place and how many were
+/// removed there so far, and the cursor level.
+#[derive(Clone, Copy, Default)]
+struct Back {
+    place: u16,
+    level: u8,
+    removed: u32,
+}
+
 /// The steps of a script that passed its checks, over what `buffers` hold.
 pub fn steps(buffers: &mut Buffers, budget: u32, places: usize, area: &mut [u8]) -> Answer {
     let Buffers {
@@ -110,6 +119,9 @@ pub fn steps(buffers: &mut Buffers, budget: u32, places: usize, area: &mut [u8])
     // The guards of the open blocks, a bit each, the innermost lowest: at most
     // sixteen.
     let mut guards = 0u32;
+    // What the open blocks remember that come back, the outermost first.
+    let mut backs = [Back::default(); MAX_BLOCKS];
+    let mut back_count = 0usize;
     let mut next = 0usize;
     let mut left = budget;
     let mut lines = 0usize;
@@ -146,6 +158,36 @@ pub fn steps(buffers: &mut Buffers, budget: u32, places: usize, area: &mut [u8])
                 } else {
                     next + 1
                 };
+            }
+            code::IF_BACK => {
+                let (value, e) = evaluate(op, variables, arena.at(cursor), cursor_level);
+                let Some(value) = value else {
+                    break (ending::OUT_OF_RANGE, next);
+                };
+                guards = guards << 1 | e as u32;
+                backs[back_count % MAX_BLOCKS] = Back {
+                    place: cursor,
+                    level: cursor_level,
+                    removed: arena.removed(cursor),
+                };
+                back_count += 1;
+                cursor_level |= (guards != 0) as u8;
+                next = if value == 0 {
+                    op.jump as usize
+                } else {
+                    next + 1
+                };
+            }
+            code::END_BACK => {
+                let back = backs[(back_count - 1) % MAX_BLOCKS];
+                if arena.removed(back.place) != back.removed {
+                    break (ending::MISSING, next);
+                }
+                back_count -= 1;
+                guards >>= 1;
+                cursor = back.place;
+                cursor_level = back.level;
+                next += 1;
             }
             code::ELSE => next = op.jump as usize,
             code::WHILE => {
@@ -259,7 +301,7 @@ pub fn steps(buffers: &mut Buffers, budget: u32, places: usize, area: &mut [u8])
                 if c > arena.at(first).existence {
                     break (ending::RULE, next);
                 }
-                arena.remove_first(cursor, first);
+                arena.remove_first(cursor, first, back_count > 0);
                 next += 1;
             }
             code::REMOVE_RIGHT_SIBLING => {
@@ -270,7 +312,7 @@ pub fn steps(buffers: &mut Buffers, budget: u32, places: usize, area: &mut [u8])
                 if c > arena.at(right).existence {
                     break (ending::RULE, next);
                 }
-                arena.remove_right(cursor, right);
+                arena.remove_right(cursor, right, back_count > 0);
                 next += 1;
             }
             code::SET_VALUE => {

@@ -159,7 +159,8 @@ fn damage_blocks(random: &mut Random, job: &mut Job) {
 /// 15 to 18 blocks, one inside the other.
 fn nested(random: &mut Random) -> Vec<Record> {
     let depth = random.between(MAX_BLOCKS - 1, MAX_BLOCKS + 2);
-    let openings = (0..depth).map(|_| bare(random.pick(&[command::IF, command::WHILE])));
+    let openings =
+        (0..depth).map(|_| bare(random.pick(&[command::IF, command::WHILE, command::IF_BACK])));
     let mut script: Vec<Record> = openings.collect();
     script.extend(vec![bare(command::END); depth]);
     script

@@ -123,9 +123,10 @@ fn trial_end(
 
 /// None, or one by which more scripts finish.
 fn likely_mistake(random: &mut Random) -> Mistake {
-    match random.below(5) {
+    match random.below(6) {
         0 => Mistake::None,
         1..=3 => random.pick(&Mistake::LEAKING),
+        4 => Mistake::BackGoesOn,
         _ => Mistake::NoRule(random.pick(&RULED_COMMANDS)),
     }
 }

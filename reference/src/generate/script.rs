@@ -10,7 +10,13 @@ use crate::source::*;
 use crate::{join, Level, HOUSE, PUBLIC};
 
 /// Commands that open, turn or close a block.
-pub const BLOCK_COMMANDS: [u8; 4] = [command::IF, command::ELSE, command::WHILE, command::END];
+pub const BLOCK_COMMANDS: [u8; 5] = [
+    command::IF,
+    command::ELSE,
+    command::WHILE,
+    command::END,
+    command::IF_BACK,
+];
 
 /// No statement starts beyond this length.
 const ROOM: usize = MAX_RECORDS - 24;
@@ -76,8 +82,12 @@ pub fn probing(random: &mut Random, levels: &[Level], accept: Accept) -> Vec<Rec
         for _ in 0..writer.random.below(2) {
             writer.statement(1, PUBLIC);
         }
-        writer.excursion(PUBLIC);
-        writer.show();
+        if writer.random.chance(1, 8) {
+            writer.returned();
+        } else {
+            writer.excursion(PUBLIC);
+            writer.show();
+        }
     }
     writer.script
 }
@@ -126,6 +136,8 @@ struct Taste {
     moves: [usize; 4],
     /// The commands 11 to 15.
     changes: [usize; 5],
+    /// Out of six branches, those that come back.
+    returning: usize,
     /// Out of ten expressions, those that read house variables where a rule
     /// may forbid it.
     daring: usize,
@@ -143,6 +155,7 @@ impl Taste {
                 [1, 4, 1, 4, 1],
                 [1, 1, 4, 4, 2],
             ]),
+            returning: random.pick(&[0, 1, 4]),
             daring: random.pick(&[0, 1, 4]),
         }
     }
@@ -206,14 +219,15 @@ impl<'a> Writer<'a> {
         }
         let choice = match depth {
             0 => 0,
-            _ => self.random.weighted(&[14, 4, 3, 1, 2]),
+            _ => self.random.weighted(&[14, 4, 3, 1, 2, 1]),
         };
         match choice {
             0 => self.put_some(&mut |writer| writer.simple(context)),
             1 => self.branch(depth, context),
             2 => self.counted_loop(depth, context),
             3 => drop(self.put(&[repeat(children()), remove_first_child(), end()])),
-            _ => self.excursion(context),
+            4 => self.excursion(context),
+            _ => self.sawn_off(context),
         }
     }
 
@@ -229,15 +243,15 @@ impl<'a> Writer<'a> {
     }
 
     fn branch_with(&mut self, context: Level, body: &mut dyn FnMut(&mut Self, Level)) {
-        let (guard, level) = self.guard();
+        let (opening, level) = self.opening();
         let inner = join(context, level);
         if self.random.chance(1, 2) {
-            if self.put(&[when(guard), end()]) {
+            if self.put(&[opening, end()]) {
                 self.place -= 1;
                 body(self, inner);
                 self.place += 1;
             }
-        } else if self.put(&[when(guard), otherwise(), end()]) {
+        } else if self.put(&[opening, otherwise(), end()]) {
             self.place -= 2;
             body(self, inner);
             self.place += 1;
@@ -246,13 +260,49 @@ impl<'a> Writer<'a> {
         }
     }
 
+    /// The if of a branch, which comes back or not, and the part of its guard's
+    /// level that the text shows.
+    fn opening(&mut self) -> (Record, Level) {
+        let (guard, level) = self.guard();
+        match self.random.chance(self.taste.returning, 6) {
+            true => (come_back(guard), level),
+            false => (when(guard), level),
+        }
+    }
+
+    /// An if that comes back to where much has changed meanwhile: its node has
+    /// other neighbours, or was removed, itself or with one above it, and often
+    /// another stands in its place.
+    fn sawn_off(&mut self, context: Level) {
+        for _ in 0..self.random.between(1, 3) {
+            let down = self.random.pick(&[first_child(), right_sibling()]);
+            self.put(&[down]);
+        }
+        let (guard, level) = self.guard();
+        if !self.put(&[come_back(guard), end()]) {
+            return;
+        }
+        self.place -= 1;
+        for _ in 0..self.random.between(1, 2) {
+            self.put(&[up()]);
+        }
+        for _ in 0..self.random.between(1, 3) {
+            match self.random.chance(1, 2) {
+                true => drop(self.put(&[remove_first_child()])),
+                false => self.put_some(&mut Self::some_change),
+            }
+        }
+        self.body(0, join(context, level));
+        self.place += 1;
+    }
+
     /// `depth` blocks, one inside the other.
     fn nest(&mut self, depth: usize, context: Level) {
         if depth == 0 {
             return self.body(0, context);
         }
-        let (guard, level) = self.guard();
-        if self.put(&[when(guard), end()]) {
+        let (opening, level) = self.opening();
+        if self.put(&[opening, end()]) {
             self.place -= 1;
             self.nest(depth - 1, join(context, level));
             self.place += 1;
@@ -334,6 +384,19 @@ impl<'a> Writer<'a> {
                 _ => self.put_some(&mut Self::some_count),
             }
         }
+    }
+
+    /// A move under cover by a guard, and a look round after an if that came back
+    /// to where the cursor is then.
+    fn returned(&mut self) {
+        let (guard, _) = self.guard();
+        if self.put(&[cover(), when(guard), end()]) {
+            self.place -= 1;
+            self.put_some(&mut Self::some_move);
+            self.place += 1;
+        }
+        self.put(&[come_back(1), end()]);
+        self.look();
     }
 
     /// Prints what is public at the root and on a way down from it.

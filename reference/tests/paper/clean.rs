@@ -103,7 +103,7 @@ fn order_of_the_checks() {
     assert_eq!(refusal(&job), (12, 0));
     job.variables[1].spare = [0, 7, 0];
     assert_eq!(refusal(&job), (12, 1));
-    job.script[2].command = 17;
+    job.script[2].command = 18;
     assert_eq!(refusal(&job), (7, 2));
     job.nodes[1].content = 2;
     assert_eq!(refusal(&job), (6, 1));

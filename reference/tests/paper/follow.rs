@@ -61,7 +61,7 @@ fn fault(change: impl Fn(&mut Vec<Lent>)) -> Fault {
     change(&mut table);
     let fault = table::tree(&table, Mistake::None).expect_err("a fault");
     // Before a 7, an 8, a 9 and a 10.
-    let body = section(&[bare(17), end()]);
+    let body = section(&[bare(18), end()]);
     assert_eq!(answer_of((&table, &VARIABLES), &body, 0), (11, 0));
     fault
 }
@@ -194,7 +194,7 @@ fn what_is_not_reached_is_free() {
 #[test]
 fn order_of_the_numbers() {
     let mut table = vec![ROOT; 513];
-    let wrong = section(&[end(), bare(17)]);
+    let wrong = section(&[end(), bare(18)]);
     let spare = section(&[
         end(),
         Record {
