@@ -63,7 +63,7 @@ enum {
     PORTAL_BAD_VARIABLE_LEVEL = 4,  /* a variable's level is above 1 */
     PORTAL_BAD_PARENT = 5,          /* a node's parent does not come before it, or record 0 is no root */
     PORTAL_BAD_TREE = 6,            /* a node's level is above 1, or a rule of the tree is broken */
-    PORTAL_BAD_FIELD = 7,           /* a command above 16, or a field that it reads is out of range */
+    PORTAL_BAD_FIELD = 7,           /* a command above 17, or a field that it reads is out of range */
     PORTAL_BAD_BLOCKS = 8,          /* if, else, while and end do not match, or more than 16 of them are nested */
     PORTAL_BAD_BUDGET = 9,          /* the budget is not 1 to 1,000,000 */
     PORTAL_BAD_BUFFERS = 10,        /* more than 512 places; to portal_start also too few places or variables. portal_run has room for every job */

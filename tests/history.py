@@ -102,7 +102,7 @@ history(
 )
 
 # Turned away in the order 11, 7, 12, 8, 9, 10, and nothing has changed. A section has whole records, at most 1,024.
-STRANGE = record(17)
+STRANGE = record(18)
 history(
     "turned away",
     FAMILY_JOB,

@@ -49,7 +49,7 @@ class Dissected(unittest.TestCase):
 class Tables(unittest.TestCase):
     def test_commands(self):
         rows = re.findall(r"^\| (\d+) \| (`[^`]+`|the end of a block) \| (variable|mark|) ?\| (read|) ?\|$", TEXT, re.M)
-        self.assertEqual([int(row[0]) for row in rows], list(range(17)))
+        self.assertEqual([int(row[0]) for row in rows], list(range(18)))
         for (_, words, target, expression), row in zip(rows, job.COMMANDS):
             self.assertEqual((target, bool(expression)), (row.target, row.expression))
             self.assertTrue(row.words in words or row.words == "end")

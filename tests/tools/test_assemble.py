@@ -93,6 +93,13 @@ class Bytes(unittest.TestCase):
     def test_the_ends_of_32_bits(self):
         self.assertEqual(script_of(["print -2147483648 + 2147483647"]), record(6, 0, 1, (0, -2**31), (0, 2**31 - 1)))
 
+    def test_an_if_that_comes_back(self):
+        data = assembled(VARIABLES + TREE + "script\n  if a < h and come back\n    up\n  else\n    root\n")
+        script = data[-8 - 5 * 16:-8]
+        opening = bytes((17, 0, 4, 1, 1, 0, 0, 0)) + bytes(4) + (1).to_bytes(4, "little")
+        self.assertEqual([script[at:at + 16] for at in range(0, len(script), 16)],
+                         [opening] + [bytes((command,)) + bytes(15) for command in (8, 3, 7, 5)])
+
     def test_comments_blank_lines_and_indentation(self):
         plain = assembled(VARIABLES + TREE + "script\n  if a\n    up\n  root\n")
         loose = assembled("# a job\n\n" + "variables # two\n a=0\n\n h house=1\ntree\n      resort = 10\n            slope = 3 # snow\n"

@@ -227,6 +227,8 @@ class Account:
 
     def absent(self):
         node, command = self.run.cursor, self.record.command
+        if command == END:
+            return self.not_back()
         name = node.name
         if command in (FIRST_CHILD, REMOVE_FIRST_CHILD):
             missing = f"{name} has no child."
@@ -241,6 +243,15 @@ class Account:
             missing = f"{name} has no sibling to its right."
             self.advice.append("Count on the way: put `children` of the parent into a variable, and go right one time less.")
         self.rule = f"The cursor stands on {name}. {missing}"
+        return None
+
+    def not_back(self):
+        """The end of an if that comes back, whose node was removed."""
+        remembered = self.run.remembered[-1].node
+        line = self.line_of(self.run.blocks[-1][1])
+        self.rule = (f"The block of line {line} began on {remembered.name}, where its end would bring the cursor back. That node was removed "
+                     "inside the block, by itself or with a node above it.")
+        self.advice.append("Remove it after the block, or begin the block on a node that stays.")
 
     def table(self):
         self.rule = f"The tree has {self.run.live} nodes, and there is room for {self.run.limits.places}."

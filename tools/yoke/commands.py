@@ -9,6 +9,7 @@ class Row(NamedTuple):
     target: str = ""  # "variable" or "mark" where the target is read
     expression: bool = False
     opens: str = ""  # "if" or "while" where it opens a block
+    behind: str = ""  # its words behind the expression
 
 
 COMMANDS = (
@@ -29,10 +30,11 @@ COMMANDS = (
     Row("remove right sibling"),
     Row("set", "", True),
     Row("cover"),
+    Row("if", "", True, "if", "and come back"),
 )
 (NOTHING, ASSIGN, IF, ELSE, WHILE, END, PRINT, ROOT, UP, FIRST_CHILD, RIGHT_SIBLING,
  NEW_FIRST_CHILD, NEW_RIGHT_SIBLING, REMOVE_FIRST_CHILD, REMOVE_RIGHT_SIBLING,
- SET, COVER) = range(len(COMMANDS))
+ SET, COVER, IF_BACK) = range(len(COMMANDS))
 
 MOVES = (ROOT, UP, FIRST_CHILD, RIGHT_SIBLING, COVER)
 INSERTIONS = (NEW_FIRST_CHILD, NEW_RIGHT_SIBLING)

@@ -33,7 +33,8 @@ def record_text(record, variables):
     if record.command in INSERTIONS:
         marks = (" content house" if record.target & MARK_CONTENT else "") + (" list house" if record.target & MARK_LIST else "")
         return f"{words}{marks}: {expression}"
-    return f"{words} {expression}"
+    behind = COMMANDS[record.command].behind
+    return f"{words} {expression}" + (f" {behind}" if behind else "")
 
 
 def levels_text(existence, content, below):

@@ -25,6 +25,8 @@ statements:
   print EXPRESSION              put a line on the public board
   set EXPRESSION                give the node under the cursor a value
   if EXPRESSION, else           the lines below, further in; 0 means no
+  if EXPRESSION and come back   the same; at the block's end the cursor is
+                                where it was, at the level that it had
   while EXPRESSION              again and again until it is 0
   empty                         the only line of a block that has none
   root, up, first child, right sibling

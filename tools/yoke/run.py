@@ -4,7 +4,7 @@ from typing import NamedTuple
 
 from .commands import (
     ALONE, ASSIGN, COMMANDS, CONSTANT, COVER, DIFFERENCE, ELSE, END, EQUAL, FIRST_CHILD, LESS, MARK_CONTENT, MARK_LIST, MEAN,
-    MOVES, NAMED, NEW_FIRST_CHILD, PRINT, REMOVALS, REMOVE_FIRST_CHILD, ROOT, SET, SUM, UP, VALUE, WHILE)
+    IF_BACK, MOVES, NAMED, NEW_FIRST_CHILD, PRINT, REMOVALS, REMOVE_FIRST_CHILD, ROOT, SET, SUM, UP, VALUE, WHILE)
 from .encoding import Node, signed
 from .endings import ABSENT, BELOW, FINISHED, FLOW, FULL_BOARD, FULL_TABLE, OVERFLOW, USED_UP
 from .limits import HOUSE, PUBLIC, Limits
@@ -85,6 +85,14 @@ def told(variables, rows):
     return Standing([value for _, value in variables], grow(nodes, [row.name for row in rows]))
 
 
+class Remembered(NamedTuple):
+    """What an if that comes back remembers: the working node, the cursor level, and the record that made it house."""
+
+    node: Tree
+    level: int
+    raised_by: int | None
+
+
 class Stopped(Exception):
     def __init__(self, number):
         super().__init__(number)
@@ -109,6 +117,7 @@ class Run:
         self.cursor_level = PUBLIC
         self.raised_by = None  # the record that made the cursor level house
         self.blocks = []  # the level and the record of each open guard
+        self.remembered = []  # for each of them what it remembers, if it comes back
         self.at = self.steps = 0
         self.ending = FINISHED
         self.board = []
@@ -196,12 +205,12 @@ class Run:
             value, level = self.evaluate(record)
             self.fits(value)
             if value or command != WHILE:
-                self.blocks.append((level, self.at))
+                self.open_block(level, command == IF_BACK)
             return self.at + 1 if value else self.partner[self.at]
         if command == ELSE:
             return self.partner[self.at]
         if command == END:
-            self.blocks.pop()
+            self.close_block()
             return self.partner[self.at]
         if COMMANDS[command].expression:
             self.store(record)
@@ -210,6 +219,27 @@ class Run:
         elif command in REMOVALS:
             self.remove(command)
         return self.at + 1
+
+    def open_block(self, level, comes_back):
+        self.blocks.append((level, self.at))
+        self.remembered.append(Remembered(self.cursor, self.cursor_level, self.raised_by) if comes_back else None)
+        if comes_back and self.context() > self.cursor_level:
+            self.cursor_level, self.raised_by = self.context(), self.at
+
+    def close_block(self):
+        remembered = self.remembered[-1]
+        if remembered:
+            if not self.stands(remembered.node):
+                raise Stopped(ABSENT)
+            self.cursor, self.cursor_level, self.raised_by = remembered
+        self.blocks.pop()
+        self.remembered.pop()
+
+    def stands(self, node):
+        """Whether a node is in the tree: it and all above it hang where they hung."""
+        while node.parent and any(child is node for child in node.parent.children):
+            node = node.parent
+        return node is self.root
 
     def store(self, record):
         value, level = self.evaluate(record)

@@ -2,13 +2,14 @@
 
 import difflib
 
-from .commands import ALONE, ASSIGN, CHILDREN, COMMANDS, CONSTANT, ELSE, END, INFIX, MARK_CONTENT, MARK_LIST, MEAN, NAMED, VALUE
+from .commands import (
+    ALONE, ASSIGN, CHILDREN, COMMANDS, CONSTANT, ELSE, END, IF, IF_BACK, INFIX, MARK_CONTENT, MARK_LIST, MEAN, NAMED, VALUE)
 from .encoding import Record
 from .errors import SourceError, word
 from .words import Words
 
 # The words of each command that is written as a line of its own.
-PHRASES = {tuple(row.words.split()): number for number, row in enumerate(COMMANDS) if number not in (ASSIGN, ELSE, END)}
+PHRASES = {tuple(row.words.split()): number for number, row in enumerate(COMMANDS) if number not in (ASSIGN, ELSE, END, IF_BACK)}
 STATEMENTS = tuple(dict.fromkeys(phrase[0] for phrase in PHRASES)) + ("else", "end")
 EMPTY = "empty"  # the one line of a block that has no records
 
@@ -131,7 +132,17 @@ class Script:
         row = COMMANDS[command]
         if not row.expression:
             return Record(command)
-        return self.expression(words, command, self.mark(words) if row.target else 0)
+        record = self.expression(words, command, self.mark(words) if row.target else 0)
+        return self.coming_back(words, record) if command == IF else record
+
+    def coming_back(self, words, record):
+        """The if, or the one that comes back."""
+        behind = COMMANDS[IF_BACK].behind.split()
+        if not words.take(behind[0]):
+            return record
+        for each in behind[1:]:
+            words.need(each)
+        return record._replace(command=IF_BACK)
 
     def command(self, words):
         """The command whose words stand here."""

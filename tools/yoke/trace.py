@@ -1,6 +1,6 @@
 """A run, a line for each step."""
 
-from .commands import ASSIGN, COMMANDS, ELSE, END, INSERTIONS, MOVES, PRINT, REMOVALS, SET
+from .commands import ASSIGN, COMMANDS, ELSE, END, IF_BACK, INSERTIONS, MOVES, PRINT, REMOVALS, SET
 from .endings import ending_text
 from .limits import LEVELS
 from .listing import record_text
@@ -21,14 +21,15 @@ def trace(run):
         before = (run.steps + 1, names.record_places[at].line, at, record_text(record, names.variables),
                   LEVELS[run.context()], cursor.name, LEVELS[run.cursor_level])
         removed = run.target(record.command) if record.command in REMOVALS else None
+        back = run.remembered[-1] if record.command == END else None
         went_on = run.turn()
-        change = changed(run, at, record, cursor, removed) if went_on else f"stopped with {ending_text(run.ending)}"
+        change = changed(run, at, record, cursor, removed, back) if went_on else f"stopped with {ending_text(run.ending)}"
         yield form.format(*(before if went_on else ("-",) + before[1:]), change).rstrip()
         if not went_on:
             return
 
 
-def changed(run, at, record, cursor, removed):
+def changed(run, at, record, cursor, removed, back):
     """What the step did that was carried out just now."""
     names, command = run.source.names, record.command
     if command == ASSIGN:
@@ -45,6 +46,11 @@ def changed(run, at, record, cursor, removed):
     if command in REMOVALS:
         below = len(drawn_tree(removed)) - 1
         return f"{removed.name} is gone" + (f", with {below} below it" if below else "")
+    if command == IF_BACK:
+        went = jump(run, at)
+        return f"{cursor.name} is remembered, {LEVELS[run.remembered[-1].level]}; the cursor level is {LEVELS[run.cursor_level]}; {went}"
+    if back:
+        return f"back to {run.cursor.name}, {LEVELS[run.cursor_level]}"
     if COMMANDS[command].opens or command in (ELSE, END):
         return jump(run, at)
     return ""
