@@ -20,14 +20,14 @@ use Rattle.rules.proofs.Tests.{both, Test, holds, fails, test}
 use Rattle.rules.proofs.Checks.{passed-one}
 use Rattle.rules.proofs.Noninterference as Rejected
 use Rattle.rules.proofs.Noninterference.{accepted-rest, bytes-accepted, runs}
-use Rattle.rules.proofs.Accepted.{right, jumps-agree}
+use Rattle.rules.proofs.Accepted.{right}
 use Rattle.job.specs.declared.sections.Layout.{Layout}
 use Rattle.job.specs.declared.checks.Checked.{Checked}
 use Rattle.job.specs.declared.checks.Checked.the-variants.{Accepted, Refused}
 use Rattle.job.specs.Layout.{layoutOf}
-use Rattle.job.specs.Plan.{entry, Whole}
+use Rattle.job.specs.Plan.{Whole}
 use Rattle.job.specs.Answer.{answer}
-use Rattle.job.proofs.Answers.{is-accepted, is-refused}
+use Rattle.job.proofs.Answers.{is-accepted, is-refused, script-plan}
 use Rattle.table.specs.Cells.{cellSize}
 use Rattle.monitor.specs.declared.entry.Outcome.{Outcome}
 use Rattle.monitor.specs.declared.entry.Outcome.the-variants as Monitor
@@ -141,16 +141,12 @@ module _ (b : List ℕ) (budget places room : ℕ) (p p′ : List ℕ) (x : Slic
     unfolding script layoutOf
     begun room-for =
         let r = right b bytes in
-        let w = a .whole bytes in
+        let w = script-plan b p p′ r (a .whole bytes) in
         rw (accepts .1)
         (record {
           accepted = bytes;
           layout = refl;
-          planned =
-              record {
-                each = λ k h. w .each k h ∙ ap (entry (code b (scriptAt b) k)) (jumps-agree b r k h);
-                last = w .last;
-              };
+          planned = record { each = w .each; last = w .last };
           spend = within;
           words = omega (arith, large .few, room-for);
           few = large .few;

@@ -2,7 +2,7 @@
 -- Assumes nothing.
 use mathlib.Core.Path.{_≡_, refl, sym, _∙_, ap, subst}
 use mathlib.Core.Bool.{Bool, true, false, cond}
-use mathlib.Core.List.{List}
+use mathlib.Core.List.{List, [], _∷_}
 use Prim.Native.Nat.{ℕ, zero, suc, _+_, _-_, _*_, _/_, _^_, _<_, _≤_}
 use native.Mathlib.Omega.{arith}
 use lib.ListN.{length, drop}
@@ -13,7 +13,7 @@ use borrow.Author.Tests.{lt-ltb, le-ltb, eq-eqb, eqb-true, ltb-true, ltb-false}
 use Rattle.rules.specs.Job.{scriptOf}
 use Rattle.rules.specs.Script.{Command, act}
 use Rattle.rules.specs.Run as Rules
-use Rattle.rules.specs.Run.{State, Buffers, Result, next, stop, Stop, spent, stopNumber, Ending, finished, stopped, Ended, onward, carried, step, run}
+use Rattle.rules.specs.Run.{State, Block, Buffers, Result, next, stop, Stop, spent, stopNumber, Ending, finished, stopped, Ended, onward, leaveBlock, carried, step, run}
 use Rattle.rules.proofs.Tests.{Test, holds, fails, test}
 use Rattle.rules.proofs.Runs.{run-spent, run-over, run-next, run-stop}
 use Rattle.rules.proofs.Results.{Good, good-given, good-next}
@@ -47,18 +47,24 @@ module _ (lent : Buffers) (s : State) where
   abbrev Counts : State → Type 0
   Counts s′ = s′ .steps ≡ suc (s .steps)
 
-  counts-action : (r : Result Rules.Memory) → Good Counts (onward s r)
+  counts-action : (bs : List Block) (i : ℕ) (r : Result Rules.Memory) → Good Counts (onward s bs i r)
   unfolding onward Rules.stepped
-  counts-action (next m) = refl
-  counts-action (stop k) = tt
+  counts-action bs i (next m) = refl
+  counts-action bs i (stop k) = tt
+
+  counts-leave : (j : ℕ) (bs : List Block) → Good Counts (leaveBlock s j bs)
+  unfolding leaveBlock Rules.stepped
+  counts-leave j [] = refl
+  counts-leave j (b ∷ bs) = counts-action bs j _
 
   counts-command : (j : ℕ) (c : Command) → Good Counts (carried s lent j c)
-  unfolding carried Rules.stepped Rules.enterIf Rules.enterWhile
-  counts-command j (act a) = counts-action _
+  unfolding carried Rules.stepped Rules.enterIf Rules.enterWhile Rules.enterBack
+  counts-command j (act a) = counts-action _ _ _
   counts-command j (Command.if e) = good-given Counts _ _ (λ z. refl)
   counts-command j (Command.while e) = good-given Counts _ _ (λ z. refl)
+  counts-command j (Command.ifBack e) = good-given Counts _ _ (λ z. refl)
   counts-command j Command.else = refl
-  counts-command j Command.end = refl
+  counts-command j Command.end = counts-leave j (s .blocks)
 
   counts : (cs : List Command) → Good Counts (step lent cs s)
   unfolding step
@@ -78,7 +84,7 @@ module _ (h : Held) (sc : Script h) where
   over lent s i e l = rw (e, listed-length _ (h .records) 0) (le-ltb i (h .records) l)
 
   -- nothing was done yet
-  pub starts : {x : Slices} {r : Running} → Safe h x r → Reached h x r x r
+  pub starts : {x : Slices} {ks : List ℕ} {r : Running} → Safe h x ks r → Reached h x ks r x ks r
   starts sf =
       record {
         safe = sf;
@@ -89,9 +95,9 @@ module _ (h : Held) (sc : Script h) where
       }
 
   -- the script is over
-  finishes : (x : Slices) (r : Running) → h .records ≤ r .at → Runs h x x r (stepped ended r)
+  finishes : (x : Slices) (ks : List ℕ) (r : Running) → h .records ≤ r .at → Runs h x x ks ks r (stepped ended r)
   unfolding codeOf
-  finishes x r o =
+  finishes x ks r o =
       record {
         early = omega arith;
         kept = kept-refl;
@@ -100,26 +106,26 @@ module _ (h : Held) (sc : Script h) where
       }
 
   -- the budget is used up
-  spends : (x : Slices) (r : Running) → r .left ≡ 0 → r .at < h .records → Runs h x x r (stepped 25 r)
+  spends : (x : Slices) (ks : List ℕ) (r : Running) → r .left ≡ 0 → r .at < h .records → Runs h x x ks ks r (stepped 25 r)
   unfolding codeOf stopNumber
-  spends x r z o =
+  spends x ks r z o =
       record {
         early = omega arith;
         kept = kept-refl;
         runs = λ lent s l v st.
-            subst (Ran h x (stepped 25 r) (s .steps + r .left))
+            subst (Ran h x ks (stepped 25 r) (s .steps + r .left))
             (sym (ap (λ (k : ℕ). run lent (scriptIn h) k s) z ∙ run-spent lent (scriptIn h) s (more lent s (r .at) (st .at) o)))
             (record { ending = refl; last = st; steps = refl });
       }
 
   -- all steps are made, and the script may be over too
-  stands-still : (x : Slices) (r : Running) → r .left ≡ 0 → Runs h x x r (stepped (overAt (r .at) (h .records)) r)
+  stands-still : (x : Slices) (ks : List ℕ) (r : Running) → r .left ≡ 0 → Runs h x x ks ks r (stepped (overAt (r .at) (h .records)) r)
   unfolding overAt
-  stands-still x r z = pick (test (ltb (r .at) (h .records)))
+  stands-still x ks r z = pick (test (ltb (r .at) (h .records)))
     where
-      pick : Test (ltb (r .at) (h .records)) → Runs h x x r (stepped (overAt (r .at) (h .records)) r)
-      pick (holds e) = rw e (spends x r z (ltb-true (r .at) (h .records) e))
-      pick (fails e) = rw e (finishes x r (ltb-false (r .at) (h .records) e))
+      pick : Test (ltb (r .at) (h .records)) → Runs h x x ks ks r (stepped (overAt (r .at) (h .records)) r)
+      pick (holds e) = rw e (spends x ks r z (ltb-true (r .at) (h .records) e))
+      pick (fails e) = rw e (finishes x ks r (ltb-false (r .at) (h .records) e))
 
   over-stops : (r : Running) → overAt (r .at) (h .records) ≡ 0 → ⊥
   unfolding overAt
@@ -129,8 +135,8 @@ module _ (h : Held) (sc : Script h) where
       pick true e = omega arith
       pick false e = omega arith
 
-  module _ {x x′ : Slices} {r : Running} {a : Stepped} (inside : r .at < h .records) (some : 0 < r .left) (t : Steps h x x′ r a) where
-    module _ (lent : Buffers) (s : State) (l : Lent h x lent) (v : Valid (scriptIn h) s) (st : Stands (h .places) (h .vars) x r s) where
+  module _ {x x′ : Slices} {ks ks′ : List ℕ} {r : Running} {a : Stepped} (inside : r .at < h .records) (some : 0 < r .left) (t : Steps h x x′ ks ks′ r a) where
+    module _ (lent : Buffers) (s : State) (l : Lent h x lent) (v : Valid (scriptIn h) s) (st : Stands (h .places) (h .vars) x ks r s) where
       here : ltb (s .at) (length (scriptIn h)) ≡ true
       here = more lent s (r .at) (st .at) inside
 
@@ -139,11 +145,11 @@ module _ (h : Held) (sc : Script h) where
       one-left = ap (λ (k : ℕ). run lent (scriptIn h) k s) {x = r .left} {y = suc (r .left - 1)} (omega (arith, some))
 
       -- one step on
-      comes : a .stop ≡ 0 → Comes h lent (s .steps + r .left) (run lent (scriptIn h) (r .left) s) x′ (a .running)
+      comes : a .stop ≡ 0 → Comes h lent (s .steps + r .left) (run lent (scriptIn h) (r .left) s) x′ ks′ (a .running)
       comes z = pick (step lent (scriptIn h) s) refl (t .steps lent s l v st)
         where
-          pick : (k : Result State) → step lent (scriptIn h) s ≡ k → Does (Stands (h .places) (h .vars) x′ (a .running)) (a .stop) s k
-              → Comes h lent (s .steps + r .left) (run lent (scriptIn h) (r .left) s) x′ (a .running)
+          pick : (k : Result State) → step lent (scriptIn h) s ≡ k → Does (Stands (h .places) (h .vars) x′ ks′ (a .running)) (a .stop) s k
+              → Comes h lent (s .steps + r .left) (run lent (scriptIn h) (r .left) s) x′ ks′ (a .running)
           pick (next s′) w k =
               let one = good-next (Counts lent s) _ s′ w (counts lent s (scriptIn h)) in
               record {
@@ -156,19 +162,19 @@ module _ (h : Held) (sc : Script h) where
           pick (stop j) w k = absurd (stop-number j (sym (k .does .0) ∙ z))
 
       -- a stop
-      halts : (a .stop ≡ 0 → ⊥) → Ran h x′ a (s .steps + r .left) (run lent (scriptIn h) (r .left) s)
+      halts : (a .stop ≡ 0 → ⊥) → Ran h x′ ks′ a (s .steps + r .left) (run lent (scriptIn h) (r .left) s)
       unfolding codeOf
       halts z = pick (step lent (scriptIn h) s) refl (t .steps lent s l v st)
         where
-          pick : (k : Result State) → step lent (scriptIn h) s ≡ k → Does (Stands (h .places) (h .vars) x′ (a .running)) (a .stop) s k
-              → Ran h x′ a (s .steps + r .left) (run lent (scriptIn h) (r .left) s)
+          pick : (k : Result State) → step lent (scriptIn h) s ≡ k → Does (Stands (h .places) (h .vars) x′ ks′ (a .running)) (a .stop) s k
+              → Ran h x′ ks′ a (s .steps + r .left) (run lent (scriptIn h) (r .left) s)
           pick (next s′) w k = absurd (z (k .does .0))
           pick (stop j) w k =
-              subst (Ran h x′ a (s .steps + r .left)) (sym (one-left ∙ run-stop lent (scriptIn h) (r .left - 1) s j here w))
+              subst (Ran h x′ ks′ a (s .steps + r .left)) (sym (one-left ∙ run-stop lent (scriptIn h) (r .left - 1) s j here w))
               (record { ending = k .does .0; last = k .does .1; steps = ap (λ (n : ℕ). s .steps + n) (t .uncounted z) })
 
     -- a turn that was a step
-    step-turn : Turns h x x′ r a
+    step-turn : Turns h x x′ ks ks′ r a
     step-turn =
         record {
           goes = λ z.
@@ -184,31 +190,32 @@ module _ (h : Held) (sc : Script h) where
         }
 
   -- a turn that has ended the run
-  ended-turn : {x x′ : Slices} {r : Running} {a : Stepped} → (a .stop ≡ 0 → ⊥) → Runs h x x′ r a → Turns h x x′ r a
+  ended-turn : {x x′ : Slices} {ks ks′ : List ℕ} {r : Running} {a : Stepped} → (a .stop ≡ 0 → ⊥) → Runs h x x′ ks ks′ r a → Turns h x x′ ks ks′ r a
   ended-turn n d = record { goes = λ z. absurd (n z); later = λ z. absurd (n z); ends = λ _. d }
 
   -- a turn with no step left
-  pub still-turn : {x : Slices} {r : Running} {a : Stepped} → a ≡ stepped (overAt (r .at) (h .records)) r → r .left ≡ 0 → Turns h x x r a
-  still-turn {x} {r} e o = subst (Turns h x x r) (sym e) (ended-turn (over-stops r) (stands-still x r o))
+  pub still-turn : {x : Slices} {ks : List ℕ} {r : Running} {a : Stepped} → a ≡ stepped (overAt (r .at) (h .records)) r → r .left ≡ 0 → Turns h x x ks ks r a
+  still-turn {x} {ks} {r} e o = subst (Turns h x x ks ks r) (sym e) (ended-turn (over-stops r) (stands-still x ks r o))
 
   -- a turn that carried out what came next
-  pub carried-turn : {x x′ : Slices} {r : Running} {a : Stepped} → 0 < r .left → Carries h x x′ r a → Turns h x x′ r a
-  carried-turn {x} {x′} {r} {a} some c = pick (test (ltb (r .at) (h .records)))
+  pub carried-turn : {x x′ : Slices} {ks ks′ : List ℕ} {r : Running} {a : Stepped} → 0 < r .left → Carries h x x′ ks ks′ r a → Turns h x x′ ks ks′ r a
+  carried-turn {x} {x′} {ks} {ks′} {r} {a} some c = pick (test (ltb (r .at) (h .records)))
     where
-      pick : Test (ltb (r .at) (h .records)) → Turns h x x′ r a
+      pick : Test (ltb (r .at) (h .records)) → Turns h x x′ ks ks′ r a
       pick (holds e) = let i = ltb-true (r .at) (h .records) e in step-turn i some (c .steps i)
       pick (fails e) =
           let o = ltb-false (r .at) (h .records) e in
-          subst (λ z. Turns h x z r a) (sym (c .ends o .0))
-          (subst (Turns h x x r) (sym (c .ends o .1)) (ended-turn (λ z. omega (arith, z)) (finishes x r o)))
+          subst (λ z. Turns h x z ks ks′ r a) (sym (c .ends o .0))
+          (subst (λ z. Turns h x x ks z r a) (sym (c .ends o .1))
+          (subst (Turns h x x ks ks r) (sym (c .ends o .2)) (ended-turn (λ z. omega (arith, z)) (finishes x ks r o))))
 
 -- what was reached from there was reached from the start
-module _ {h : Held} {x₀ x : Slices} {r₀ r : Running} (d : Reached h x₀ r₀ x r) where
+module _ {h : Held} {x₀ x : Slices} {k₀ ks : List ℕ} {r₀ r : Running} (d : Reached h x₀ k₀ r₀ x ks r) where
   lent-now : (lent : Buffers) → Lent h x₀ lent → Lent h x lent
   lent-now lent l = record { places = l .places; board = l .board ∙ ap (λ (n : ℕ). n / 4) (sym (d .board)) }
 
-  pub further : {x′ : Slices} {r′ : Running} → Reached h x r x′ r′ → Reached h x₀ r₀ x′ r′
-  further {x′} {r′} t =
+  pub further : {x′ : Slices} {ks′ : List ℕ} {r′ : Running} → Reached h x ks r x′ ks′ r′ → Reached h x₀ k₀ r₀ x′ ks′ r′
+  further {x′} {ks′} {r′} t =
       record {
         safe = t .safe;
         early = omega (arith, d .early, t .early);
@@ -220,36 +227,38 @@ module _ {h : Held} {x₀ x : Slices} {r₀ r : Running} (d : Reached h x₀ r�
             record { s = k .s; valid = k .valid; stands = k .stands; steps = k .steps ∙ c .steps; rest = c .rest ∙ k .rest };
       }
 
-  pub at-last : {x′ : Slices} {a : Stepped} → Runs h x x′ r a → Runs h x₀ x′ r₀ a
-  at-last {x′} {a} t =
+  pub at-last : {x′ : Slices} {ks′ : List ℕ} {a : Stepped} → Runs h x x′ ks ks′ r a → Runs h x₀ x′ k₀ ks′ r₀ a
+  at-last {x′} {ks′} {a} t =
       record {
         early = omega (arith, d .early, t .early);
         kept = kept-trans (d .kept) (t .kept);
         runs = λ lent s l v st.
             let c = d .comes lent s l v st in
             let k = t .runs lent (c .s) (lent-now lent l) (c .valid) (c .stands) in
-            subst (Ran h x′ a (s .steps + r₀ .left)) (sym (c .rest)) (record { ending = k .ending; last = k .last; steps = k .steps ∙ c .steps });
+            subst (Ran h x′ ks′ a (s .steps + r₀ .left)) (sym (c .rest)) (record { ending = k .ending; last = k .last; steps = k .steps ∙ c .steps });
       }
 
--- a run on its way from x₀ and r₀: where it stands, and how far it has come or how it has ended
-module _ (h : Held) (x₀ : Slices) (r₀ : Running) where
+-- a run on its way from x₀, k₀ and r₀: where it stands, and how far it has come or how it has ended
+module _ (h : Held) (x₀ : Slices) (k₀ : List ℕ) (r₀ : Running) where
   pub record Way : Type 0 where
     pub running : Running
     pub words : List ℕ
     pub values : List ℤ
     pub board : List ℕ
+    pub marks : List ℕ
     pub ending : ℕ
     pub small : ending < 2 ^ 8
     pub long-words : length words ≡ length (x₀ .words)
     pub long-values : length values ≡ length (x₀ .values)
     pub long-board : length board ≡ length (x₀ .board)
-    pub reached : ending ≡ 0 → Reached h x₀ r₀ (slices words (x₀ .levels) values board) running
-    pub over : (ending ≡ 0 → ⊥) → Runs h x₀ (slices words (x₀ .levels) values board) r₀ (stepped ending running)
+    pub long-marks : length marks ≡ length k₀
+    pub reached : ending ≡ 0 → Reached h x₀ k₀ r₀ (slices words (x₀ .levels) values board) marks running
+    pub over : (ending ≡ 0 → ⊥) → Runs h x₀ (slices words (x₀ .levels) values board) k₀ marks r₀ (stepped ending running)
 
   abbrev pub slicesAt : Way → Slices
   slicesAt w = slices (w .words) (x₀ .levels) (w .values) (w .board)
 
-  module _ (p : Startable h x₀ r₀) where
+  module _ (p : Startable h x₀ k₀ r₀) where
     -- at its start
     abbrev pub outset : Way
     outset =
@@ -258,33 +267,38 @@ module _ (h : Held) (x₀ : Slices) (r₀ : Running) where
           words = x₀ .words;
           values = x₀ .values;
           board = x₀ .board;
+          marks = k₀;
           ending = 0;
           small = omega arith;
           long-words = refl;
           long-values = refl;
           long-board = refl;
+          long-marks = refl;
           reached = λ _. starts h (p .script) (p .safe);
           over = λ n. absurd (n refl);
         }
 
     -- what a step asks for
-    pub startable : (w : Way) → w .ending ≡ 0 → Startable h (slicesAt w) (w .running)
+    pub startable : (w : Way) → w .ending ≡ 0 → Startable h (slicesAt w) (w .marks) (w .running)
     startable w z = record { script = p .script; safe = w .reached z .safe }
 
   -- after one step more
-  abbrev pub stride : (w : Way) → w .ending ≡ 0 → (ws : List ℕ) (vs : List ℤ) (bs : List ℕ) (c : ℕ) (r : Running) → c < 2 ^ 8 → length ws ≡ length (w .words)
-      → length vs ≡ length (w .values) → length bs ≡ length (w .board) → Turns h (slicesAt w) (slices ws (x₀ .levels) vs bs) (w .running) (stepped c r) → Way
-  stride w z ws vs bs c r small ew ev eb t =
+  abbrev pub stride : (w : Way) → w .ending ≡ 0 → (ws : List ℕ) (vs : List ℤ) (bs ms : List ℕ) (c : ℕ) (r : Running) → c < 2 ^ 8 → length ws ≡ length (w .words)
+      → length vs ≡ length (w .values) → length bs ≡ length (w .board) → length ms ≡ length (w .marks)
+      → Turns h (slicesAt w) (slices ws (x₀ .levels) vs bs) (w .marks) ms (w .running) (stepped c r) → Way
+  stride w z ws vs bs ms c r small ew ev eb em t =
       record {
         running = r;
         words = ws;
         values = vs;
         board = bs;
+        marks = ms;
         ending = c;
         small = small;
         long-words = ew ∙ w .long-words;
         long-values = ev ∙ w .long-values;
         long-board = eb ∙ w .long-board;
+        long-marks = em ∙ w .long-marks;
         reached = λ y. further (w .reached z) (t .goes y);
         over = λ n. at-last (w .reached z) (t .ends n);
       }

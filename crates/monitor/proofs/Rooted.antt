@@ -2,7 +2,7 @@
 -- Assumes nothing.
 use mathlib.Core.Path.{_≡_, refl, sym, ap, subst, _∙_}
 use mathlib.Core.List.{List, []}
-use Prim.Native.Nat.{ℕ, _+_, _-_}
+use Prim.Native.Nat.{ℕ, _+_, _-_, _≤_}
 use native.Mathlib.Omega.{arith}
 use lib.ListN.{length, getD}
 use borrow.Author.Tests.{eq-eqb, ne-eqb}
@@ -14,11 +14,13 @@ use Rattle.rules.specs.Outcome as Rules
 use Rattle.rules.proofs.Control.{Valid}
 use Rattle.table.specs.Cells.{cells}
 use Rattle.table.specs.Holds.{Holds}
+use Rattle.table.specs.Since.{number}
 use Rattle.actions.specs.declared.guards.Guards.{Guards}
 use Rattle.actions.specs.declared.control.Running.{Running}
 use Rattle.actions.specs.declared.control.Stepped.{Stepped}
 use Rattle.actions.specs.Guards.{Holds as Guarded}
 use Rattle.actions.specs.Shows.{Slices, Variables}
+use Rattle.actions.specs.Marks.{countAt, marksSize, Marked, nothing}
 use Rattle.actions.specs.Stands.{Stands}
 use Rattle.actions.proofs.Board.{no-lines, lines-many, as-written}
 use Rattle.actions.proofs.Stepping.{stop-below}
@@ -33,9 +35,9 @@ abbrev pub rootOf : ℕ → ℕ → ℕ → Guards → Running
 rootOf budget used free g =
     record { memory = record { cursor = 0; level = 0; lines = 0; free = free; used = used }; guards = g; at = 0; left = budget }
 
-pub startable : (h : Held) (x : Slices) (budget used free : ℕ) (g : Guards) → length (h .plan) ≡ 1025 → Rooted h x budget
-    → Startable h x (rootOf budget used free g)
-startable h x budget used free g long r =
+pub startable : (h : Held) (x : Slices) (k : List ℕ) (budget used free : ℕ) (g : Guards) → marksSize ≤ length k → length (h .plan) ≡ 1025 → Rooted h x budget
+    → Startable h x k (rootOf budget used free g)
+startable h x k budget used free g marks long r =
     record {
       script = r .script (omega (arith, r .short, long));
       safe =
@@ -47,21 +49,28 @@ startable h x budget used free g long r =
             cursor = r .some;
             room = omega arith;
             within = omega arith;
+            marks = marks;
           };
     }
 
-module _ (h : Held) (x x′ : Slices) (budget used free : ℕ) (g : Guards) (none : Guarded g []) (levels : x′ .levels ≡ x .levels) (a : Stepped)
-    (rs : Runs h x x′ (rootOf budget used free g) a) where
+module _ (h : Held) (x x′ : Slices) (k k′ : List ℕ) (empty : number k countAt ≡ 0) (budget used free : ℕ) (g : Guards) (none : Guarded g [])
+    (levels : x′ .levels ≡ x .levels) (a : Stepped) (rs : Runs h x x′ k k′ (rootOf budget used free g) a) where
   module _ (given : Buffers) (vs : List Variable) (t : Forest) (lent : Lent h x given) (valid : Valid (scriptIn h) (start vs t))
       (vars : Variables (x .levels) (x .values) (h .vars) vs) (holds : Holds (cells (x .words)) (h .places) used free 0 t root) where
     abbrev e : Ended
     e = run given (scriptIn h) budget (start vs t)
 
-    begins : Stands (h .places) (h .vars) x (rootOf budget used free g) (start vs t)
+    begins : Stands (h .places) (h .vars) x k (rootOf budget used free g) (start vs t)
     unfolding start public
-    begins = record { memory = record { tree = holds; level = refl; variables = vars; lines = no-lines }; guards = none; at = refl }
+    begins =
+        record {
+          memory = record { tree = holds; level = refl; variables = vars; lines = no-lines };
+          guards = none;
+          marks = subst (λ (n : ℕ). Marked (cells (x .words)) (h .places) used free t k n []) (sym empty) nothing;
+          at = refl;
+        }
 
-    ran : Steps.Ran h x′ a (start vs t .steps + budget) e
+    ran : Steps.Ran h x′ k′ a (start vs t .steps + budget) e
     ran = rs .runs given (start vs t) lent valid begins
 
     line-count : length (e .last .memory .lines) ≡ a .running .memory .lines

@@ -17,12 +17,13 @@ use Rattle.rules.specs.Outcome as Rules
 use Rattle.rules.specs.Outcome.{answer, budgetRule}
 use Rattle.rules.specs.History.{Store, FollowOn, sectionCount, sectionScript, checkFollowOn, follow, leaves, after, afterAll}
 use Rattle.rules.proofs.Tests.{Test, holds, fails, test, both}
-use Rattle.rules.proofs.Accepted.{section-blocks, section-jumps}
+use Rattle.rules.proofs.Accepted.{section-blocks}
 use Rattle.rules.proofs.Control.{Valid}
 use Rattle.rules.proofs.Starts.{start-valid}
 use Rattle.rules.proofs.Stores.{Holdable, holdable-kept, Taken, taken, followed, all-holdable}
 use Rattle.job.specs.declared.checks.Script.the-variants.{Sound}
-use Rattle.job.specs.Plan.{entry, Whole}
+use Rattle.job.specs.Plan.{Whole}
+use Rattle.job.proofs.Answers.{section-plan}
 use Rattle.job.proofs.FollowOns.{section-few}
 use Rattle.table.specs.Cells.{Table, cellSize, cells, gone}
 use Rattle.table.specs.Holds.{Holds}
@@ -65,17 +66,14 @@ module _ (b : List ℕ) (budget places : ℕ) (x : Slices) (s : Store) (h : Hold
     unfolding sectionCount
     scripted plan long =
         let c = passed .checked in
+        let whole = section-plan b (length (s .variables)) 0 (sectionCount b) (c .records) (c .blocks) p p′ plan in
         record {
           inside = omega arith;
           few = section-few b (passed .whole);
           fields = subst (λ (n : ℕ). (i : ℕ) → i < sectionCount b → recordRule b n (recordPlace 0 i) ≡ true) (many-held (asLent x) s h) (c .records);
           blocks = section-blocks b (length (s .variables)) 0 (sectionCount b) (c .records) (c .blocks);
           long = long;
-          plan =
-              record {
-                each = λ k q. plan .each k q ∙ ap (entry (code b 0 k)) (section-jumps b (length (s .variables)) 0 (sectionCount b) (c .records) (c .blocks) k q);
-                last = plan .last;
-              };
+          plan = record { each = whole .each; last = whole .last };
         }
 
     pub rooted : cellSize * places ≤ length w → places ≤ maxNodes → Whole (code b 0) (sectionCount b) p p′

@@ -28,16 +28,17 @@ fn turn(
     words: &mut [u32],
     values: &mut [i32],
     lines: &mut [u8],
+    marks: &mut [u16],
 ) -> Stepped
-    requires { ⌜ Startable (held (now job) (now plan) f) (slices (now words) (now levels) (now values) (now lines)) r ⌝ }
+    requires { ⌜ Startable (held (now job) (now plan) f) (slices (now words) (now levels) (now values) (now lines)) (now marks) r ⌝ }
     ensures { λ a. ⌜ Turns (held (now (job .entry)) (now (plan .entry)) f)
         (slices (now (words .entry)) (now (levels .entry)) (now (values .entry)) (now (lines .entry)))
-        (slices (now (words .exit)) (now (levels .entry)) (now (values .exit)) (now (lines .exit))) r a ⌝ }
+        (slices (now (words .exit)) (now (levels .entry)) (now (values .exit)) (now (lines .exit))) (now (marks .entry)) (now (marks .exit)) r a ⌝ }
 {
     if r.left == 0 {
         return halt(r, over(r.at, f.records));
     }
-    carry_out(job, plan, levels, f, words, values, lines, r)
+    carry_out(job, plan, levels, f, words, values, lines, marks, r)
 }
 
 // One step of a run, on the running record that it is lent.
@@ -50,14 +51,16 @@ fn step(
     words: &mut [u32],
     values: &mut [i32],
     lines: &mut [u8],
+    marks: &mut [u16],
 ) -> u8
-    requires { ⌜ Startable (held (now job) (now plan) f) (slices (now words) (now levels) (now values) (now lines)) (now r) ⌝ }
+    requires { ⌜ Startable (held (now job) (now plan) f) (slices (now words) (now levels) (now values) (now lines)) (now marks) (now r) ⌝ }
     ensures { λ c. ⌜ Turns (held (now (job .entry)) (now (plan .entry)) f)
         (slices (now (words .entry)) (now (levels .entry)) (now (values .entry)) (now (lines .entry)))
-        (slices (now (words .exit)) (now (levels .entry)) (now (values .exit)) (now (lines .exit))) (now (r .entry)) (stepped c (now (r .exit))) ⌝ }
+        (slices (now (words .exit)) (now (levels .entry)) (now (values .exit)) (now (lines .exit))) (now (marks .entry)) (now (marks .exit)) (now (r .entry))
+        (stepped c (now (r .exit))) ⌝ }
 {
     let v = *r;
-    let a = turn(v, job, plan, levels, f, words, values, lines);
+    let a = turn(v, job, plan, levels, f, words, values, lines, marks);
     let t = a.running;
     *r = t;
     a.stop
@@ -73,15 +76,17 @@ fn run(
     words: &mut [u32],
     values: &mut [i32],
     lines: &mut [u8],
+    marks: &mut [u16],
 ) -> u8
-    requires { ⌜ Startable (held (now job) (now plan) f) (slices (now words) (now levels) (now values) (now lines)) (now r) ⌝ }
+    requires { ⌜ Startable (held (now job) (now plan) f) (slices (now words) (now levels) (now values) (now lines)) (now marks) (now r) ⌝ }
     ensures { λ c. ⌜ Runs (held (now (job .entry)) (now (plan .entry)) f)
         (slices (now (words .entry)) (now (levels .entry)) (now (values .entry)) (now (lines .entry)))
-        (slices (now (words .exit)) (now (levels .entry)) (now (values .exit)) (now (lines .exit))) (now (r .entry)) (stepped c (now (r .exit))) ⌝ }
+        (slices (now (words .exit)) (now (levels .entry)) (now (values .exit)) (now (lines .exit))) (now (marks .entry)) (now (marks .exit)) (now (r .entry))
+        (stepped c (now (r .exit))) ⌝ }
 {
     let mut ending = 0;
     while ending == 0 {
-        ending = step(r, job, plan, levels, f, words, values, lines);
+        ending = step(r, job, plan, levels, f, words, values, lines, marks);
     }
     ending
 }
@@ -102,13 +107,14 @@ pub fn run_from(
     words: &mut [u32],
     values: &mut [i32],
     lines: &mut [u8],
+    marks: &mut [u16],
 ) -> Stepped
-    requires { ⌜ Startable (held (now job) (now plan) f) (slices (now words) (now levels) (now values) (now lines)) start ⌝ }
+    requires { ⌜ Startable (held (now job) (now plan) f) (slices (now words) (now levels) (now values) (now lines)) (now marks) start ⌝ }
     ensures { λ a. ⌜ Runs (held (now (job .entry)) (now (plan .entry)) f)
         (slices (now (words .entry)) (now (levels .entry)) (now (values .entry)) (now (lines .entry)))
-        (slices (now (words .exit)) (now (levels .entry)) (now (values .exit)) (now (lines .exit))) start a ⌝ }
+        (slices (now (words .exit)) (now (levels .entry)) (now (values .exit)) (now (lines .exit))) (now (marks .entry)) (now (marks .exit)) start a ⌝ }
 {
     let mut r = start;
-    let stop = run(&mut r, job, plan, levels, f, words, values, lines);
+    let stop = run(&mut r, job, plan, levels, f, words, values, lines, marks);
     halted(stop, r)
 }

@@ -6,6 +6,7 @@ use actions::control::FINISHED;
 use actions::control::Running;
 use actions::control::Stepped;
 use actions::guards;
+use actions::marks;
 use actions::memory::Memory;
 use job::plan::WORDS;
 ghost use mathlib.Core.Path.{_≡_};
@@ -67,8 +68,19 @@ pub fn from_root(
         at: 0,
         left: budget,
     };
+    let mut remembered = [0u16; marks::SIZE];
     ended(
-        run_from(start, bytes, plan, levels, f, words, values, lines),
+        run_from(
+            start,
+            bytes,
+            plan,
+            levels,
+            f,
+            words,
+            values,
+            lines,
+            &mut remembered,
+        ),
         budget,
     )
 }

@@ -2,6 +2,8 @@
 use actions::control::FINISHED;
 use actions::control::Running;
 use actions::control::Stepped;
+use actions::control::come_back;
+use actions::control::enter_back;
 use actions::control::enter_if;
 use actions::control::enter_while;
 use actions::control::halt;
@@ -13,6 +15,7 @@ use actions::guards;
 use actions::moves;
 use actions::nodes;
 use actions::variables;
+use job::plan::END_BACK;
 use job::plan::code;
 use job::plan::next;
 use job::records::fields_at;
@@ -59,14 +62,15 @@ pub fn carry_out(
     words: &mut [u32],
     values: &mut [i32],
     lines: &mut [u8],
+    marks: &mut [u16],
     r: Running,
 ) -> Stepped
     requires { ⌜ Script (held (now job) (now plan) f)
-        × (Safe (held (now job) (now plan) f) (slices (now words) (now levels) (now values) (now lines)) r
+        × (Safe (held (now job) (now plan) f) (slices (now words) (now levels) (now values) (now lines)) (now marks) r
         × (0 < r .left)) ⌝ }
     ensures { λ a. ⌜ Carries (held (now (job .entry)) (now (plan .entry)) f)
         (slices (now (words .entry)) (now (levels .entry)) (now (values .entry)) (now (lines .entry)))
-        (slices (now (words .exit)) (now (levels .entry)) (now (values .exit)) (now (lines .exit))) r a ⌝ }
+        (slices (now (words .exit)) (now (levels .entry)) (now (values .exit)) (now (lines .exit))) (now (marks .entry)) (now (marks .exit)) r a ⌝ }
 {
     let at = r.at;
     let base = f.script;
@@ -154,7 +158,7 @@ pub fn carry_out(
             pc,
             r,
         ),
-        13..=14 => nodes::remove(side(command, 13), words, places, pc, r),
+        13..=14 => nodes::remove(side(command, 13), words, places, pc, r, marks),
         15 => nodes::write(
             evaluate(
                 fields_at(job, base, at),
@@ -171,6 +175,22 @@ pub fn carry_out(
             r,
         ),
         16 => moves::raise(places, pc, r),
+        17 => enter_back(
+            r,
+            evaluate(
+                fields_at(job, base, at),
+                levels,
+                values,
+                vars,
+                words,
+                places,
+                m,
+            ),
+            next(word),
+            places,
+            marks,
+        ),
+        END_BACK => come_back(r, next(word), places, marks),
         _ => halt(r, FINISHED),
     }
 }
