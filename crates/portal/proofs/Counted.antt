@@ -14,12 +14,12 @@ use Rattle.rules.specs.Tree.{Forest, Place}
 use Rattle.rules.specs.Script.{Expression, Action, Command, act, fetch}
 use Rattle.rules.specs.Check.{Checked, accepted, refused}
 use Rattle.rules.specs.Job.{Variable, script}
-use Rattle.rules.specs.Run.{Memory, State, Buffers, withVariables, withTree, withCursor, withLine, assign, output, moveTo, goTo, insertAt, removeAt, write, effect, stepped, enterIf, enterWhile, carried, step, start, run}
+use Rattle.rules.specs.Run.{Memory, Block, State, Buffers, withVariables, withTree, withCursor, withLine, assign, output, moveTo, goTo, insertAt, removeAt, write, effect, stepped, raised, enterIf, enterWhile, enterBack, leaveBlock, carried, step, start, run}
 use Rattle.rules.specs.Outcome.{Outcome, rejected, ran, answer, checkJobBy, checkJob, budgetRule, begin, runJob}
 use Rattle.rules.specs.History.{Store, FollowOn, checkFollowOn, follow}
 use Rattle.rules.proofs.Tests.{Test, holds, fails, test, both}
 use Rattle.rules.proofs.Checks.{passed-one}
-use Rattle.rules.proofs.Results.{Good, good-need, good-given, good-onward, good-next}
+use Rattle.rules.proofs.Results.{Good, good-need, good-given, good-onward, good-leave, good-next}
 use Rattle.rules.proofs.Runs.{more, run-spent, run-over, Turn, stops, goes, turn}
 use Rattle.rules.proofs.Noninterference.{accepted-rest, turned-back, runs}
 use Rattle.rules.proofs.Stores.{taken, followed, turned-away}
@@ -60,13 +60,21 @@ module _ (lent : Buffers) (cs : List Command) where
   Next : State → State → Type 0
   Next s s′ = length (s′ .memory .lines) ≤ suc (length (s .memory .lines))
 
+  leave-lines : (s : State) (j : ℕ) (bs : List Block) → Good (Next s) (leaveBlock s j bs)
+  unfolding OneMore Next leaveBlock stepped withCursor
+  leave-lines s j [] = omega arith
+  leave-lines s j (b ∷ bs) =
+      good-onward (OneMore (s .memory)) (Next s) s _ _ (λ m h. h) _
+      (good-leave (OneMore (s .memory)) (s .memory) (b .saved) (omega arith) (λ x e p f. omega arith))
+
   carried-lines : (s : State) (j : ℕ) (c : Command) → Good (Next s) (carried s lent j c)
-  unfolding OneMore Next carried enterIf enterWhile stepped
-  carried-lines s j (act a) = good-onward (OneMore (s .memory)) (Next s) s (λ m h. h) _ (effect-lines _ (s .memory) lent a)
+  unfolding OneMore Next carried enterIf enterWhile enterBack raised withCursor stepped
+  carried-lines s j (act a) = good-onward (OneMore (s .memory)) (Next s) s _ _ (λ m h. h) _ (effect-lines _ (s .memory) lent a)
   carried-lines s j (Command.if e) = good-given (Next s) _ _ λ _. omega arith
   carried-lines s j (Command.while e) = good-given (Next s) _ _ λ _. omega arith
+  carried-lines s j (Command.ifBack e) = good-given (Next s) _ _ λ _. omega arith
   carried-lines s j Command.else = omega arith
-  carried-lines s j Command.end = omega arith
+  carried-lines s j Command.end = leave-lines s j (s .blocks)
 
   step-lines : (s s′ : State) → step lent cs s ≡ Rattle.rules.specs.Run.next s′ → length (s′ .memory .lines) ≤ suc (length (s .memory .lines))
   unfolding step Next
