@@ -13,7 +13,7 @@ use crate::job::{self, command, kind, operator, Job, Record, Target, MAX_BLOCKS,
 use crate::mistake::Mistake;
 use crate::run::{self, Outcome, State};
 use crate::table::Fault;
-use crate::tree::Tree;
+use crate::tree::{Path, Tree};
 use crate::{Level, HOUSE, PUBLIC};
 
 /// How often each thing came up, by its name.
@@ -33,6 +33,13 @@ struct Steps {
     deepest: u64,
     /// Public variables that took a number at a cursor level of 1.
     counted_under_cover: u64,
+    /// The command that opened each open block, and where the cursor was.
+    open: Vec<(u8, Path)>,
+    /// Ifs that come back: inside another, inside a while, back to a node that
+    /// has other siblings to its left.
+    back_in_back: u64,
+    back_in_while: u64,
+    back_elsewhere: u64,
     /// By command and the new node's levels.
     insertions: BTreeMap<(u8, [Level; 3]), u64>,
 }
@@ -153,6 +160,9 @@ impl Coverage {
         }
         self.count_all(String::from(DEEPEST), steps.deepest);
         self.count_all(String::from(COUNTED), steps.counted_under_cover);
+        self.count_all(String::from(BACK_IN_BACK), steps.back_in_back);
+        self.count_all(String::from(BACK_IN_WHILE), steps.back_in_while);
+        self.count_all(String::from(BACK_ELSEWHERE), steps.back_elsewhere);
         for (&(command, levels), &count) in &steps.insertions {
             self.count_all(insertion_name(command, levels), count);
         }
@@ -187,14 +197,34 @@ impl Coverage {
                 let script = job::split(&case.bytes).expect("check 2 passed").script;
                 let command = at(&script).expect("a stop has a record");
                 self.count(stop_name(ending, command));
+                if ending == Ending::Missing
+                    && command == command::END
+                    && place_taken(case, outcome)
+                {
+                    self.count(String::from(PLACE_TAKEN));
+                }
             }
             _ => {}
         }
     }
 }
 
+/// Whether another node stands where the one stood that an end should have
+/// brought back.
+fn place_taken(case: &Case, outcome: &Outcome) -> bool {
+    let mut taken = false;
+    run::observed(&case.bytes, &case.limits, Mistake::None, &mut |state, _| {
+        if state.steps == outcome.steps {
+            let remembered = state.remembered.last().and_then(Option::as_ref);
+            taken = remembered.is_some_and(|node| state.tree.stands(&node.place));
+        }
+    });
+    taken
+}
+
 impl Steps {
     fn add(&mut self, state: &State, record: &Record) {
+        self.add_block(state, record);
         let command = usize::from(record.command);
         let context = state.guards.iter().copied().max().unwrap_or(PUBLIC);
         self.levels[command][usize::from(context)][usize::from(state.cursor_level)] += 1;
@@ -222,6 +252,22 @@ impl Steps {
         let insertion = (record.command, levels(new_node));
         *self.insertions.entry(insertion).or_insert(0) += 1;
     }
+
+    /// A block that was opened or closed.
+    fn add_block(&mut self, state: &State, record: &Record) {
+        if state.guards.len() > self.open.len() {
+            if record.command == command::IF_BACK {
+                let inside = |command| self.open.iter().any(|open| open.0 == command) as u64;
+                self.back_in_back += inside(command::IF_BACK);
+                self.back_in_while += inside(command::WHILE);
+            }
+            self.open.push((record.command, state.cursor.clone()));
+        } else if state.guards.len() < self.open.len() {
+            let (command, place) = self.open.pop().expect("a block is open");
+            let comes_back = command == command::IF_BACK;
+            self.back_elsewhere += (comes_back && place != state.cursor) as u64;
+        }
+    }
 }
 
 impl fmt::Display for Coverage {
@@ -242,6 +288,12 @@ const DEEPEST: &str = "run with 16 open blocks";
 
 /// a public counter steps while the cursor is covered.
 const COUNTED: &str = "public variable assigned at cursor level 1";
+
+/// R-6, ifs that come back.
+const BACK_IN_BACK: &str = "if that comes back inside another";
+const BACK_IN_WHILE: &str = "if that comes back inside a while";
+const BACK_ELSEWHERE: &str = "if that comes back to a node with other siblings to its left";
+const PLACE_TAKEN: &str = "stop 22 at command 05, another node in the place";
 
 /// The fields that check 7 looks at.
 const FIELDS: [&str; 8] = [
@@ -408,7 +460,8 @@ pub fn wanted_of_histories() -> Vec<String> {
 /// Everything that a generator must reach: all commands at all levels that they
 /// can leave, all operators with all kinds, all endings of a job but 26, every stop at
 /// every command that can give it, every reason for 7, 8 and 12, long runs, sixteen
-/// open blocks, counting under cover, and nodes of all five combinations of levels.
+/// open blocks, counting under cover, ifs that come back inside others, inside
+/// loops and to where much has changed, and nodes of all five combinations of levels.
 pub fn wanted() -> Vec<String> {
     let mut names = Vec::new();
     names.extend((0..command::COUNT as u8).map(command_name));
@@ -440,6 +493,8 @@ pub fn wanted() -> Vec<String> {
     names.extend(SPARE.map(spare_name));
     names.push(String::from(DEEPEST));
     names.push(String::from(COUNTED));
+    let back = [BACK_IN_BACK, BACK_IN_WHILE, BACK_ELSEWHERE, PLACE_TAKEN];
+    names.extend(back.map(String::from));
     names.extend(wanted_levels());
     names.extend(wanted_expressions());
     for levels in [[0, 0, 0], [0, 0, 1], [0, 1, 0], [0, 1, 1], [1, 1, 1]] {

@@ -48,9 +48,30 @@ pub struct Tally {
     pub both_finished: u64,
 }
 
+/// Pairs by their seeds: any, or those that carry a command out.
+#[derive(Clone, Copy, Debug, PartialEq, Eq)]
+pub enum Pairs {
+    Any,
+    With(u8),
+}
+
+impl Pairs {
+    fn of(self, seed: u64) -> Pair {
+        match self {
+            Pairs::Any => generate::pair(seed),
+            Pairs::With(command) => generate::pair_with(command, seed),
+        }
+    }
+}
+
 /// Tries the pair of `seed`, with its own limits and with others drawn.
-pub fn try_pair(portal: Portal, seed: u64, tally: &mut Tally) -> Result<(), Box<Found>> {
-    let pair = generate::pair(seed);
+pub fn try_pair(
+    portal: Portal,
+    pairs: Pairs,
+    seed: u64,
+    tally: &mut Tally,
+) -> Result<(), Box<Found>> {
+    let pair = pairs.of(seed);
     let found = |pair: &Pair, reason: String| {
         Box::new(Found {
             seed,
@@ -88,10 +109,11 @@ pub fn try_pair(portal: Portal, seed: u64, tally: &mut Tally) -> Result<(), Box<
 /// Tries the pairs of `seeds`, with their own limits, in one process.
 pub fn try_replay(
     replay: &Replay,
+    pairs: Pairs,
     seeds: std::ops::Range<u64>,
     tally: &mut Tally,
 ) -> Result<(), Box<Found>> {
-    let pairs: Vec<Pair> = seeds.clone().map(generate::pair).collect();
+    let pairs: Vec<Pair> = seeds.clone().map(|seed| pairs.of(seed)).collect();
     let outcomes = replayed(replay, &pairs);
     for (place, (pair, seed)) in pairs.iter().zip(seeds).enumerate() {
         let (left, right) = (outcomes.get(2 * place), outcomes.get(2 * place + 1));
@@ -252,11 +274,11 @@ impl search::Tally for Tally {
         self.pairs
     }
 
-    /// A tenth of them.
+    /// A twentieth of them.
     fn telling(&self) -> bool {
         [self.lines_in_both, self.other_endings, self.both_finished]
             .into_iter()
-            .all(|count| 10 * count >= self.pairs)
+            .all(|count| 20 * count >= self.pairs)
     }
 }
 

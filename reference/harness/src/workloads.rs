@@ -64,6 +64,9 @@ pub fn table() -> Vec<Workload> {
         children_read(500),
         subtrees(),
         guards(),
+        below_chain(MAX_NODES - 1),
+        subtrees_back(MAX_NODES),
+        nested_back(20),
         checking(
             "checking a small job (20 nodes, 29 records)",
             &small_parts(),
@@ -89,6 +92,11 @@ pub fn table() -> Vec<Workload> {
             &full(last_first),
         ),
         small_job(),
+        once("1,024 records, insert and remove", &insertions(512)),
+        once(
+            "1,024 records, insert and remove inside sixteen nested ifs that come back",
+            &nested(16).repeat(30),
+        ),
         standing(
             "a script of no records over 512 nodes, all below the root",
             |_| 0,
@@ -128,6 +136,21 @@ pub fn by_nodes() -> Vec<Growth> {
         Growth::new("children read at the root", sizes, |nodes| {
             children_read(nodes - 1)
         }),
+        Growth::new(
+            "insert and remove below a chain, inside an if that comes back",
+            sizes,
+            |nodes| below_chain(nodes - 1),
+        ),
+        Growth::new(
+            "build and drop all nodes, inside an if that comes back",
+            sizes,
+            subtrees_back,
+        ),
+        Growth::new(
+            "insert and remove inside fifteen nested ifs that come back",
+            sizes,
+            |nodes| nested_back(nodes - 1),
+        ),
     ]
 }
 
@@ -186,10 +209,16 @@ fn walk(count: usize) -> Workload {
     )
 }
 
+/// Each node below the last.
+fn chain(count: usize) -> Vec<Node> {
+    let mut nodes = vec![root_node(PLAIN, 0)];
+    nodes.extend((0..count as u16 - 1).map(|parent| node(parent, PLAIN, 1)));
+    nodes
+}
+
 /// A chain down to its end and up again.
 fn chain_walk() -> Workload {
-    let mut nodes = vec![root_node(PLAIN, 0)];
-    nodes.extend((0..MAX_NODES as u16 - 1).map(|parent| node(parent, PLAIN, 1)));
+    let nodes = chain(MAX_NODES);
     let half = [first_child(); MAX_NODES - 1];
     let body = [&half[..], &[up(); MAX_NODES - 1]].concat();
     long(
@@ -200,8 +229,12 @@ fn chain_walk() -> Workload {
     )
 }
 
+fn insertions(times: usize) -> Vec<Record> {
+    [new_first_child(0, 7), remove_first_child()].repeat(times)
+}
+
 fn churn(count: usize) -> Workload {
-    let body = [new_first_child(0, 7), remove_first_child()].repeat(100);
+    let body = insertions(100);
     let name = format!("insert and remove, {count} other nodes");
     long(&name, &[], &wide(count), &endless(&body))
 }
@@ -240,6 +273,66 @@ fn subtrees() -> Workload {
         &wide(20),
         &endless(&body),
     )
+}
+
+/// Down a chain to its end, and there in and out of an if that comes back, with
+/// a removal in it: whoever asks at its end by walking up pays for the chain.
+fn below_chain(count: usize) -> Workload {
+    let down = [repeat(children()), first_child(), end()];
+    let body = [vec![come_back(1)], insertions(1), vec![end()]].concat();
+    let name =
+        format!("insert and remove below a chain of {count} nodes, inside an if that comes back");
+    let script = [&down[..], &endless(&body.repeat(100))].concat();
+    long(&name, &[], &chain(count), &script)
+}
+
+/// All nodes but the root built, one below another or beside it, and dropped
+/// whole inside an if that comes back: each must be known to be gone. A turn of
+/// the loop makes as many steps for few nodes as for many, but for some.
+fn subtrees_back(count: usize) -> Workload {
+    let mut body = vec![come_back(1), new_first_child(0, 0), first_child()];
+    for depth in 0..(count as i32 - 2) / 2 {
+        body.extend([
+            new_first_child(0, depth),
+            new_first_child(0, 1),
+            first_child(),
+        ]);
+    }
+    body.extend([root(), remove_first_child(), end()]);
+    let most = 3 * (MAX_NODES - 2) / 2 + 6;
+    let name = format!(
+        "build and drop subtrees of {} nodes, inside an if that comes back",
+        count - 1
+    );
+    let turns = body.repeat(most / body.len());
+    long(&name, &[], &wide(1), &endless(&turns))
+}
+
+/// An insertion and a removal inside so many ifs that come back.
+fn nested(depth: usize) -> Vec<Record> {
+    [vec![come_back(1); depth], insertions(1), vec![end(); depth]].concat()
+}
+
+/// The loop around them is the sixteenth block.
+fn nested_back(count: usize) -> Workload {
+    let name =
+        format!("insert and remove inside fifteen nested ifs that come back, {count} other nodes");
+    let body = nested(15).repeat(30);
+    long(&name, &[], &wide(count), &endless(&body))
+}
+
+/// A script of 1,024 records, once through: sixteen blocks leave none for a loop.
+fn once(name: &str, script: &[Record]) -> Workload {
+    let mut script = script.to_vec();
+    script.resize(MAX_RECORDS, nothing());
+    Workload {
+        name: String::from(name),
+        job: job(&[], &wide(20), &script).encode(),
+        table: Vec::new(),
+        budget: STEPS,
+        area: 0,
+        unit: Unit::Call,
+    }
 }
 
 fn guards() -> Workload {

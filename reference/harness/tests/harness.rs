@@ -3,12 +3,14 @@
 
 use std::process::{Command, Output};
 
+use harness::bench::Bench;
 use harness::differential::{portal_unlike, spare, Side, Sides, Unlike};
 use harness::frame::{self, Frame};
 use harness::memory;
 use harness::portal::{Portal, UNLINKED};
 use harness::programs;
 use harness::replay::Replay;
+use harness::workloads;
 use reference::generate::{self, Case};
 use reference::mistake::Mistake;
 use reference::run::{self, Limits};
@@ -124,6 +126,16 @@ fn no_leak_where_there_is_none() {
     );
 }
 
+/// Pairs that carry one command out, and what is no command.
+#[test]
+fn pairs_with_a_command() {
+    let words = ["--portal", "fast", "--pairs", "1000", "--command", "17"];
+    let text = ended(LEAK, &words, 0);
+    assert!(text.contains("1000 pairs"), "{text}");
+    assert_eq!(generate::pair_with(17, 5), generate::pair_with(17, 5));
+    ended(LEAK, &["--portal", "fast", "--command", "99"], 2);
+}
+
 /// Through `replay`: whole outcomes.
 #[test]
 fn no_leak_through_replay() {
@@ -163,6 +175,24 @@ fn growth_is_told_from_a_few_pages() {
     assert!(memory::constant(&[(1, 900), (2, 904), (3, 900)]));
     assert!(!memory::constant(&[(1, 900), (2, 904), (3, 1_100)]));
     assert!(!memory::constant(&[]));
+}
+
+/// Each row of the bench is a run that goes on to the end of its budget or of its
+/// script, as far as it is looked at here.
+#[test]
+fn rows_of_the_bench() {
+    let mut bench = Bench::new(Portal::Reference(Mistake::None));
+    let growing = workloads::by_nodes()
+        .into_iter()
+        .chain(workloads::by_records());
+    let growing = growing.flat_map(|growth| growth.workloads);
+    for mut workload in workloads::table().into_iter().chain(growing) {
+        workload.budget = workload.budget.min(3_000);
+        if bench.can(&workload) {
+            bench.compare(&workload);
+            bench.steps(&workload);
+        }
+    }
 }
 
 #[test]
@@ -377,7 +407,8 @@ fn histories_through_a_stand_in() {
     assert_eq!(other.status.code(), Some(0));
 }
 
-/// A history that shows a mistake becomes small; a table that breaks what was
+/// A history that shows a mistake becomes small, but for the nodes of a table
+/// that is put in whole; a table that breaks what was
 /// promised of it is found.
 #[test]
 fn a_mistake_in_a_history_is_found() {
@@ -386,7 +417,7 @@ fn a_mistake_in_a_history_is_found() {
     let small = text.split("the smallest history that shows it").nth(1);
     let events = small.and_then(|small| small.split("\nevent ").next());
     let events = events.expect("a smallest history");
-    assert!(events.lines().count() < 20, "{events}");
+    assert!(events.lines().count() < 40, "{events}");
     for program in ["cat", "true"] {
         let text = ended(HISTORIES, &["--history", program, "--no-fast"], 1);
         assert!(text.contains("differs from the reference"), "{text}");

@@ -14,7 +14,7 @@ pub use history::history;
 pub use history_pairs::{history_pair, HistoryPair};
 pub use nodes::renumber;
 use nodes::Growth;
-pub use pairs::{pair, Pair};
+pub use pairs::{pair, pair_with, Pair};
 
 use crate::ending::Ending;
 use crate::job::{Job, Record, Variable, MAX_VARIABLES, READS};

@@ -4,7 +4,7 @@
 use super::nodes::Growth;
 use super::{levels_of, likely_mistake, limits, nodes, script, trial_ending, Case};
 use crate::ending::Ending;
-use crate::job::{self, Job, Node, Record, Variable};
+use crate::job::{self, command, Job, Node, Record, Variable};
 use crate::mistake::Mistake;
 use crate::public::{self, Leak};
 use crate::random::Random;
@@ -60,6 +60,25 @@ pub fn pair(seed: u64) -> Pair {
     }
 }
 
+/// A pair of a seed in which a side carries `command` out.
+pub fn pair_with(command: u8, seed: u64) -> Pair {
+    let seeds = (0..).map(|turn: u64| seed ^ turn.rotate_right(24));
+    let carried_out = |case: &Case| {
+        let mut found = false;
+        run::observed(
+            &case.bytes,
+            &case.limits,
+            Mistake::None,
+            &mut |_, record| found |= record.command == command,
+        );
+        found
+    };
+    seeds
+        .map(pair)
+        .find(|pair| carried_out(&pair.left) || carried_out(&pair.right))
+        .expect("a pair comes")
+}
+
 /// Two jobs without scripts that agree on their public parts.
 pub fn agreeing(random: &mut Random) -> (Job, Job) {
     let growth = Growth::some(random, Random::value);
@@ -106,10 +125,15 @@ fn common_script(random: &mut Random, sides: &[Standing; 2], mistake: Mistake) -
         2 => return script::short(random, &levels, &mut |script| both_finish(script, mistake)),
         _ => {}
     }
+    // Few scripts show what a cover gives away, so they are aimed at it.
+    let some = match mistake {
+        Mistake::NoRule(command::COVER) => script::covering,
+        _ => script::probing,
+    };
     // A script that the right monitor finishes too says nothing of the mistake.
     let mut script = Vec::new();
     for _ in 0..3 {
-        script = script::probing(random, &levels, &mut |script| both_finish(script, mistake));
+        script = some(random, &levels, &mut |script| both_finish(script, mistake));
         if mistake == Mistake::None || !both_finish(&script, Mistake::None) {
             return script;
         }

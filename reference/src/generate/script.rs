@@ -92,6 +92,17 @@ pub fn probing(random: &mut Random, levels: &[Level], accept: Accept) -> Vec<Rec
     writer.script
 }
 
+/// A script that covers the cursor inside branches, goes on from there and shows
+/// what it can see afterwards.
+pub fn covering(random: &mut Random, levels: &[Level], accept: Accept) -> Vec<Record> {
+    let mut writer = Writer::new(random, levels, accept);
+    for _ in 0..writer.random.between(1, 3) {
+        writer.covered();
+        writer.show();
+    }
+    writer.script
+}
+
 /// A script that goes away and stays there.
 pub fn leaving(random: &mut Random, levels: &[Level], accept: Accept) -> Vec<Record> {
     let mut writer = Writer::new(random, levels, accept);
@@ -138,6 +149,8 @@ struct Taste {
     changes: [usize; 5],
     /// Out of six branches, those that come back.
     returning: usize,
+    /// Out of eight branches away from the root, those that begin with cover.
+    covering: usize,
     /// Out of ten expressions, those that read house variables where a rule
     /// may forbid it.
     daring: usize,
@@ -155,7 +168,8 @@ impl Taste {
                 [1, 4, 1, 4, 1],
                 [1, 1, 4, 4, 2],
             ]),
-            returning: random.pick(&[0, 1, 4]),
+            returning: random.pick(&[0, 1, 4, 6]),
+            covering: random.pick(&[0, 1, 6]),
             daring: random.pick(&[0, 1, 4]),
         }
     }
@@ -362,7 +376,7 @@ impl<'a> Writer<'a> {
         }
         let weights = self.random.pick(&[[4, 1, 1], [1, 4, 1], [1, 1, 4]]);
         self.branch_with(context, &mut |writer, inner| {
-            if writer.random.chance(1, 8) {
+            if writer.random.chance(writer.taste.covering, 8) {
                 writer.put(&[cover()]);
             }
             for _ in 0..writer.random.between(1, 2) {
@@ -373,9 +387,10 @@ impl<'a> Writer<'a> {
                 }
             }
         });
-        if self.random.chance(1, 3) {
-            let seen = self.random.pick(&[value(), children()]);
-            self.put(&[print(seen)]);
+        for seen in [value(), children()] {
+            if self.random.chance(1, 3) {
+                self.put(&[print(seen)]);
+            }
         }
         for _ in 0..self.random.between(0, 3) {
             match self.random.weighted(&[3, 1, 1]) {
@@ -397,6 +412,19 @@ impl<'a> Writer<'a> {
         }
         self.put(&[come_back(1), end()]);
         self.look();
+    }
+
+    /// A cover and a move inside a branch, and changes where the cursor is then.
+    fn covered(&mut self) {
+        let (guard, _) = self.guard();
+        if self.put(&[when(guard), cover(), end()]) {
+            self.place -= 1;
+            self.put_some(&mut Self::some_move);
+            self.place += 1;
+        }
+        for _ in 0..self.random.between(1, 2) {
+            self.put_some(&mut Self::some_change);
+        }
     }
 
     /// Prints what is public at the root and on a way down from it.

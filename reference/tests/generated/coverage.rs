@@ -1,6 +1,7 @@
 use reference::coverage::Coverage;
+use reference::ending::Ending;
 use reference::generate;
-use reference::job;
+use reference::job::{self, command};
 use reference::mistake::Mistake;
 use reference::print;
 use reference::run::{self, Limits};
@@ -59,6 +60,32 @@ fn tree_rules_hold_after_each_step() {
             assert!(working_node.existence <= state.cursor_level, "seed {seed}");
         });
     }
+}
+
+/// the 22 of an end "cannot happen where the guard raised the cursor level".
+#[test]
+fn a_raised_guard_never_meets_the_22() {
+    let mut stops = 0;
+    for (seed, case) in cases().iter().enumerate() {
+        let mut raised = Vec::new();
+        let outcome = run::observed(&case.bytes, &case.limits, Mistake::None, &mut |state, _| {
+            if state.guards.len() < raised.len() {
+                raised.pop();
+            } else if state.guards.len() > raised.len() {
+                let back = state.remembered.last().and_then(Option::as_ref);
+                raised.push(back.is_some_and(|back| back.cursor_level != state.cursor_level));
+            }
+        });
+        if outcome.ending == Ending::Missing {
+            let script = job::decode(&case.bytes).expect("accepted").script;
+            if script[outcome.index].command == command::END {
+                assert_eq!(raised.last(), Some(&false), "seed {seed}");
+                stops += 1;
+            }
+        }
+    }
+    println!("{stops} ends whose node was gone");
+    assert!(stops > 0);
 }
 
 /// A smaller budget gives the state after that many steps.

@@ -136,11 +136,38 @@ fn nested() {
     assert_eq!(answer(&run(&trial_job(1, &turns))), (0, 0, 14, vec![10]));
 }
 
+/// Sixteen, each a node further down a chain than the one around it: each brings
+/// back its own.
+#[test]
+fn sixteen_deep() {
+    let mut nodes = vec![root_node([0, 0, 0], 0)];
+    nodes.extend((0..16).map(|parent| node(parent, [0, 0, 0], i32::from(parent) + 1)));
+    let down = [come_back(1), first_child()].repeat(16);
+    let back = [end(), print(value())].repeat(16);
+    let outcome = run(&job(&[], &nodes, &[down, back].concat()));
+    let lines = (0..16).rev().collect();
+    assert_eq!(answer(&outcome), (0, 0, 64, lines));
+}
+
 /// 27 as of an if: nothing is remembered, and it is no step.
 #[test]
 fn a_guard_outside_the_range() {
     let script = [come_back(sum(constant(i32::MAX), constant(1))), end()];
     assert_eq!(answer(&run(&trial_job(0, &script))), (27, 0, 0, vec![]));
+}
+
+/// "That cannot happen where the guard raised the cursor level": a removal under
+/// the guard is stopped before it could take the remembered node away.
+#[test]
+fn a_guard_that_raised_the_level() {
+    let script = [
+        first_child(),
+        come_back(variable(1)),
+        up(),
+        remove_first_child(),
+        end(),
+    ];
+    assert_eq!(answer(&run(&trial_job(1, &script))), (21, 3, 3, vec![]));
 }
 
 /// "7 begins at 18", and to the cleaner of R-4 at 17.

@@ -16,7 +16,7 @@ fn noted(job: &Job, place: usize, byte: u8) -> Vec<u8> {
 /// check 12.
 fn spare_of(record: Record) -> Vec<usize> {
     let job = match record.command {
-        command::IF | command::WHILE => trial_job(1, &[record, end()]),
+        command::IF | command::WHILE | command::IF_BACK => trial_job(1, &[record, end()]),
         command::ELSE => trial_job(1, &[when(0), record, end()]),
         command::END => trial_job(1, &[when(0), record]),
         _ => trial_job(1, &[record]),
@@ -76,6 +76,10 @@ fn which_bytes_are_spare() {
     assert_eq!(
         spare_of(when(sum(constant(1), constant(2)))),
         of(&[&target, &always])
+    );
+    assert_eq!(
+        spare_of(come_back(difference(children(), constant(2)))),
+        of(&[&target, &always, &left_number])
     );
     assert_eq!(
         spare_of(set_value(mean(value(), children()))),

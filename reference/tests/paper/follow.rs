@@ -89,6 +89,42 @@ fn places_of_the_tree() {
     );
 }
 
+/// R-6 over a standing tree: "A stopped script leaves the tree as its stop left
+/// it", and the next one begins with nothing remembered.
+#[test]
+fn an_if_that_comes_back() {
+    let lent: Lending = (&lent_table(), &VARIABLES);
+    let gone = [
+        first_child(),
+        first_child(),
+        come_back(1),
+        root(),
+        remove_first_child(),
+        new_first_child(0, 6),
+        end(),
+    ];
+    let (outcome, after) = follow_with(lent, &section(&gone), &Limits::ample(100));
+    assert_eq!(answer(&outcome), (22, 6, 6, vec![]));
+    let plain = [0, 0, 0];
+    let tree = [row(0, plain, 10), row(1, plain, 6), row(1, plain, 4)];
+    let after = after.expect("run");
+    assert_eq!(after.tree.preorder(), tree);
+    let look = [
+        come_back(variable(1)),
+        first_child(),
+        end(),
+        print(children()),
+    ];
+    let (outcome, _) = follow::follow(
+        &Ok(after),
+        &section(&look),
+        &Limits::ample(100),
+        Mistake::None,
+        &mut |_, _| {},
+    );
+    assert_eq!(answer(&outcome), (0, 0, 4, vec![2]));
+}
+
 #[test]
 fn an_empty_section_finishes() {
     let lent: Lending = (&[ROOT], &[]);

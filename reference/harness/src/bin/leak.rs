@@ -2,24 +2,27 @@
 //!
 //! Exit status: 0 no leak, 1 a leak, 2 bad usage.
 
-use harness::arguments::Arguments;
-use harness::leaks::{try_pair, try_replay, Found, Tally};
+use harness::arguments::{fail, Arguments};
+use harness::leaks::{try_pair, try_replay, Found, Pairs, Tally};
 use harness::portal::Portal;
 use harness::replay::Replay;
 use harness::search::{each_leak, no_leak, Bounds};
+use reference::job::command;
 use reference::mistake::{Mistake, RULED_COMMANDS};
 
 const USAGE: &str =
     "leak [--portal linked|fast|reference | --replay PATH] [--mistake NAME] [--pairs N] [--seconds S]
-    [--seed N] [--forever] [--each-mistake]";
+    [--seed N] [--command N] [--forever] [--each-mistake]
+    --command: only pairs in which a side carries it out";
 
-const KNOWN: [&str; 8] = [
+const KNOWN: [&str; 9] = [
     "--portal",
     "--replay",
     "--mistake",
     "--pairs",
     "--seconds",
     "--seed",
+    "--command",
     "--forever",
     "--each-mistake",
 ];
@@ -59,10 +62,18 @@ impl Through {
         }
     }
 
-    fn try_some(&self, seed: u64, most: u64, tally: &mut Tally) -> Result<(), Box<Found>> {
+    fn try_some(
+        &self,
+        pairs: Pairs,
+        seed: u64,
+        most: u64,
+        tally: &mut Tally,
+    ) -> Result<(), Box<Found>> {
         match self {
-            Through::Portal(portal) => try_pair(*portal, seed, tally),
-            Through::Replay(replay) => try_replay(replay, seed..seed + BATCH.min(most), tally),
+            Through::Portal(portal) => try_pair(*portal, pairs, seed, tally),
+            Through::Replay(replay) => {
+                try_replay(replay, pairs, seed..seed + BATCH.min(most), tally)
+            }
         }
     }
 
@@ -79,8 +90,18 @@ fn search(arguments: &Arguments) -> bool {
     let through = Through::read(arguments);
     println!("{}", through.name());
     let bounds = Bounds::read(arguments, "--pairs", MANY);
-    let some = |seed, most, tally: &mut Tally| through.try_some(seed, most, tally);
+    let pairs = pairs(arguments);
+    let some = |seed, most, tally: &mut Tally| through.try_some(pairs, seed, most, tally);
     no_leak("leak", bounds, some, |found| through.smallest(found))
+}
+
+/// `--command N`.
+fn pairs(arguments: &Arguments) -> Pairs {
+    match arguments.number("--command", u64::MAX) {
+        u64::MAX => Pairs::Any,
+        number if number < command::COUNT as u64 => Pairs::With(number as u8),
+        other => fail(&format!("no command {other}")),
+    }
 }
 
 fn each_mistake(arguments: &Arguments) -> bool {
@@ -89,6 +110,9 @@ fn each_mistake(arguments: &Arguments) -> bool {
     each_leak(
         bounds,
         Mistake::LEAKING.into_iter().chain(rules),
-        |mistake, seed| try_pair(Portal::Reference(mistake), seed, &mut Tally::default()).is_err(),
+        |mistake, seed| {
+            let portal = Portal::Reference(mistake);
+            try_pair(portal, Pairs::Any, seed, &mut Tally::default()).is_err()
+        },
     )
 }
