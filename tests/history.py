@@ -87,6 +87,26 @@ history(
     (script(places=3), came(0, left=FULL + NEW)),
 )
 
+# An if that comes back, command 17, over a tree that stands. Its end brings the cursor and its level back, so that a public line may come; where its node was
+# removed, the end is 22, though a new node stands in its place, and the next script goes on with the tree that the stop left. No script remembers what one
+# before it did, also where that ended inside the block.
+BACK = record(17, left=(0, 1))
+BACK_HOUSE = record(17, left=(1, 1))
+REPLACED = "variable 0 0\nvariable 1 -7\n" + ROOT_TEN + NEW
+GROWN = REPLACED.replace(" 4\n", " 6\n") + "node 2 0 0 0 8\n"
+history(
+    "an if that comes back",
+    FAMILY_JOB,
+    (script(BACK_HOUSE, record(9), END, PRINT), came(0, 0, 4, "line 10\n", FAMILY)),
+    (script(record(9), BACK_HOUSE, record(7), END, PRINT), came(0, 0, 5, "line 3\n", FAMILY)),
+    (script(BACK, record(9), END, budget=2), came(25, 2, 2, "", FAMILY)),
+    (script(record(9), BACK, record(8), record(13), NEW_CHILD, END), came(22, 5, 5, "", REPLACED)),
+    (script(record(9), BACK, record(8), END, record(15, left=(0, 6)), record(11, left=(0, 8))), came(0, 0, 6, "", GROWN)),
+    # One inside another: the inner one's node goes with the node above it, the outer one's stays.
+    (script(BACK, record(9), record(9), BACK, record(7), record(13), END, END), came(22, 6, 6, "", "variable 0 0\nvariable 1 -7\n" + ROOT_TEN)),
+    (script(BACK, NEW_CHILD, BACK, record(9), END, END, PRINT), came(0, 0, 7, "line 10\n", REPLACED)),
+)
+
 # A job that is turned back leaves everything; one that is run leaves its own tree and variables. The paper's job stops and finishes alike.
 history(
     "job after job",
