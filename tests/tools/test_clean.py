@@ -52,6 +52,14 @@ class Clean(unittest.TestCase):
                 self.assertEqual((done.status, done.output, path.exists()), (1, "", False))
                 self.assertIn(f"refused with {number} ({job.ENDINGS[number]}): ", done.error)
 
+    def test_a_later_command(self):
+        """To the cleaner an if that comes back is a 7, in a job that is accepted today."""
+        data = assembled(SOURCE.replace("up", "if 1 and come back\n    up"))
+        self.assertIsNone(job.check(data))
+        done = cleaned(data)
+        self.assertEqual((done.status, done.output), (1, ""))
+        self.assertIn("record 0, bytes 20 to 35: its command is 17; commands are 0 to 16 to the cleaner", done.error)
+
     def test_a_source(self):
         done = tool("clean", str(HOME / "examples" / "first.yoke"), "-")
         self.assertEqual((done.status, done.output), (2, ""))
@@ -68,12 +76,12 @@ class Clean(unittest.TestCase):
                 self.assertIn("clean answered in a form that this tool does not know", done.error)
 
     def test_generated_jobs(self):
-        """What comes out is accepted and has the same source; what the tool would refuse without 12 is refused."""
+        """What comes out is accepted and has the same source; what the rules before 12 refuse is refused, later commands among it."""
         kinds = set()
         for data in generated("dirty", 7, 300):
             if data and 0 not in data:
                 continue  # bytes without a zero among them are a source to the tool
-            done, fault = cleaned(data), job.check(data, spare=False)
+            done, fault = cleaned(data), job.check(data, job.STORED)
             kinds.add((fault is None, job.check(data) is None))
             self.assertEqual(done.status, 0 if fault is None else 1)
             if fault is None:

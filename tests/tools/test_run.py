@@ -118,6 +118,25 @@ class Stopped(unittest.TestCase):
         self.stops(script("first child", "remove first child"), FIRST + 1, 3, 22, "1 step", "slope has no child", "`if children`")
         self.stops(script("first child", "right sibling"), FIRST + 1, 3, 22, "1 step", "slope has no sibling to its right")
 
+    def test_an_end_that_cannot_come_back(self):
+        lines = ["first child", "if 1 and come back", "  up", "  remove first child", "print value"]
+        self.stops(script(*lines), FIRST + 1, 3, 22, "4 steps", "at the end of the block that this line opens",
+                   "The block of line 9 began on slope, where its end would bring the cursor back. That node was removed inside the block, by itself "
+                   "or with a node above it.", "Remove it after the block, or begin the block on a node that stays.")
+        # Another node in its place is another node.
+        lines.insert(4, "  new first child: 4")
+        self.stops(script(*lines), FIRST + 1, 3, 22, "5 steps", "The block of line 9 began on slope")
+        # It goes with the node above it.
+        tree = "  resort = 10\n    slope = 3\n      hut = 1\n"
+        lines = ["first child", "first child", "if 1 and come back", "  root", "  remove first child", "else", "  nothing"]
+        self.stops(script(*lines, tree=tree), FIRST + 3, 3, 22, "6 steps", "The block of line 11 began on hut")
+
+    def test_levels_inside_an_if_that_comes_back(self):
+        self.stops(script("if h and come back", "  v := value"), FIRST + 1, 5, 21, "1 step",
+                   "context house line 8 (if h and come back) has a house guard", "cursor level house since line 8 (if h and come back)",
+                   "Put the assignment outside the block of line 8")
+        self.assertNotIn("Write `root`", run(script("if h and come back", "  v := value")).output)
+
     def test_results_out_of_range(self):
         self.stops(script("v := 2147483647 + 1"), FIRST, 3, 27, "0 steps", "from -2147483648 to 2147483647",
                    "2147483647 + 1 is 2147483648, which is above them", "take `mean`")
@@ -221,6 +240,11 @@ class Advice(unittest.TestCase):
 
     def test_cover_before_a_move(self):
         self.advised(["if h"], "  first child", "Write `cover` before line 8", ["cover", "if h", "  first child", "root", "print value"])
+
+    def test_coming_back_from_a_move(self):
+        self.advised(["if h"], "  first child", "Or write `if h and come back` in line 8: the cursor may then move inside the block, and is where "
+                     "it was at its end.", ["if h and come back", "  first child", "print value"])
+        self.assertNotIn("and come back", run(script("while h", "  first child")).output)
 
     def test_levels_that_a_node_has_already_are_kept(self):
         done = run(script("set h", tree="  resort list house = 10\n"))

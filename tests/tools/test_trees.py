@@ -238,6 +238,20 @@ class Traces(unittest.TestCase):
         self.assertEqual(trace + "\n", TRACE)
         self.assertEqual(rest, run("-", data=TRACED).output)
 
+    def test_an_if_that_comes_back(self):
+        source = ("variables\n  h house = 1\ntree\n  valley = 7\n    lodge = 40\nscript\n"
+                  "  if h and come back\n    first child\n  else\n    cover\n  if 0 and come back\n    up\n  print value\n")
+        trace = run("-", "--trace", data=source).output.split("\n\n", 1)[0]
+        self.assertEqual(trace, """\
+   step   line  record  statement           context  cursor  its level  what changed
+      1      7       0  if h and come back  public   valley  public     valley is remembered, public; the cursor level is house; into the block
+      2      8       1  first child         house    valley  house      cursor on lodge, house
+      3      9       2  else                house    lodge   house      to line 7, record 4
+      4      7       4  end                 house    lodge   house      back to valley, public
+      5     11       5  if 0 and come back  public   valley  public     valley is remembered, public; the cursor level is public; to line 11, record 7
+      6     11       7  end                 public   valley  public     back to valley, public
+      7     13       8  print value         public   valley  public     board line 1: 7""")
+
     def test_with_a_budget(self):
         done = run("-", "--trace", "--budget", "2", data=TRACED)
         rows = done.output.split("\n")

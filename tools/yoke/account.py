@@ -6,7 +6,7 @@ from typing import NamedTuple
 
 from .checks import describe, plural
 from .commands import (
-    ASSIGN, CHILDREN, END, FIRST_CHILD, INSERTIONS, NAMED, NEW_FIRST_CHILD, PRINT, REMOVALS, REMOVE_FIRST_CHILD,
+    ASSIGN, CHILDREN, END, FIRST_CHILD, IF, IF_BACK, INSERTIONS, NAMED, NEW_FIRST_CHILD, PRINT, REMOVALS, REMOVE_FIRST_CHILD,
     SET, SUM, VALUE, WHILE)
 from .endings import ABSENT, FINISHED, FLOW, FULL_BOARD, FULL_TABLE, OVERFLOW, USED_UP, ending_text
 from .errors import quoted
@@ -119,8 +119,8 @@ class Account:
 
     def leave_cover(self, what):
         """Outside house guards `root` makes the cursor level public; a public node can be reached again from there."""
-        if not self.run.cursor_level:
-            return
+        if not self.run.cursor_level or self.run.job.records[self.run.raised_by].command == IF_BACK:
+            return  # the end of the block makes it public
         node = self.run.root if self.run.cursor.existence else self.run.cursor
         if self.own_house(node) and node is not self.run.cursor:
             return  # what it reads is house there, too
@@ -197,8 +197,13 @@ class Account:
 
     def flow_move(self):
         self.reasons = [self.context(), self.cursor()]
-        self.advice.append(f"Write `cover` before line {self.line_of(self.house_guard())}. The cursor level is then house and the "
+        guard = self.house_guard()
+        line = self.line_of(guard)
+        self.advice.append(f"Write `cover` before line {line}. The cursor level is then house and the "
                            "cursor may move inside the block; `root` after the block makes it public again.")
+        if self.run.job.records[guard].command == IF:
+            self.advice.append(f"Or write `{self.statement(guard)} and come back` in line {line}: the cursor may then move inside the block, "
+                               "and is where it was at its end.")
         self.leave_block("the move")
 
     def flow_insert(self, command):

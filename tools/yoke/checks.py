@@ -19,11 +19,22 @@ class Fault(NamedTuple):
     text: str
 
 
+class Edition(NamedTuple):
+    """Which rules a program checks by: how many commands there are, and whether spare bytes are zero."""
+
+    commands: int
+    spare: bool
+
+
+TODAY = Edition(len(COMMANDS), True)
+STORED = Edition(17, False)  # the cleaner's, whatever lands later
+
+
 def plural(count, noun):
     return f"{count:,} {noun}" + ("" if count == 1 else "s")
 
 
-def check(data, spare=True):
+def check(data, edition=TODAY):
     """The first of the checks 1 to 8 that the bytes fail, with 12 before 8 unless spare bytes may hold anything, or None."""
     if not 8 <= len(data) <= MAX_BYTES:
         return Fault(1, 0, "", 0, len(data),
@@ -37,8 +48,8 @@ def check(data, spare=True):
         (4, "variable", 0, VARIABLE.size, variable_faults(job)),
         (5, "node", nodes, NODE.size, parent_faults(job)),
         (6, "node", nodes, NODE.size, tree_faults(job)),
-        (7, "record", script, RECORD.size, field_faults(job.records, len(job.variables))),
-        *(spare_searches(data, job) if spare else ()),
+        (7, "record", script, RECORD.size, field_faults(job.records, len(job.variables), edition.commands)),
+        *(spare_searches(data, job) if edition.spare else ()),
         (8, "record", script, RECORD.size, block_faults(job.records)),
     ), len(data))
 
@@ -151,16 +162,16 @@ def place_fault(node, job, last):
     return ""
 
 
-def field_faults(records, count):
+def field_faults(records, count, commands=TODAY.commands):
     for index, record in enumerate(records):
-        text = field_fault(record, count)
+        text = field_fault(record, count, commands)
         if text:
             yield index, text
 
 
-def field_fault(record, count):
-    if record.command >= len(COMMANDS):
-        return f"its command is {record.command}; commands are 0 to {len(COMMANDS) - 1}"
+def field_fault(record, count, commands):
+    if record.command >= commands:
+        return f"its command is {record.command}; commands are 0 to {commands - 1}" + (" to the cleaner" if record.command < len(COMMANDS) else "")
     row = COMMANDS[record.command]
     if row.target == "variable" and record.target >= count:
         return f"its target is variable {record.target}, and there are {plural(count, 'variable')}"

@@ -6,7 +6,7 @@ import traceback
 from pathlib import Path
 
 from .account import refusal_lines, report
-from .checks import byte_name, check, check_limits, check_section, describe, plural
+from .checks import STORED, byte_name, check, check_limits, check_section, describe, plural
 from .drawings import svg_picture
 from .encoding import decode
 from .endings import ENDINGS, FINISHED, REFUSALS, STOPS, refused
@@ -92,7 +92,7 @@ def do_clean(options):
     answer = clean(data)
     if answer.refused:
         need_no_utf16(data, options.job)
-        fault = check(data, spare=False)
+        fault = check(data, STORED)
         if fault is None or (fault.number, fault.index) != answer.refused:
             raise JobError(f"{shown(options.job)}: the cleaner refused this job with {answer.refused[0]} at {answer.refused[1]}, and this tool "
                            f"{'holds that it is ' + describe(fault) if fault else 'accepts it'}\nThe cleaner is right. Please report this job.")
