@@ -20,9 +20,9 @@
 #include <stdint.h>
 
 /* The version of this header and of the library beside it. The first number changes where a program must be changed. */
-#define PORTAL_VERSION "1.4.0"
+#define PORTAL_VERSION "1.5.0"
 #define PORTAL_VERSION_MAJOR 1
-#define PORTAL_VERSION_MINOR 4
+#define PORTAL_VERSION_MINOR 5
 #define PORTAL_VERSION_PATCH 0
 
 /* The largest job, in bytes. Read up to one byte more, so that a longer one is seen and turned back. */
@@ -70,7 +70,7 @@ enum {
     PORTAL_BAD_FOLLOW_ON = 11,      /* the script is no whole records or more than 1,024, or no accepted job could hold what stands in table and variables */
     PORTAL_SPARE_BYTE = 12,         /* a byte that nobody reads is not zero */
     PORTAL_FLOW = 21,               /* a command would have let house data flow to the public */
-    PORTAL_NO_NODE = 22,            /* the node to go to, or to remove, does not exist */
+    PORTAL_NO_NODE = 22,            /* the node to go to, to remove or to come back to does not exist */
     PORTAL_TABLE_FULL = 23,         /* a new node, where there are as many as places */
     PORTAL_BOARD_FULL = 24,         /* a board line, where the area is full */
     PORTAL_BUDGET_USED_UP = 25,     /* as many steps as the budget allows */

@@ -35,7 +35,7 @@ class Commands(unittest.TestCase):
         for (_, statement, _, _), row in zip(self.rows, job.COMMANDS):
             with self.subTest(statement):
                 words = "NAME :=" if row.target == "variable" else row.words
-                expected = f"{words}{':' if row.target == 'mark' else ''}{' ..' if row.expression else ''}"
+                expected = f"{words}{':' if row.target == 'mark' else ''}{' ..' if row.expression else ''}{' ' + row.behind if row.behind else ''}"
                 self.assertEqual(statement, f"`{expected}`")
 
     def test_who_reads_an_expression(self):
@@ -46,7 +46,7 @@ class Commands(unittest.TestCase):
     def test_who_has_a_rule(self):
         """Those that the tool has a sentence for; an if, an else, a while, an end and nothing are never stopped by a rule."""
         self.assertEqual({int(row[0]) for row in self.rows if row[3]}, set(job.RULES))
-        self.assertEqual({row[1].strip("`") for row in self.rows if not row[3]}, {"nothing", "if ..", "else", "while ..", "end"})
+        self.assertEqual({row[1].strip("`") for row in self.rows if not row[3]}, {"nothing", "if ..", "else", "while ..", "end", "if .. and come back"})
 
     def test_every_command_is_in_the_definitions(self):
         (count,) = re.findall(r"^commandCount = (\d+)$", read("crates/rules/specs/Limits.antt"), re.M)
