@@ -2,7 +2,7 @@
 //! a valid case or of a damaged one.
 
 use super::{damaged, valid, valid_job, Case};
-use crate::job::{split, Job, Record, MAX_NODES, MAX_RECORDS, MAX_VARIABLES};
+use crate::job::{command, split, Job, Record, MAX_NODES, MAX_RECORDS, MAX_VARIABLES};
 use crate::mistake::Mistake;
 use crate::random::Random;
 use crate::run::Limits;
@@ -34,7 +34,7 @@ pub fn dirty(seed: u64) -> Case {
 /// more than ten thousand changes to print.
 pub fn full_of_notes(seed: u64) -> Case {
     let mut random = Random::new(seed);
-    let (some, limits) = valid_job(&mut random);
+    let (some, limits) = stored_job(&mut random);
     let mut job = Job {
         variables: vec![house_variable(1); MAX_VARIABLES],
         nodes: vec![node(0, [0, 0, 0], 1); MAX_NODES],
@@ -50,6 +50,17 @@ pub fn full_of_notes(seed: u64) -> Case {
             places: MAX_NODES,
             ..limits
         },
+    }
+}
+
+/// A job with no command that came after the cleaner.
+fn stored_job(random: &mut Random) -> (Job, Limits) {
+    loop {
+        let (job, limits) = valid_job(random);
+        let known = |record: &Record| usize::from(record.command) < command::FIRST_COUNT;
+        if job.script.iter().all(known) {
+            return (job, limits);
+        }
     }
 }
 
