@@ -306,7 +306,7 @@ static void refusals(void) {
     give(1);
     ends("no whole record, and no budget", follow, 0, PORTAL_BAD_FOLLOW_ON, 0);
     command(2);
-    command(17);
+    command(18);
     give(1);
     ends("no such command, an open block, and no budget", follow, 0, PORTAL_BAD_FIELD, 0);
     record(1, 2, 0, CONSTANT, 0, 0, 0);
@@ -531,7 +531,8 @@ static void random_job(size_t vars, size_t nodes) {
 }
 
 static int reads_expression(int number) {
-    return number == 1 || number == 2 || number == 4 || number == 6 || number == 11 || number == 12 || number == 15;
+    return number == 1 || number == 2 || number == 4 || number == 6 || number == 11 || number == 12 || number == 15 ||
+           number == 17;
 }
 
 /* What is not read is zero. */
@@ -555,8 +556,8 @@ static void random_script(int vars) {
     int open = 0;
     for (uint32_t i = below(14); i > 0; i--) {
         int number = (int)below(20);
-        number = number > 16 ? 6 : number;
-        if (number == 2 || number == 4) {
+        number = number > 17 ? 6 : number;
+        if (number == 2 || number == 4 || number == 17) {
             open++;
         }
         if (number == 3 || (number == 5 && open == 0) || (number == 1 && vars == 0)) {
