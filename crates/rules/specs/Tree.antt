@@ -63,10 +63,26 @@ up root = none
 up (to child p) = some p
 up (to sibling p) = up p
 
+-- the left sibling's place
+unfoldable pub leftOf : Place → Option Place
+leftOf root = none
+leftOf (to child p) = none
+leftOf (to sibling p) = some p
+
 -- the node at a place, with its children and right siblings
 unfoldable pub sub : Place → Forest → Forest
 sub root t = t
 sub (to d p) t = along d (sub p t)
+
+-- the place of the last of siblings, the first of which stands at p
+unfoldable pub lastFrom : Place → Forest → Option Place
+lastFrom p nil = none
+lastFrom p (tree l c nil) = some p
+lastFrom p (tree l c (tree k d r)) = lastFrom (to sibling p) (tree k d r)
+
+-- the place of the last child of the node at p
+unfoldable pub lastOf : Place → Forest → Option Place
+lastOf p t = lastFrom (to child p) (sub (to child p) t)
 
 -- the first node with f done on one of its sides
 unfoldable pub onSide : Side → (Forest → Forest) → Forest → Forest
