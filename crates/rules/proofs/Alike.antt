@@ -1,6 +1,6 @@
 -- Two memories with the same view: where the reader sees the cursor it is at the same node, and an expression has the same level and,
 -- where that is visible, the same value; or neither level is visible. Assumes nothing.
-use mathlib.Core.Path.{_≡_, refl, sym, _∙_, ap}
+use mathlib.Core.Path.{_≡_, refl, sym, _∙_, ap, subst}
 use Prim.Native.Nat.{ℕ}
 use mathlib.Core.Bool.{true, false}
 use mathlib.Core.Option.{some, Option·some-injective}
@@ -8,7 +8,7 @@ use mathlib.Core.List.{map}
 use lib.ListN.{getD, List·getD-map}
 use lib.IntN.{ℤ, pos}
 use Rattle.rules.specs.Level.{Level, public, join, visible}
-use Rattle.rules.specs.Tree.{Label, child, along, Place, to, sub, label, count, withValue}
+use Rattle.rules.specs.Tree.{Label, Forest, child, along, Place, to, sub, lastFrom, lastOf, label, count, withValue, Fits}
 use Rattle.rules.specs.Script.{Operand, Expression, alone, both, apply}
 use Rattle.rules.specs.Job.{Variable}
 use Rattle.rules.specs.Run.{Memory, noVariable, variableAt, current, operandValue, operandLevel, value, levelOf}
@@ -16,7 +16,7 @@ use Rattle.rules.specs.Public.{seenVariable, seenValue}
 use Rattle.rules.proofs.Tests.{Test, holds, fails, test, clash}
 use Rattle.rules.proofs.Lattice.{vis-down, vis-left, vis-right, hid-left, hid-right}
 use Rattle.rules.proofs.Trees.{loAt, hiAt, hiOf}
-use Rattle.rules.proofs.Cut.{mask, cutLabel, cut, cut-sub, count-cut, Heads, seen, hidden, heads}
+use Rattle.rules.proofs.Cut.{mask, cutLabel, cut, cut-sub, count-cut, last-cut, Heads, seen, hidden, heads}
 use Rattle.rules.proofs.Sound.{Sound, there}
 use Rattle.rules.proofs.View.{view, seenAt, seenCursor}
 
@@ -38,7 +38,7 @@ module _ (o : Level) where
   agree-hidden (same l z) e = rw l at e
   agree-hidden (dark a b) e = b
 
-  joined : {A : Type 0} {k₁ k₂ l₁ l₂ : Level} {y₁ y₂ z₁ z₂ : ℤ} (f : ℤ → ℤ → A) → Agrees k₁ k₂ y₁ y₂ → Agrees l₁ l₂ z₁ z₂
+  joined : {A B C : Type 0} {k₁ k₂ l₁ l₂ : Level} {y₁ y₂ : A} {z₁ z₂ : B} (f : A → B → C) → Agrees k₁ k₂ y₁ y₂ → Agrees l₁ l₂ z₁ z₂
       → Agrees (join k₁ l₁) (join k₂ l₂) (f y₁ z₁) (f y₂ z₂)
   joined f (same a b) (same c d) = same (rw (a, c)) (λ e. rw (b (vis-left o _ _ e), d (vis-right o _ _ e)))
   joined f (dark a b) k = dark (hid-left o _ _ a) (hid-left o _ _ b)
@@ -117,6 +117,7 @@ module _ (o : Level) where
 
     -- the working nodes under a visible cursor
     pub record Nodes : Type 0 where
+      pub place : m₁ .cursor ≡ m₂ .cursor
       pub labels : cutLabel o (label (current m₁)) ≡ cutLabel o (label (current m₂))
       pub below : cut o (along child (current m₁)) ≡ cut o (along child (current m₂))
 
@@ -125,22 +126,29 @@ module _ (o : Level) where
     nodes e p = pick (heads o _ _ (s₁ .stands) (s₂ .stands) (rw p (subs (m₂ .cursor))))
       where
         pick : Heads o (current m₁) (current m₂) → Nodes
-        pick (seen a b c) = record { labels = b; below = c }
+        pick (seen a b c) = record { place = p; labels = b; below = c }
         pick (hidden a b) = clash (vis-down o _ _ (s₁ .covered) e) a
 
-    children-agree : Nodes
-        → Agrees ((label (current m₁)) .structure) ((label (current m₂)) .structure) (pos (count (along child (current m₁)))) (pos (count (along child (current m₂))))
+    -- what is read off the list of children, where the cut of a list that is seen whole gives the same
+    list-agrees : {A : Type 0} (g : Forest → A) → ((lo hi : Level) (x : Forest) → visible o hi ≡ true → Fits lo hi x → g (cut o x) ≡ g x) → Nodes
+        → Agrees ((label (current m₁)) .structure) ((label (current m₂)) .structure) (g (along child (current m₁))) (g (along child (current m₂)))
     unfolding current hiAt hiOf loAt sub
-    children-agree n =
+    list-agrees g h n =
         let c = structure-eq _ _ (n .labels) in
         same c (λ e.
-        ap pos
-        (sym (count-cut o _ _ _ e (there m₁ s₁ (to child (m₁ .cursor)))) ∙ ap count (n .below)
-        ∙ count-cut o _ _ _ (rw c at e) (there m₂ s₂ (to child (m₂ .cursor)))))
+        sym (h _ _ _ e (there m₁ s₁ (to child (m₁ .cursor)))) ∙ ap g (n .below) ∙ h _ _ _ (rw c at e) (there m₂ s₂ (to child (m₂ .cursor))))
+
+    last-agrees : Nodes
+        → Agrees ((label (current m₁)) .structure) ((label (current m₂)) .structure) (lastOf (m₁ .cursor) (m₁ .tree)) (lastOf (m₂ .cursor) (m₂ .tree))
+    unfolding lastOf current sub
+    last-agrees n =
+        subst
+        (λ (c : Place). Agrees ((label (current m₁)) .structure) ((label (current m₂)) .structure) (lastOf (m₁ .cursor) (m₁ .tree)) (lastFrom (to child c) (along child (current m₂))))
+        (n .place) (list-agrees (lastFrom (to child (m₁ .cursor))) (λ lo hi x. last-cut o lo hi _ x) n)
 
     -- what is read at the cursor
-    at-cursor : {l₁ l₂ : Level} {z₁ z₂ : ℤ} → (Nodes → Agrees l₁ l₂ z₁ z₂) → Agrees (join (m₁ .level) l₁) (join (m₂ .level) l₂) z₁ z₂
-    at-cursor {l₁} {l₂} {z₁} {z₂} f = pick cursors
+    at-cursor : {A : Type 0} {l₁ l₂ : Level} {z₁ z₂ : A} → (Nodes → Agrees l₁ l₂ z₁ z₂) → Agrees (join (m₁ .level) l₁) (join (m₂ .level) l₂) z₁ z₂
+    at-cursor {A} {l₁} {l₂} {z₁} {z₂} f = pick cursors
       where
         pick : Cursors → Agrees (join (m₁ .level) l₁) (join (m₂ .level) l₂) z₁ z₂
         pick (seenBoth e p l) = joined {y₁ = pos 0} {y₂ = pos 0} (λ y z. z) (same l (λ _. refl)) (f (nodes e p))
@@ -151,12 +159,18 @@ module _ (o : Level) where
     operands (Operand.constant z) = same refl (λ _. refl)
     operands (Operand.variable i) = variable-agrees _ _ (variable-eq i)
     operands Operand.value = at-cursor (λ n. content-agrees _ _ (n .labels))
-    operands Operand.children = at-cursor children-agree
+    operands Operand.children = at-cursor (list-agrees (λ x. pos (count x)) (λ lo hi x e f. ap pos (count-cut o lo hi x e f)))
 
     pub expressions : (e : Expression) → Agrees (levelOf m₁ e) (levelOf m₂ e) (value m₁ e) (value m₂ e)
     unfolding levelOf value
     expressions (alone a) = agree-map some (operands a)
     expressions (both f a b) = joined (apply f) (operands a) (operands b)
+
+    -- where a move to the last child leads
+    pub lasts :
+        Agrees (join (m₁ .level) ((label (current m₁)) .structure)) (join (m₂ .level) ((label (current m₂)) .structure)) (lastOf (m₁ .cursor) (m₁ .tree))
+        (lastOf (m₂ .cursor) (m₂ .tree))
+    lasts = at-cursor last-agrees
 
     level-eq : visible o (m₁ .level) ≡ true → m₁ .cursor ≡ m₂ .cursor → m₁ .level ≡ m₂ .level → (x : Operand) → operandLevel m₁ x ≡ operandLevel m₂ x
     unfolding operandLevel seenVariable

@@ -39,9 +39,9 @@ pub noted-refused :
 unfolding computed tidy noted
 noted-refused = (refl, refl)
 
--- a spare byte in record 0 with command 18 in record 1; a spare byte in record 1 behind a lone end; the lone end alone
+-- a spare byte in record 0 with command 20 in record 1; a spare byte in record 1 behind a lone end; the lone end alone
 pub order-holds :
-    map checkBytes (set (set tidy 41 2) 56 18 ∷ set (set tidy 40 5) 60 3 ∷ set tidy 40 5 ∷ []) ≡ refused 7 1 ∷ refused 12 1 ∷ refused 8 0 ∷ []
+    map checkBytes (set (set tidy 41 2) 56 20 ∷ set (set tidy 40 5) 60 3 ∷ set tidy 40 5 ∷ []) ≡ refused 7 1 ∷ refused 12 1 ∷ refused 8 0 ∷ []
 unfolding computed tidy
 order-holds = refl
 
@@ -53,11 +53,11 @@ unfolding computed
 later-command = (refl, refl, refl, refl)
 
 -- what records read: target, expression, right side, left number, right number. Root; v0 := v1; new first child of value, mark 3; print 1 plus children; write the mean
--- of value and v0; command 200
+-- of value and v0; left sibling; last child; command 200
 pub reads-hold :
     map (λ (r : List ℕ). recordReads r 0)
-    (bare 7 ∷ one 1 0 (v 1) ∷ one 11 3 value ∷ both 6 0 1 (number (pos 1)) children ∷ both 15 0 5 value (v 0) ∷ bare 200 ∷ [])
+    (bare 7 ∷ one 1 0 (v 1) ∷ one 11 3 value ∷ both 6 0 1 (number (pos 1)) children ∷ both 15 0 5 value (v 0) ∷ bare 18 ∷ bare 19 ∷ bare 200 ∷ [])
     ≡ fieldReads false false false false false ∷ fieldReads true true false true false ∷ fieldReads true true false false false ∷ fieldReads false true true true false
-    ∷ fieldReads false true true false true ∷ fieldReads false false false false false ∷ []
+    ∷ fieldReads false true true false true ∷ fieldReads false false false false false ∷ fieldReads false false false false false ∷ fieldReads false false false false false ∷ []
 unfolding computed
 reads-hold = refl

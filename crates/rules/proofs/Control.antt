@@ -67,6 +67,8 @@ action-plain (Action.remove child) = plain-number 13 refl refl refl refl
 action-plain (Action.remove sibling) = plain-number 14 refl refl refl refl
 action-plain (Action.write e) = plain-number 15 refl refl refl refl
 action-plain Action.raise = plain-number 16 refl refl refl refl
+action-plain Action.goLeft = plain-number 18 refl refl refl refl
+action-plain Action.goLast = plain-number 19 refl refl refl refl
 
 map-tail : {A B : Type 0} (f : A → B) (xs : List A) → map f (tail xs) ≡ tail (map f xs)
 map-tail f [] = refl

@@ -4,7 +4,7 @@ use mathlib.Core.Path.{_≡_, refl, sym, _∙_, ap}
 use mathlib.Core.Bool.{Bool, true, false, cond}
 use lib.IntN.{ℤ, pos}
 use Rattle.rules.specs.Level.{Level, notAbove, visible}
-use Rattle.rules.specs.Tree.{Label, Forest, nil, tree, Side, child, sibling, along, Place, root, to, sub, label, exists, count, change, onSide, insert, remove, setValue, withValue, Fits}
+use Rattle.rules.specs.Tree.{Label, Forest, nil, tree, Side, child, sibling, along, Place, root, to, sub, lastFrom, label, exists, count, change, onSide, insert, remove, setValue, withValue, Fits}
 use Rattle.rules.proofs.Tests.{Test, holds, fails, test, clash}
 use Rattle.rules.proofs.Lattice.{hid-up, vis-down}
 use Rattle.rules.proofs.Trees.{fits-sub, change-id}
@@ -119,6 +119,15 @@ module _ (o : Level) where
   unfolding count cut
   count-cut lo hi nil e f = refl
   count-cut lo hi (tree l c r) e f = rw (vis-down o _ _ (f .0 .under) e) (ap Prim.Native.Nat.suc (count-cut _ hi r e (f .2)))
+
+  -- and its last stands where theirs does
+  pub last-cut : (lo hi : Level) (p : Place) (x : Forest) → visible o hi ≡ true → Fits lo hi x → lastFrom p (cut x) ≡ lastFrom p x
+  unfolding lastFrom cut
+  last-cut lo hi p nil e f = refl
+  last-cut lo hi p (tree l c nil) e f = rw (vis-down o _ _ (f .0 .under) e)
+  last-cut lo hi p (tree l c (tree k d r)) e f =
+      let v = vis-down o _ _ (f .2 .0 .under) e in
+      rw (vis-down o _ _ (f .0 .under) e, v) (rw v at (last-cut _ hi (to sibling p) (tree k d r) e (f .2)))
 
   -- the first nodes of two forests with the same cut: both visible and alike, or both hidden
   pub data Heads (x y : Forest) : Type 0 where

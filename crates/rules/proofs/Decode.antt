@@ -1,5 +1,5 @@
 -- The bytes of a record spell the variable or the command at its index, and where check 7 passes, a record's first byte is its command's number: the
--- list of the commands' numbers, computed, is that of the first eighteen numbers. Assumes nothing.
+-- list of the commands' numbers, computed, is that of the first twenty numbers. Assumes nothing.
 use mathlib.Core.Path.{_≡_, refl, sym, ap, _∙_}
 use mathlib.Core.Bool.{true}
 use mathlib.Core.List.{List}

@@ -34,8 +34,8 @@ pub scripts : List FollowOn
 scripts =
     -- first child, new right sibling
     script 100 512 (bare 9 ∷ one 12 0 (number (pos 5)) ∷ []) ∷ count
-    -- a part record; command 18 after a spare byte; a spare byte after a lone end; an unclosed block without a budget; no budget and too many places; too many places
-    ∷ script 0 513 ((6 ∷ []) ∷ []) ∷ script 100 512 (one 9 3 (v 7) ∷ bare 18 ∷ []) ∷ script 0 512 (bare 5 ∷ one 9 3 (v 7) ∷ []) ∷ script 0 512 (one 2 0 (v 1) ∷ []) ∷ script 0 513 []
+    -- a part record; command 20 after a spare byte; a spare byte after a lone end; an unclosed block without a budget; no budget and too many places; too many places
+    ∷ script 0 513 ((6 ∷ []) ∷ []) ∷ script 100 512 (one 9 3 (v 7) ∷ bare 20 ∷ []) ∷ script 0 512 (bare 5 ∷ one 9 3 (v 7) ∷ []) ∷ script 0 512 (one 2 0 (v 1) ∷ []) ∷ script 0 513 []
     ∷ script 100 513 [] ∷ count
     -- new first child, v0 := v1
     ∷ script 100 512 (one 11 0 (number (pos 7)) ∷ one 1 0 (v 1) ∷ []) ∷ count
@@ -43,12 +43,14 @@ scripts =
     ∷ script 100 4 (one 11 0 (number (pos 8)) ∷ []) ∷ script 100 0 (one 11 0 (number (pos 8)) ∷ []) ∷ script 1 512 []
     -- first child, and an if that comes back: up, new first child, end, print value; then with the first child removed before
     ∷ script 100 512 (bare 9 ∷ one 17 0 (number (pos 1)) ∷ bare 8 ∷ one 11 0 (number (pos 9)) ∷ bare 5 ∷ one 6 0 value ∷ [])
-    ∷ script 100 512 (bare 9 ∷ one 17 0 (number (pos 1)) ∷ bare 8 ∷ bare 13 ∷ one 11 0 (number (pos 6)) ∷ bare 5 ∷ []) ∷ []
+    ∷ script 100 512 (bare 9 ∷ one 17 0 (number (pos 1)) ∷ bare 8 ∷ bare 13 ∷ one 11 0 (number (pos 6)) ∷ bare 5 ∷ [])
+    -- last child, left sibling, print value
+    ∷ script 100 512 (bare 19 ∷ bare 18 ∷ one 6 0 value ∷ []) ∷ []
 
 pub due : List Seen
 due =
     came 0 0 [] ∷ came 0 0 (pos 2 ∷ []) ∷ came 11 0 [] ∷ came 7 1 [] ∷ came 12 1 [] ∷ came 8 1 [] ∷ came 9 0 [] ∷ came 10 0 [] ∷ came 0 0 (pos 2 ∷ []) ∷ came 21 1 []
-    ∷ came 0 0 (pos 3 ∷ []) ∷ came 23 0 [] ∷ came 23 0 [] ∷ came 0 0 [] ∷ came 0 0 (pos 7 ∷ []) ∷ came 22 5 [] ∷ []
+    ∷ came 0 0 (pos 3 ∷ []) ∷ came 23 0 [] ∷ came 23 0 [] ∷ came 0 0 [] ∷ came 0 0 (pos 7 ∷ []) ∷ came 22 5 [] ∷ came 0 0 (pos 3 ∷ []) ∷ []
 
 pub history-holds : map seen (history (standing (pos 0)) scripts) ≡ due
 unfolding computed seen came script count standing scripts due

@@ -7,7 +7,7 @@ use lib.IntN.{ℤ}
 use Rattle.rules.specs.Level.{Level}
 use Rattle.rules.specs.Tree.{Place}
 use Rattle.rules.specs.Script.{Expression, Action, Command}
-use Rattle.rules.specs.Run.{Memory, State, Buffers, withVariables, withTree, withCursor, withLine, assign, output, moveTo, goTo, insertAt, removeAt, write, effect, run}
+use Rattle.rules.specs.Run.{Memory, State, Buffers, withVariables, withTree, withCursor, withLine, assign, output, moveTo, goJoining, goTo, goToLast, insertAt, removeAt, write, effect, run}
 use Rattle.rules.proofs.Results.{Good, good-need, good-given, good-map}
 use Rattle.rules.proofs.Runs.{memory-keeps}
 
@@ -27,10 +27,10 @@ Longer : Memory → Memory → Type 0
 Longer m m′ = Extends (m .lines) (m′ .lines)
 
 module _ (pc : Level) (m : Memory) where
-  go-lines : (q : Option Place) → Good (Longer m) (goTo pc m q)
-  unfolding Longer goTo moveTo withCursor
-  go-lines none = tt
-  go-lines (some p) = good-need (Longer m) _ _ _ λ _. good-need (Longer m) _ _ _ λ _. extends-refl refl
+  go-lines : (l : Place → Level) (q : Option Place) → Good (Longer m) (goJoining pc m l q)
+  unfolding Longer goJoining moveTo withCursor
+  go-lines l none = tt
+  go-lines l (some p) = good-need (Longer m) _ _ _ λ _. good-need (Longer m) _ _ _ λ _. extends-refl refl
 
   insert-lines : (places : ℕ) (p : Place) (q : Option Place) (mark : ℕ) (e : Expression) → Good (Longer m) (insertAt pc m places p q mark e)
   unfolding Longer insertAt withTree
@@ -40,14 +40,16 @@ module _ (pc : Level) (m : Memory) where
       good-need (Longer m) _ _ _ λ _. good-need (Longer m) _ _ _ λ _. extends-refl refl
 
   effect-lines : (lent : Buffers) (a : Action) → Good (Longer m) (effect lent pc m a)
-  unfolding Longer effect assign output moveTo removeAt write withVariables withTree withCursor withLine
+  unfolding Longer effect assign output moveTo goTo goToLast removeAt write withVariables withTree withCursor withLine
   effect-lines lent Action.skip = extends-refl refl
   effect-lines lent (Action.assign i e) = good-need (Longer m) _ _ _ λ _. good-given (Longer m) _ _ λ _. extends-refl refl
   effect-lines lent (Action.output e) =
       good-need (Longer m) _ _ _ λ _. good-given (Longer m) _ _ λ z. good-need (Longer m) _ _ _ λ _. record { prefix = (z ∷ [], refl) }
   effect-lines lent Action.goRoot = good-need (Longer m) _ _ _ λ _. extends-refl refl
-  effect-lines lent Action.goParent = go-lines _
-  effect-lines lent (Action.go d) = go-lines _
+  effect-lines lent Action.goParent = go-lines _ _
+  effect-lines lent (Action.go d) = go-lines _ _
+  effect-lines lent Action.goLeft = go-lines _ _
+  effect-lines lent Action.goLast = go-lines _ _
   effect-lines lent (Action.insert d mark e) = insert-lines _ _ _ mark e
   effect-lines lent (Action.remove d) = good-need (Longer m) _ _ _ λ _. good-need (Longer m) _ _ _ λ _. extends-refl refl
   effect-lines lent (Action.write e) = good-need (Longer m) _ _ _ λ _. good-given (Longer m) _ _ λ _. extends-refl refl

@@ -9,10 +9,10 @@ use lib.ListN.{set}
 use lib.IntN.{ℤ}
 use Rattle.rules.specs.Level.{Level, public, secret, join, notAbove, visible}
 use Rattle.rules.specs.Tree as Tree
-use Rattle.rules.specs.Tree.{Forest, Side, Place, root, to, up, sub, label, change, setValue, withValue}
+use Rattle.rules.specs.Tree.{Forest, Side, Place, root, to, up, leftOf, sub, lastOf, label, exists, change, setValue, withValue}
 use Rattle.rules.specs.Script.{Expression, Action}
 use Rattle.rules.specs.Job.{Variable}
-use Rattle.rules.specs.Run.{Memory, Buffers, absent, Result, variableAt, current, levelOf, value, withVariables, withTree, withCursor, withLine, secretIf, position, flowOf, contextFlow, assign, output, moveTo, goTo, newLabel, insertAt, removeAt, write, effect}
+use Rattle.rules.specs.Run.{Memory, Buffers, absent, Result, variableAt, current, levelOf, value, withVariables, withTree, withCursor, withLine, secretIf, position, flowOf, contextFlow, assign, output, moveTo, goJoining, goTo, goToLast, newLabel, insertAt, removeAt, write, effect}
 use Rattle.rules.specs.Public.{seenVariable, seenValue}
 use Rattle.rules.proofs.Tests.{Test, holds, fails, test}
 use Rattle.rules.proofs.Lattice.{level-secret, vis-public, vis-down, vis-both, vis-left, hid-up, hid-right}
@@ -20,7 +20,7 @@ use Rattle.rules.proofs.Cut.{mask, cutLabel, cut, cut-change, insert-se
 use Rattle.rules.proofs.Results.{Good, Good₂, good₂-need, good₂-given, good₂-stop, good₂-of}
 use Rattle.rules.proofs.Sound.{Sound, there}
 use Rattle.rules.proofs.View.{view, seenAt, seenCursor, Kept, kept-go, kept-insert, kept-remove, kept-write}
-use Rattle.rules.proofs.Alike.{agree-value, expressions, levels-eq, existence-eq, content-eq, tree-eq, variables-eq, variable-eq, Cursors, seenBoth, seenNeither, cursors, subs, nodes}
+use Rattle.rules.proofs.Alike.{Agrees, agree-value, agree-level, agree-hidden, expressions, lasts, levels-eq, existence-eq, content-eq, tree-eq, variables-eq, variable-eq, Cursors, seenBoth, seenNeither, cursors, subs, nodes}
 
 map-set : {A B : Type 0} (f : A → B) (xs : List A) (i : ℕ) (x : A) → map f (set xs i x) ≡ set (map f xs) i (f x)
 map-set f [] i x = refl
@@ -118,26 +118,48 @@ module _ (o : Level) where
           pick (seenBoth e p l) = ap (λ c. seenCursor o c secret) p
           pick (seenNeither e f) = rw (hid-up o _ _ (level-secret _ (s₁ .cursor)) e)
 
-      -- 8, 9, 10
-      go-seen : (p q : Option Place) → p ≡ q → m₁ .level ≡ m₂ .level → Good₂ SameView (goTo pc m₁ p) (goTo pc m₂ q)
-      unfolding goTo moveTo seenCursor seenAt
-      go-seen none q w l = tt
-      go-seen (some p) none w l = good₂-stop SameView (goTo pc m₁ (some p)) absent
-      go-seen (some p) (some q) w l =
-          good₂-need SameView _ _ _ _ _ _ λ a b. good₂-need SameView _ _ _ _ _ _ λ _ _.
-          view-cursor _ _ _ _ (pick (heads o _ _ a b (subs o m₁ m₂ s₁ s₂ v p ∙ ap (λ x. cut o (sub x (m₂ .tree))) place)))
-        where
-          place : p ≡ q
-          place = cc
+      -- two moves to nodes, where the cursors look the same behind them
+      lock-joining : (j k : Place → Level) (a b : Option Place)
+          → ((p q : Place) → a ≡ some p → b ≡ some q → exists (sub p (m₁ .tree)) ≡ true → exists (sub q (m₂ .tree)) ≡ true
+          → seenCursor o p (join (m₁ .level) (j p)) ≡ seenCursor o q (join (m₂ .level) (k q)))
+          → Good₂ SameView (goJoining pc m₁ j a) (goJoining pc m₂ k b)
+      unfolding goJoining moveTo
+      lock-joining j k none b h = tt
+      lock-joining j k (some p) none h = good₂-stop SameView (goJoining pc m₁ j (some p)) absent
+      lock-joining j k (some p) (some q) h =
+          good₂-need SameView _ _ _ _ _ _ λ x y. good₂-need SameView _ _ _ _ _ _ λ _ _. view-cursor _ _ _ _ (h p q refl refl x y)
 
+      -- 8, 9, 10 and 18: at the same place
+      node-seen : (p q : Place) → p ≡ q → m₁ .level ≡ m₂ .level → exists (sub p (m₁ .tree)) ≡ true → exists (sub q (m₂ .tree)) ≡ true
+          → seenCursor o p (join (m₁ .level) ((label (sub p (m₁ .tree))) .existence)) ≡ seenCursor o q (join (m₂ .level) ((label (sub q (m₂ .tree))) .existence))
+      unfolding seenCursor seenAt
+      node-seen p q place l x y = pick (heads o _ _ x y (subs o m₁ m₂ s₁ s₂ v p ∙ ap (λ x. cut o (sub x (m₂ .tree))) place))
+        where
           pick : Heads o (sub p (m₁ .tree)) (sub q (m₂ .tree))
               → seenCursor o p (join (m₁ .level) ((label (sub p (m₁ .tree))) .existence)) ≡ seenCursor o q (join (m₂ .level) ((label (sub q (m₂ .tree))) .existence))
           pick (seen a h c) = λ i. seenCursor o (place i) (join (l i) (existence-eq o _ _ h i))
           pick (hidden a b) = rw (hid-right o (m₁ .level) _ a, hid-right o (m₂ .level) _ b)
 
-      -- a place that both find from their cursors
+      -- which both find from their cursors
       lock-go : (f : Place → Option Place) → Good₂ SameView (goTo pc m₁ (f (m₁ .cursor))) (goTo pc m₂ (f (m₂ .cursor)))
-      lock-go f = by-cursor (λ lent m. goTo pc m (f (m .cursor))) (λ e p l. go-seen _ _ (ap f p) l) (λ lent m s e. kept-go o pc m _ (λ _. e))
+      unfolding goTo
+      lock-go f =
+          by-cursor (λ lent m. goTo pc m (f (m .cursor)))
+          (λ e c l. lock-joining _ _ _ _ λ p q a b x y. node-seen p q (Option·some-injective _ _ (sym a ∙ ap f c ∙ b)) l x y)
+          (λ lent m s e. kept-go o pc m _ _ (λ _. e))
+
+      -- 19: at one place where the list of children is seen, else at a level that is not
+      last-seen : (j k : Level) (a b : Option Place) (p q : Place) → Agrees o j k a b → a ≡ some p → b ≡ some q → seenCursor o p j ≡ seenCursor o q k
+      unfolding seenCursor seenAt
+      last-seen j k a b p q agree x y = pick (test (visible o j))
+        where
+          pick : Test (visible o j) → seenCursor o p j ≡ seenCursor o q k
+          pick (holds e) = λ i. seenCursor o (Option·some-injective _ _ (sym x ∙ agree-value o agree e ∙ y) i) (agree-level o agree e i)
+          pick (fails e) = rw (e, agree-hidden o agree e)
+
+      lock-last : Good₂ SameView (goToLast pc m₁) (goToLast pc m₂)
+      unfolding goToLast
+      lock-last = lock-joining _ _ _ _ λ p q a b _ _. last-seen _ _ _ _ p q (lasts o m₁ m₂ s₁ s₂ v) a b
 
       -- the same done to the cut at the same place
       cut-eq : (p q : Place) (f g h k : Forest → Forest) → p ≡ q → h ≡ k → cut o (f (sub p (m₁ .tree))) ≡ h (cut o (sub p (m₁ .tree)))
@@ -221,6 +243,8 @@ module _ (o : Level) where
       lockstep Action.goRoot = lock-root
       lockstep Action.goParent = lock-go up
       lockstep (Action.go d) = lock-go (λ p. some (to d p))
+      lockstep Action.goLeft = lock-go leftOf
+      lockstep Action.goLast = lock-last
       lockstep (Action.insert d mark e) = lock-insert d mark e
       lockstep (Action.remove d) = lock-remove d
       lockstep (Action.write e) = lock-write e

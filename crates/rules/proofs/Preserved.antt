@@ -14,7 +14,7 @@ use Rattle.rules.specs.Level.{Level}
 use Rattle.rules.specs.Tree as Tree
 use Rattle.rules.specs.Tree.{Label, Forest, nil, tree, Side, child, sibling, Place, root, to, up, exists, count, size, along, sub, onSide, change, setValue}
 use Rattle.rules.specs.Script.{Expression, Action, Command}
-use Rattle.rules.specs.Run.{Memory, State, Buffers, withVariables, withTree, withCursor, withLine, newLabel, assign, output, moveTo, goTo, insertAt, removeAt, write, effect, run}
+use Rattle.rules.specs.Run.{Memory, State, Buffers, withVariables, withTree, withCursor, withLine, newLabel, assign, output, moveTo, goJoining, goTo, goToLast, insertAt, removeAt, write, effect, run}
 use Rattle.rules.proofs.Tests.{clash}
 use Rattle.rules.proofs.Results.{Good, good-need, good-given}
 use Rattle.rules.proofs.Runs.{memory-keeps}
@@ -112,10 +112,10 @@ unfolding withCursor
 moved v m p l h = record { variables = h .variables; rooted = h .rooted; small = h .small }
 
 module _ (lent : Buffers) (places : lent .places ≤ maxNodes) (v : ℕ) (pc : Level) (m : Memory) (h : Held v m) where
-  go-held : (q : Option Place) → Good (Held v) (goTo pc m q)
-  unfolding goTo moveTo
-  go-held none = tt
-  go-held (some p) = good-need (Held v) _ _ _ λ _. good-need (Held v) _ _ _ λ _. moved v m _ _ h
+  go-held : (l : Place → Level) (q : Option Place) → Good (Held v) (goJoining pc m l q)
+  unfolding goJoining moveTo
+  go-held l none = tt
+  go-held l (some p) = good-need (Held v) _ _ _ λ _. good-need (Held v) _ _ _ λ _. moved v m _ _ h
 
   insert-held : (d : Side) (q : Option Place) (mark : ℕ) (e : Expression) → up (to d (m .cursor)) ≡ q
       → Good (Held v) (insertAt pc m (lent .places) (to d (m .cursor)) q mark e)
@@ -151,15 +151,17 @@ module _ (lent : Buffers) (places : lent .places ≤ maxNodes) (v : ℕ) (pc : L
       }
 
   pub effect-held : (a : Action) → Good (Held v) (effect lent pc m a)
-  unfolding effect assign output moveTo withVariables withLine
+  unfolding effect assign output moveTo goTo goToLast withVariables withLine
   effect-held Action.skip = h
   effect-held (Action.assign i e) =
       good-need (Held v) _ _ _ λ _. good-given (Held v) _ _ λ _. record { variables = length-set (m .variables) i _ ∙ h .variables; rooted = h .rooted; small = h .small }
   effect-held (Action.output e) =
       good-need (Held v) _ _ _ λ _. good-given (Held v) _ _ λ _. good-need (Held v) _ _ _ λ _. record { variables = h .variables; rooted = h .rooted; small = h .small }
   effect-held Action.goRoot = good-need (Held v) _ _ _ λ _. moved v m _ _ h
-  effect-held Action.goParent = go-held _
-  effect-held (Action.go d) = go-held _
+  effect-held Action.goParent = go-held _ _
+  effect-held (Action.go d) = go-held _ _
+  effect-held Action.goLeft = go-held _ _
+  effect-held Action.goLast = go-held _ _
   effect-held (Action.insert d mark e) = insert-held d _ mark e refl
   effect-held (Action.remove d) = remove-held d
   effect-held (Action.write e) = write-held e

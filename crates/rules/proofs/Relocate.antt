@@ -11,7 +11,7 @@ use Rattle.rules.specs.Level.{Level, public, join, notAbove, isLevel, vi
 use Rattle.rules.specs.Tree as Tree
 use Rattle.rules.specs.Tree.{Forest, nil, tree, Place, to, sub, label, exists, afterInsert}
 use Rattle.rules.specs.Script.{Expression, Action}
-use Rattle.rules.specs.Run.{Memory, Saved, Block, Buffers, next, context, withVariables, withTree, withCursor, withLine, position, assign, output, moveTo, goTo, mayTouch, insertAt, removeAt, write, effect, relocate, onSaved, onBlock}
+use Rattle.rules.specs.Run.{Memory, Saved, Block, Buffers, next, context, withVariables, withTree, withCursor, withLine, position, assign, output, moveTo, goJoining, goTo, goToLast, mayTouch, insertAt, removeAt, write, effect, relocate, onSaved, onBlock}
 use Rattle.rules.proofs.Tests.{Test, holds, fails, test, clash}
 use Rattle.rules.proofs.Lattice.{na-left, na-right, na-trans, vis-down}
 use Rattle.rules.proofs.Places.{Still, same-still, no-some, still-written, Fate, unmoved, moved, gone, fate-insert, fate-remove}
@@ -53,22 +53,24 @@ module _ (lent : Buffers) (pc : Level) (m : Memory) (sound : Sound m) where
         good-need P _ _ _ λ _. good-need P _ _ _ λ h. good-given P _ _ λ _. good-need P _ _ _ λ _. good-need P _ _ _ λ _.
         by-fate p _ _ h (fate-insert (m .tree) q stands public public (sound .rules) p _)
 
-    go-follows : (p : Option Place) → Good (λ n. Follows (n .tree) (some q)) (goTo pc m p)
-    unfolding goTo moveTo withCursor
-    go-follows none = tt
-    go-follows (some p) =
+    go-follows : (l : Place → Level) (p : Option Place) → Good (λ n. Follows (n .tree) (some q)) (goJoining pc m l p)
+    unfolding goJoining moveTo withCursor
+    go-follows l none = tt
+    go-follows l (some p) =
         let P : Memory → Type 0 = λ n. Follows (n .tree) (some q) in
         good-need P _ _ _ λ _. good-need P _ _ _ λ _. same-tree
 
     effect-follows : (a : Action) → Good (After a) (effect lent pc m a)
-    unfolding effect After relocate assign output moveTo removeAt write withVariables withTree withCursor withLine
+    unfolding effect After relocate assign output moveTo goTo goToLast removeAt write withVariables withTree withCursor withLine
     effect-follows Action.skip = same-tree
     effect-follows (Action.assign i e) = good-need (After (Action.assign i e)) _ _ _ λ _. good-given (After (Action.assign i e)) _ _ λ _. same-tree
     effect-follows (Action.output e) =
         good-need (After (Action.output e)) _ _ _ λ _. good-given (After (Action.output e)) _ _ λ _. good-need (After (Action.output e)) _ _ _ λ _. same-tree
     effect-follows Action.goRoot = good-need (After Action.goRoot) _ _ _ λ _. same-tree
-    effect-follows Action.goParent = go-follows _
-    effect-follows (Action.go d) = go-follows _
+    effect-follows Action.goParent = go-follows _ _
+    effect-follows (Action.go d) = go-follows _ _
+    effect-follows Action.goLeft = go-follows _ _
+    effect-follows Action.goLast = go-follows _ _
     effect-follows (Action.insert d mark e) = insert-follows _ _ _ mark e
     effect-follows (Action.remove d) =
         good-need (After (Action.remove d)) _ _ _ λ _. good-need (After (Action.remove d)) _ _ _ λ h.

@@ -9,14 +9,14 @@ use lib.ListN.{set}
 use lib.IntN.{ℤ}
 use Rattle.rules.specs.Level.{Level, public, secret, notAbove, isLevel}
 use Rattle.rules.specs.Tree as Tree
-use Rattle.rules.specs.Tree.{Forest, nil, tree, Side, Place, root, to, up, sub, label, exists, change, onSide, remove, setValue, withValue, Levels, Fits, TreeRules}
+use Rattle.rules.specs.Tree.{Forest, nil, tree, Side, child, Place, root, to, up, sub, lastOf, label, exists, change, onSide, remove, setValue, withValue, Levels, Fits, TreeRules}
 use Rattle.rules.specs.Script.{Operand, Expression, alone, Action}
 use Rattle.rules.specs.Script as Script
 use Rattle.rules.specs.Job.{Variable, allLevels}
-use Rattle.rules.specs.Run.{Memory, Buffers, Stop, flow, absent, tableFull, boardFull, spent, low, overflow, noVariable, variableAt, current, operandLevel, levelOf, value, withVariables, withTree, withCursor, withLine, secretIf, position, flowOf, assign, output, moveTo, goTo, mayTouch, newLabel, insertAt, removeAt, write, effect}
+use Rattle.rules.specs.Run.{Memory, Buffers, Stop, flow, absent, tableFull, boardFull, spent, low, overflow, noVariable, variableAt, current, operandLevel, levelOf, value, withVariables, withTree, withCursor, withLine, secretIf, position, flowOf, assign, output, moveTo, goJoining, goTo, goToLast, mayTouch, newLabel, insertAt, removeAt, write, effect}
 use Rattle.rules.proofs.Tests.{both, clash}
-use Rattle.rules.proofs.Lattice.{na-public, na-trans, na-left, na-right, level-secret, level-public, secret-level, level-join}
-use Rattle.rules.proofs.Trees.{loAt, hiAt, fits-sub, fits-change, fit-first, hi-parent, fits-remove, fits-value, sub-change, exists-sub, on-exists, on-label}
+use Rattle.rules.proofs.Lattice.{na-public, na-refl, na-trans, na-left, na-right, level-secret, level-public, secret-level, level-join}
+use Rattle.rules.proofs.Trees.{loAt, hiOf, hiAt, fits-sub, fits-change, fit-first, hi-parent, last-under, fits-remove, fits-value, sub-change, exists-sub, on-exists, on-label}
 use Rattle.rules.proofs.Results.{Good, good-need, good-given, Stops, stops-need, stops-given}
 
 -- every stop but 26
@@ -199,12 +199,26 @@ module _ (m : Memory) (sound : Sound m) where
         good-need Sound _ _ _ λ _. good-given Sound _ _ λ _. good-need Sound _ _ _ λ _.
         record { rules = sound .rules; stands = sound .stands; covered = sound .covered; cursor = sound .cursor; variables = sound .variables }
 
-    go-sound : (q : Option Place) → Good Sound (goTo pc m q)
-    unfolding goTo moveTo
-    go-sound none = tt
-    go-sound (some p) =
+    -- a move that joins a level, which the existence of the new node is not above
+    joining-sound : (l : Place → Level) (q : Option Place)
+        → ((p : Place) → q ≡ some p → exists (sub p (m .tree)) ≡ true
+        → (notAbove ((label (sub p (m .tree))) .existence) (l p) ≡ true) × (isLevel (l p) ≡ true))
+        → Good Sound (goJoining pc m l q)
+    unfolding goJoining moveTo
+    joining-sound l none k = tt
+    joining-sound l (some p) k =
         good-need Sound _ _ _ λ e. good-need Sound _ _ _ λ _.
-        moved p _ e (na-right _ _) (level-join _ _ (sound .cursor) ((node-levels p e) .existence))
+        moved p _ e (na-trans _ _ _ (k p refl e .0) (na-right _ _)) (level-join _ _ (sound .cursor) (k p refl e .1))
+
+    go-sound : (q : Option Place) → Good Sound (goTo pc m q)
+    unfolding goTo
+    go-sound q = joining-sound _ q (λ p _ e. (na-refl _, (node-levels p e) .existence))
+
+    last-sound : Good Sound (goToLast pc m)
+    unfolding goToLast lastOf current hiAt hiOf
+    last-sound =
+        joining-sound _ _ λ p h e.
+        (last-under _ p (m .tree) _ _ _ refl (there (to child (m .cursor))) h, (node-levels (m .cursor) (sound .stands)) .structure)
 
     root-sound : Good Sound (moveTo pc m root pc)
     unfolding moveTo sub current
@@ -226,6 +240,8 @@ module _ (m : Memory) (sound : Sound m) where
     effect-sound lent Action.goRoot = root-sound
     effect-sound lent Action.goParent = go-sound _
     effect-sound lent (Action.go d) = go-sound _
+    effect-sound lent Action.goLeft = go-sound _
+    effect-sound lent Action.goLast = last-sound
     effect-sound lent (Action.insert d mark e) = insert-sound d _ mark e _ refl
     effect-sound lent (Action.remove d) = remove-sound d
     effect-sound lent (Action.write e) = write-sound e
@@ -239,19 +255,21 @@ module _ (m : Memory) (sound : Sound m) where
         (stops-need High _ _ _ (λ _. tt)
         (stops-given High _ _ tt λ z. stops-need High _ _ _ (λ f. clash never-low f) (stops-need High _ _ _ (λ _. tt) tt)))
 
-    go-high : (q : Option Place) → Stops High (goTo pc m q)
-    unfolding goTo moveTo
-    go-high none = tt
-    go-high (some p) = stops-need High _ _ _ (λ _. tt) (stops-need High _ _ _ (λ _. tt) tt)
+    go-high : (l : Place → Level) (q : Option Place) → Stops High (goJoining pc m l q)
+    unfolding goJoining moveTo
+    go-high l none = tt
+    go-high l (some p) = stops-need High _ _ _ (λ _. tt) (stops-need High _ _ _ (λ _. tt) tt)
 
     pub effect-high : (lent : Buffers) (a : Action) → Stops High (effect lent pc m a)
-    unfolding effect assign output moveTo removeAt write
+    unfolding effect assign output moveTo goTo goToLast removeAt write
     effect-high lent Action.skip = tt
     effect-high lent (Action.assign i e) = stops-need High _ _ _ (λ _. tt) (stops-given High _ _ tt λ _. tt)
     effect-high lent (Action.output e) = stops-need High _ _ _ (λ _. tt) (stops-given High _ _ tt λ _. stops-need High _ _ _ (λ _. tt) tt)
     effect-high lent Action.goRoot = stops-need High _ _ _ (λ _. tt) tt
-    effect-high lent Action.goParent = go-high _
-    effect-high lent (Action.go d) = go-high _
+    effect-high lent Action.goParent = go-high _ _
+    effect-high lent (Action.go d) = go-high _ _
+    effect-high lent Action.goLeft = go-high _ _
+    effect-high lent Action.goLast = go-high _ _
     effect-high lent (Action.insert d mark e) = insert-high _ _ _ mark e
     effect-high lent (Action.remove d) = stops-need High _ _ _ (λ _. tt) (stops-need High _ _ _ (λ _. tt) tt)
     effect-high lent (Action.write e) = stops-need High _ _ _ (λ _. tt) (stops-given High _ _ tt λ _. tt)

@@ -1,4 +1,4 @@
--- Fifteen ways to leak, each as two jobs that differ in what the house owns, with what the rules give. By computation. Where a rule is loosened,
+-- Eighteen ways to leak, each as two jobs that differ in what the house owns, with what the rules give. By computation. Where a rule is loosened,
 -- both runs of its pair finish and their boards differ. Last, a pair that counts under cover and finishes. Assumes nothing.
 use mathlib.Core.Path.{_≡_, refl}
 use Prim.Native.Nat.{ℕ}
@@ -7,7 +7,7 @@ use lib.IntN.{ℤ, pos}
 use Rattle.rules.specs.Limits.{noParent}
 use Rattle.rules.specs.Level.{public, secret}
 use Rattle.rules.specs.Outcome.{Outcome, answer, boardLines, runJob}
-use Rattle.rules.specs.Trials.{job, pair, node, one, both, bare, v, number, value, children, withPlaces, usual, guarded, returning}
+use Rattle.rules.specs.Trials.{job, pair, node, one, both, bare, v, number, value, children, withPlaces, usual, guarded, returning, besideNew}
 use Rattle.rules.proofs.Computed.{computed}
 
 -- ending, index and lines
@@ -93,6 +93,17 @@ traps =
     ∷ by-value (returning (v 1) (bare 9 ∷ []) ++ (one 6 0 value ∷ [])) (done (pos 10 ∷ [])) (done (pos 10 ∷ []))
     -- its end without the level: cover, if v1, first child, end, come back at once, print value
     ∷ by-value (bare 16 ∷ (guarded 9 ++ (returning (number (pos 0)) [] ++ (one 6 0 value ∷ [])))) (blocked 6) (blocked 6)
+    -- left sibling under a house guard, from the last of two children
+    ∷ by-value (besideNew (bare 10 ∷ (guarded 18 ++ tell (pos 5)))) (blocked 4) (done (pos 1 ∷ []))
+    -- last child under a house guard
+    ∷ by-value (guarded 19 ++ tell (pos 10)) (blocked 1) (done (pos 1 ∷ []))
+    -- last child, where a house child stands last in the first job only
+    ∷ (let cs = bare 19 ∷ tell (pos 3) in
+    let nodes = node noParent public public secret (pos 10) ∷ node 0 public public public (pos 3) ∷ [] in
+    record {
+      came = play (job (pair (pos 0)) (nodes ++ (node 0 secret secret secret (pos 4) ∷ [])) cs) ∷ play (job (pair (pos 0)) nodes cs) ∷ [];
+      due = done (pos 0 ∷ []) ∷ blocked 2 ∷ [];
+    })
     -- what is read at a covered cursor: print value
     ∷ by-value (covered ++ (one 6 0 value ∷ [])) (blocked 4) (blocked 4)
     -- the same: print children

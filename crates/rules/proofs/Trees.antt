@@ -2,10 +2,10 @@
 -- Assumes nothing.
 use mathlib.Core.Path.{_≡_, refl, _∙_, ap, fun-ext}
 use mathlib.Core.Bool.{true}
-use mathlib.Core.Option.{some}
+use mathlib.Core.Option.{some, Option·none-ne-some, Option·some-injective}
 use lib.IntN.{ℤ}
 use Rattle.rules.specs.Level.{Level, notAbove}
-use Rattle.rules.specs.Tree.{Label, Forest, nil, tree, Side, child, sibling, along, Place, root, to, up, sub, label, exists, change, onSide, remove, setValue, withValue, Fit, Fits}
+use Rattle.rules.specs.Tree.{Label, Forest, nil, tree, Side, child, sibling, along, Place, root, to, up, sub, lastFrom, label, exists, change, onSide, remove, setValue, withValue, Fit, Fits}
 use Rattle.rules.proofs.Tests.{clash}
 use Rattle.rules.proofs.Lattice.{na-trans}
 
@@ -60,6 +60,14 @@ unfolding up hiAt hiOf
 hi-parent root q t hi h = let z : _≡_ {A = Level} hi ((label (sub q t)) .structure) = cc in z
 hi-parent (to child p) q t hi h = let z : q ≡ p = cc in rw z
 hi-parent (to sibling p) q t hi h = hi-parent p q t hi h
+
+-- the last of siblings is one of them, so the structure level of their parent bounds its existence too
+pub last-under : (p q : Place) (t x : Forest) (lo hi : Level) → sub p t ≡ x → Fits lo hi x → lastFrom p x ≡ some q
+    → notAbove ((label (sub q t)) .existence) hi ≡ true
+unfolding lastFrom sub along label
+last-under p q t nil lo hi e f h = absurd (Option·none-ne-some _ h)
+last-under p q t (tree l c nil) lo hi e f h = rw (← Option·some-injective _ _ h, e) (f .0 .under)
+last-under p q t (tree l c (tree k d r)) lo hi e f h = last-under (to sibling p) q t (tree k d r) _ hi (ap (along sibling) e) (f .2) h
 
 -- what the rules of siblings become where the first changes
 

@@ -1,7 +1,7 @@
--- The twelve trials, and those of the if that comes back, from job bytes to outcome, by computation. Assumes nothing.
+-- The twelve trials, those of the if that comes back and those of left sibling and last child, from job bytes to outcome, by computation. Assumes nothing.
 use mathlib.Core.Path.{_≡_, refl}
 use mathlib.Core.List.{map}
-use Rattle.rules.specs.Trials.{shown, trials, backTrials}
+use Rattle.rules.specs.Trials.{shown, trials, backTrials, moveTrials}
 use Rattle.rules.proofs.Computed.{computed}
 
 pub trials-hold : map (λ t. shown (t .came)) trials ≡ map (λ t. t .due) trials
@@ -11,3 +11,7 @@ trials-hold = refl
 pub back-trials-hold : map (λ t. shown (t .came)) backTrials ≡ map (λ t. t .due) backTrials
 unfolding computed
 back-trials-hold = refl
+
+pub move-trials-hold : map (λ t. shown (t .came)) moveTrials ≡ map (λ t. t .due) moveTrials
+unfolding computed
+move-trials-hold = refl

@@ -11,7 +11,7 @@ use Rattle.rules.specs.Tree as Tree
 use Rattle.rules.specs.Tree.{Forest, nil, tree, Place, label, exists}
 use Rattle.rules.specs.Script.{Expression, Action}
 use Rattle.rules.specs.Job.{Variable}
-use Rattle.rules.specs.Run.{Memory, Saved, Block, Buffers, noVariable, variableAt, current, withVariables, withTree, withCursor, position, flowOf, contextFlow, assign, output, moveTo, goTo, mayTouch, newLabel, insertAt, removeAt, write, effect}
+use Rattle.rules.specs.Run.{Memory, Saved, Block, Buffers, noVariable, variableAt, current, withVariables, withTree, withCursor, position, flowOf, contextFlow, assign, output, moveTo, goJoining, goTo, goToLast, mayTouch, newLabel, insertAt, removeAt, write, effect}
 use Rattle.rules.specs.Public.{SeenVariable, seenVariable, seenValue}
 use Rattle.rules.proofs.Tests.{clash}
 use Rattle.rules.proofs.Lattice.{level-secret, vis-public, vis-down, hid-up, hid-left, hid-right}
@@ -123,11 +123,11 @@ module _ (o : Level) where
   unfolding moveTo
   kept-move pc m p l k = good-need (Kept m) _ _ _ λ h. kept-cursor m p l (k h .0) (k h .1)
 
-  pub kept-go : (pc : Level) (m : Memory) (q : Option Place) → (notAbove pc (m .level) ≡ true → visible o (m .level) ≡ false)
-      → Good (Kept m) (goTo pc m q)
-  unfolding goTo
-  kept-go pc m none k = tt
-  kept-go pc m (some p) k = good-need (Kept m) _ _ _ λ _. kept-move pc m p _ (λ h. (k h, hid-left o _ _ (k h)))
+  pub kept-go : (pc : Level) (m : Memory) (l : Place → Level) (q : Option Place) → (notAbove pc (m .level) ≡ true → visible o (m .level) ≡ false)
+      → Good (Kept m) (goJoining pc m l q)
+  unfolding goJoining
+  kept-go pc m l none k = tt
+  kept-go pc m l (some p) k = good-need (Kept m) _ _ _ λ _. kept-move pc m p _ (λ h. (k h, hid-left o _ _ (k h)))
 
   module _ (pc : Level) (m : Memory) (sound : Sound m) (dark : visible o pc ≡ false) where
     below : visible o (position pc m) ≡ false
@@ -154,13 +154,15 @@ module _ (o : Level) where
 
     -- confinement
     pub confined : (lent : Buffers) (a : Action) → Good (Kept m) (effect lent pc m a)
-    unfolding effect Kept
+    unfolding effect Kept goTo goToLast
     confined lent Action.skip = refl
     confined lent (Action.assign i e) = kept-assign i e
     confined lent (Action.output e) = kept-output _ e
     confined lent Action.goRoot = kept-move pc m _ _ (λ h. (level-hidden h, dark))
-    confined lent Action.goParent = kept-go pc m _ level-hidden
-    confined lent (Action.go d) = kept-go pc m _ level-hidden
+    confined lent Action.goParent = kept-go pc m _ _ level-hidden
+    confined lent (Action.go d) = kept-go pc m _ _ level-hidden
+    confined lent Action.goLeft = kept-go pc m _ _ level-hidden
+    confined lent Action.goLast = kept-go pc m _ _ level-hidden
     confined lent (Action.insert d mark e) = kept-insert pc m sound below _ _ _ mark e
     confined lent (Action.remove d) = kept-remove pc m sound below _
     confined lent (Action.write e) = kept-write pc m sound below e

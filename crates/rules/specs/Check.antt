@@ -97,7 +97,7 @@ module _ (b : List ℕ) (vars : ℕ) where
       (not (r .target) || ltb (byte b (at + 1)) vars) && (not (r .mark) || leb (byte b (at + 1)) 3)
       && (not (r .expression) || expressionRule at)
 
-  -- 7: no command above 17, and no "field read is out of range"
+  -- 7: no command above 19, and no "field read is out of range"
   unfoldable pub recordRule : ℕ → Bool
   recordRule at = ltb (byte b at) commandCount && fieldsRule (rowOf (byte b at)) at
 
@@ -182,13 +182,9 @@ first = record { commands = 17; spare = false }
 unfoldable pub clean : Edition
 clean = record { commands = 17; spare = true }
 
--- with command 17, R-6
-unfoldable pub returning : Edition
-returning = record { commands = 18; spare = true }
-
--- the rules in force today
+-- the rules in force today, with commands 17, R-6, and 18 and 19, R-7
 unfoldable pub today : Edition
-today = returning
+today = record { commands = commandCount; spare = true }
 
 -- 7, in an edition
 unfoldable pub recordRuleIn : Edition → List ℕ → ℕ → ℕ → Bool

@@ -46,9 +46,9 @@ recordSize = 16
 abbrev pub noParent : ℕ
 noParent = 65535
 
--- "One fixed table of seventeen rows", and one more for the if that comes back
+-- "One fixed table of seventeen rows", and three more: the if that comes back, left sibling and last child
 abbrev pub commandCount : ℕ
-commandCount = 18
+commandCount = 20
 
 -- 1: the number of bytes
 abbrev pub badLength : ℕ

@@ -8,7 +8,7 @@ use lib.IntN.{ℤ, pos}
 use lib.Dec.{leb, ltb, eqb}
 use Rattle.rules.specs.Level.{Level, public, secret, join, notAbove}
 use Rattle.rules.specs.Number.{isZero}
-use Rattle.rules.specs.Tree.{Label, Forest, nil, tree, child, along, Place, root, to, up, label, exists, count, size, sub, change, setValue, afterInsert, afterRemove}
+use Rattle.rules.specs.Tree.{Label, Forest, nil, tree, child, along, Place, root, to, up, leftOf, lastOf, label, exists, count, size, sub, change, setValue, afterInsert, afterRemove}
 use Rattle.rules.specs.Tree as Tree
 use Rattle.rules.specs.Script.{Operand, Expression, alone, both, Action, Command, act, apply, fetch, numberAt}
 use Rattle.rules.specs.Blocks.{goesTo}
@@ -162,15 +162,22 @@ module _ (pc : Level) (m : Memory) where
       need flow (notAbove (contextFlow e) public)
       (given (value m e) λ z. need boardFull (ltb (length (m .lines)) capacity) (next (withLine m z)))
 
-  -- the rule of 7 to 10 and 16: "context not above cursor level"
+  -- the rule of 7 to 10, 16, 18 and 19: "context not above cursor level"
   unfoldable pub moveTo : Place → Level → Result Memory
   moveTo p l = need flow (notAbove pc (m .level)) (next (withCursor m p l))
 
-  -- 8, 9 and 10: 22 where the node does not exist; "cursor level joins the new node's existence"
+  -- a move to a node: 22 where it "does not exist"; the cursor level joins the level l, which may be that of the new node
+  unfoldable pub goJoining : (Place → Level) → Option Place → Result Memory
+  goJoining l none = stop absent
+  goJoining l (some p) = need absent (exists (sub p (m .tree))) (moveTo p (join (m .level) (l p)))
+
+  -- 8, 9, 10 and 18: "cursor level joins the new node's existence"
   unfoldable pub goTo : Option Place → Result Memory
-  goTo none = stop absent
-  goTo (some p) =
-      need absent (exists (sub p (m .tree))) (moveTo p (join (m .level) ((label (sub p (m .tree))) .existence)))
+  goTo q = goJoining (λ p. (label (sub p (m .tree))) .existence) q
+
+  -- 19: "joins the parent's list level, because a house child may stand last in one run only"
+  unfoldable pub goToLast : Result Memory
+  goToLast = goJoining (λ p. (label (current m)) .structure) (lastOf (m .cursor) (m .tree))
 
   -- "C not above .. the existence of" a node, if there is one
   unfoldable pub mayTouch : Forest → Bool
@@ -217,6 +224,8 @@ effect lent pc m (Action.output e) = output pc m (lent .lines) e
 effect lent pc m Action.goRoot = moveTo pc m root pc
 effect lent pc m Action.goParent = goTo pc m (up (m .cursor))
 effect lent pc m (Action.go d) = goTo pc m (some (to d (m .cursor)))
+effect lent pc m Action.goLeft = goTo pc m (leftOf (m .cursor))
+effect lent pc m Action.goLast = goToLast pc m
 effect lent pc m (Action.insert d mark e) = insertAt pc m (lent .places) (to d (m .cursor)) (up (to d (m .cursor))) mark e
 effect lent pc m (Action.remove d) = removeAt pc m (to d (m .cursor))
 effect lent pc m (Action.write e) = write pc m e
@@ -230,6 +239,8 @@ relocate (Action.output e) c q = some q
 relocate Action.goRoot c q = some q
 relocate Action.goParent c q = some q
 relocate (Action.go d) c q = some q
+relocate Action.goLeft c q = some q
+relocate Action.goLast c q = some q
 relocate (Action.insert d mark e) c q = some (afterInsert (to d c) q)
 relocate (Action.remove d) c q = afterRemove (to d c) q
 relocate (Action.write e) c q = some q

@@ -1,4 +1,4 @@
--- The script: operands, expressions, commands with their numbers, and the table of eighteen rows. Assumes nothing.
+-- The script: operands, expressions, commands with their numbers, and the table of twenty rows. Assumes nothing.
 use Prim.Native.Nat.{ℕ}
 use mathlib.Core.Bool.{Bool, true, false}
 use mathlib.Core.Option.{Option, some}
@@ -28,7 +28,7 @@ pub data Action : Type 0 where
   skip : Action
   assign : ℕ → Expression → Action
   output : Expression → Action
-  goRoot goParent : Action
+  goRoot goParent goLeft goLast : Action
   go : Side → Action
   insert : Side → ℕ → Expression → Action
   remove : Side → Action
@@ -70,6 +70,8 @@ commands t e =
     ∷ act (Action.write e)  -- 15
     ∷ act Action.raise  -- 16 cover
     ∷ Command.ifBack e  -- 17
+    ∷ act Action.goLeft  -- 18 left sibling
+    ∷ act Action.goLast  -- 19 last child
     ∷ []
 
 -- the number of an action
@@ -87,6 +89,8 @@ actionNumber (Action.remove child) = 13
 actionNumber (Action.remove sibling) = 14
 actionNumber (Action.write e) = 15
 actionNumber Action.raise = 16
+actionNumber Action.goLeft = 18
+actionNumber Action.goLast = 19
 
 -- the number of a command
 unfoldable pub number : Command → ℕ
@@ -107,7 +111,7 @@ pub record Row : Type 0 where
 abbrev pub row : Bool → Bool → Bool → Row
 row t m e = record { target = t; mark = m; expression = e }
 
--- "One fixed table of seventeen rows", here with an eighteenth, "says which fields each command reads; the others are ignored."
+-- "One fixed table of seventeen rows", here with three more, "says which fields each command reads; the others are ignored."
 unfoldable pub rows : List Row
 rows =
     row false false false  -- 0
@@ -128,6 +132,8 @@ rows =
     ∷ row false false true  -- 15
     ∷ row false false false  -- 16 cover
     ∷ row false false true  -- 17 if that comes back
+    ∷ row false false false  -- 18 left sibling
+    ∷ row false false false  -- 19 last child
     ∷ []
 
 -- the row of a command's number

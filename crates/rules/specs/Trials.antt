@@ -1,5 +1,5 @@
--- The paper's twelve trials and those of the if that comes back, as job bytes with what is to come of them. `trials-hold` and `back-trials-hold`, in
--- proofs/, say that the rules give it. Assumes nothing.
+-- The paper's twelve trials, those of the if that comes back and those of left sibling and last child, as job bytes with what is to come of them.
+-- `trials-hold`, `back-trials-hold` and `move-trials-hold`, in proofs/, say that the rules give it. Assumes nothing.
 use Prim.Native.Nat.{ℕ, _+_, _*_, _%_, _/_}
 use mathlib.Core.List.{List, [], _∷_, _++_, map, flatMap}
 use lib.ListN.{length}
@@ -207,4 +207,43 @@ backTrials =
     ∷ (returning (v 1) (bare 9 ∷ []) ++ (both 1 0 1 (v 0) (number (pos 1)) ∷ bare 5 ∷ one 6 0 value ∷ []))))
     (finishes 14 (pos 10 ∷ []) (values (pos 2) (pos 1)) same)
     ∷ trial (try (pos 0) (both 17 0 1 (number (pos 2147483647)) (number (pos 1)) ∷ bare 5 ∷ [])) (stops 27 0 0 [] (values (pos 0) (pos 0)) same)
+    ∷ []
+
+-- first child, new right sibling 5, then some records
+unfoldable pub besideNew : List (List ℕ) → List (List ℕ)
+besideNew cs = bare 9 ∷ one 12 0 (number (pos 5)) ∷ cs
+
+-- a root of list 1 over two public children of list 1
+unfoldable pub uncounted : List (List ℕ) → List ℕ
+uncounted cs =
+    job (pair (pos 0))
+    (node noParent public public secret (pos 10) ∷ node 0 public public secret (pos 3) ∷ node 0 public public secret (pos 5) ∷ []) cs
+
+-- the tree of that job
+unfoldable pub uncountedTree : Forest
+uncountedTree =
+    tree (labelled public public secret (pos 10))
+    (tree (labelled public public secret (pos 3)) nil (tree (labelled public public secret (pos 5)) nil nil)) nil
+
+-- left sibling and last child
+unfoldable pub moveTrials : List Trial
+moveTrials =
+    -- right sibling and left sibling; up and last child
+    trial (try (pos 0) (besideNew (bare 10 ∷ bare 18 ∷ one 6 0 value ∷ [])))
+    (finishes 5 (pos 3 ∷ []) (values (pos 0) (pos 0)) (over (leaf (pos 3) (leaf (pos 5) nil))))
+    ∷ trial (try (pos 0) (besideNew (bare 8 ∷ bare 19 ∷ one 6 0 value ∷ [])))
+    (finishes 5 (pos 5 ∷ []) (values (pos 0) (pos 0)) (over (leaf (pos 3) (leaf (pos 5) nil))))
+    -- left of the root, left of the first child, last child of a childless node
+    ∷ trial (try (pos 0) (bare 18 ∷ [])) (stops 22 0 0 [] (values (pos 0) (pos 0)) same)
+    ∷ trial (try (pos 0) (bare 9 ∷ bare 18 ∷ [])) (stops 22 1 1 [] (values (pos 0) (pos 0)) same)
+    ∷ trial (try (pos 0) (bare 9 ∷ bare 19 ∷ [])) (stops 22 1 1 [] (values (pos 0) (pos 0)) same)
+    -- under a house guard: 21 where the node exists, 22 where it does not
+    ∷ trial (try (pos 1) (besideNew (bare 10 ∷ guarded 18))) (stops 21 4 4 [] (values (pos 0) (pos 1)) (over (leaf (pos 3) (leaf (pos 5) nil))))
+    ∷ trial (try (pos 1) (guarded 18)) (stops 22 1 1 [] (values (pos 0) (pos 1)) same)
+    ∷ trial (try (pos 1) (guarded 19)) (stops 21 1 1 [] (values (pos 0) (pos 1)) same)
+    ∷ trial (try (pos 1) (bare 9 ∷ guarded 19)) (stops 22 2 2 [] (values (pos 0) (pos 1)) same)
+    -- left sibling joins the existence of the node moved to, last child the list level of the node that it leaves
+    ∷ trial (runJob (uncounted (bare 9 ∷ bare 10 ∷ bare 18 ∷ one 6 0 value ∷ [])) 100 (withPlaces 512))
+    (finishes 4 (pos 3 ∷ []) (values (pos 0) (pos 0)) uncountedTree)
+    ∷ trial (runJob (uncounted (bare 19 ∷ one 6 0 value ∷ [])) 100 (withPlaces 512)) (stops 21 1 1 [] (values (pos 0) (pos 0)) uncountedTree)
     ∷ []

@@ -21,7 +21,7 @@ pub const RECORD_SIZE: usize = 16;
 pub const NO_PARENT: usize = 65535;
 
 // The rows of the table of commands.
-pub const COMMANDS: usize = 18;
+pub const COMMANDS: usize = 20;
 
 pub const BAD_LENGTH: u8 = 1;
 
