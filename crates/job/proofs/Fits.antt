@@ -92,7 +92,7 @@ module _ (k : ℕ) where
   unfolding rows
   never-both t =
       let z : (rowOf k .target && rowOf k .mark) ≡ false =
-      sym (List·getD-map (λ (r : Row). r .target && r .mark) rows k (row false false false)) ∙ falses 18 k
+      sym (List·getD-map (λ (r : Row). r .target && r .mark) rows k (row false false false)) ∙ falses commandCount k
       in rw t at z
 
   -- a target that is read without an expression
@@ -100,7 +100,7 @@ module _ (k : ℕ) where
   unfolding rows
   never-alone t =
       let z : (not (rowOf k .expression) && (rowOf k .target || rowOf k .mark)) ≡ false =
-      sym (List·getD-map (λ (r : Row). not (r .expression) && (r .target || r .mark)) rows k (row false false false)) ∙ falses 18 k
+      sym (List·getD-map (λ (r : Row). not (r .expression) && (r .target || r .mark)) rows k (row false false false)) ∙ falses commandCount k
       in neither (rowOf k .target) (rowOf k .mark) (rw t at z)
 
 -- what spare bytes of a record are zero, in words, by what it reads

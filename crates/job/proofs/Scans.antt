@@ -7,9 +7,9 @@ use Prim.Native.Nat.{ℕ, _≤_, _<_}
 use native.Mathlib.Omega.{arith}
 use lib.Dec.{ltb}
 use borrow.Author.Tests.{le-ltb, ltb-true, ltb-false}
-use Rattle.rules.specs.Limits.{badSpare}
+use Rattle.rules.specs.Limits.{commandCount, badSpare}
 use Rattle.rules.specs.Bytes.{byte, recordPlace}
-use Rattle.rules.specs.Check.{Checked, refused, Edition, firstFault, requireIf, first, returning, today, nodeRule, recordRule, recordRuleIn, recordClean}
+use Rattle.rules.specs.Check.{Checked, refused, Edition, firstFault, requireIf, first, today, nodeRule, recordRule, recordRuleIn, recordClean}
 use Rattle.rules.proofs.Tests.{Test, holds, fails, test, both, clash}
 use Rattle.rules.proofs.Search.{fault-agree, all-pass, none-faulty}
 use Rattle.rules.proofs.Checks.{stopped, through}
@@ -93,9 +93,9 @@ twice true c = refl
 twice false c = refl
 
 all-known : (rules : Named.Edition) (b : List ℕ) (vars at : ℕ) → editionOf rules .spare ≡ true → recordRuleIn (editionOf rules) b vars at ≡ recordRule b vars at
-unfolding editionOf first returning today recordRuleIn recordRule
+unfolding editionOf first today recordRuleIn recordRule
 all-known First b vars at s = clash s refl
-all-known Today b vars at s = twice (ltb (byte b at) 18) _
+all-known Today b vars at s = twice (ltb (byte b at) commandCount) _
 
 module _ (rules : Named.Edition) (b : List ℕ) (vars base n : ℕ) where
   pub records-right : {k : ℕ} → k ≡ editionOf rules .commands

@@ -57,6 +57,8 @@ const ROWS: [Row; COMMANDS] = [
     EXPRESSION, // 15
     NOTHING, // 16 cover
     EXPRESSION, // 17 if that comes back
+    NOTHING, // 18 left sibling
+    NOTHING, // 19 last child
 ];
 
 // The whole table, for a scan: a constant is built anew at each use.

@@ -1,6 +1,6 @@
 -- `commands` meets its contract: edition by edition. Assumes nothing.
 use native.Mathlib.Omega.{arith}
-use Rattle.rules.specs.Check.{first, returning, today}
+use Rattle.rules.specs.Check.{first, today}
 use Rattle.job.specs.Answer.{editionOf}
 use borrow.Author.Needs.{needs}
 use Rattle.job.proofs.checks.commands.Statement.{statement}
@@ -11,7 +11,7 @@ unfolding editionOf first
 returns c = (rw (c .enum-told .given .1), omega arith)
 
 returns-2 : tie.Need-returns-2
-unfolding editionOf today returning
+unfolding editionOf today
 returns-2 c = (rw (c .enum-told2 .given .1), omega arith)
 
 pub commands-spec : {M : Type 1} → statement M

@@ -1,5 +1,5 @@
 -- `has_spare` meets its contract: edition by edition. Assumes nothing.
-use Rattle.rules.specs.Check.{first, returning, today}
+use Rattle.rules.specs.Check.{first, today}
 use Rattle.job.specs.Answer.{editionOf}
 use borrow.Author.Needs.{needs}
 use Rattle.job.proofs.checks.has_spare.Statement.{statement}
@@ -10,7 +10,7 @@ unfolding editionOf first
 returns c = rw (c .enum-told .given .1)
 
 returns-2 : tie.Need-returns-2
-unfolding editionOf today returning
+unfolding editionOf today
 returns-2 c = rw (c .enum-told2 .given .1)
 
 pub has-spare-spec : {M : Type 1} → statement M

@@ -6,6 +6,7 @@ use Prim.Native.Nat.{ℕ, _-_}
 use native.Mathlib.Omega.{arith}
 use lib.ListN.{getD, List·getD-map}
 use borrow.Author.Tests.{not-true, not-false, lt-ltb, le-ltb}
+use Rattle.rules.specs.Limits.{commandCount}
 use Rattle.rules.specs.Bytes.{recordPlace}
 use Rattle.rules.specs.Script as Script
 use Rattle.rules.specs.Script.{rows, row, rowOf}
@@ -45,7 +46,7 @@ ruled c =
     let h : getD (t .result) k (rowHeld nothing) ≡ rowHeld (rowOf k) = rw (t .ensures) (List·getD-map rowHeld rows k nothing) in
     let e : c .fields-ok .result ≡ tested (getD (t .result) k (rowHeld nothing)) = c .fields-ok .ensures in
     let l = c .before .before .if1 .left in
-    rw (← c .before .before .before .byte-at .ensures .0, lt-ltb k (a .commands) l, lt-ltb k 18 (omega (arith, c .before .before .before .before .before .before .before .before .pre .1)))
+    rw (← c .before .before .before .byte-at .ensures .0, lt-ltb k (a .commands) l, lt-ltb k commandCount (omega (arith, c .before .before .before .before .before .before .before .before .pre .1)))
     (sym (e ∙ ap tested h))
 
 loop-holds : tie.Need-loop-holds Inv-loop μ-loop

@@ -6,6 +6,7 @@ use Prim.Native.Nat.{ℕ, _-_}
 use native.Mathlib.Omega.{arith}
 use lib.ListN.{getD, List·getD-map}
 use borrow.Author.Tests.{not-true, not-false, le-ltb}
+use Rattle.rules.specs.Limits.{commandCount}
 use Rattle.rules.specs.Bytes.{recordPlace}
 use Rattle.rules.specs.Script.{Row, rows, row, rowOf}
 use Rattle.rules.specs.Check.{recordRule}
@@ -33,7 +34,7 @@ loop-holds c = scan-start _ _
 
 returns : tie.Need-returns Inv-loop μ-loop
 unfolding recordFits recordRule
-returns c = scan-stop _ _ (c .before .before .before .loop .inv) (search needs) (rw (← c .before .byte-at .ensures .0, le-ltb _ 18 (c .if1 .taken)))
+returns c = scan-stop _ _ (c .before .before .before .loop .inv) (search needs) (rw (← c .before .byte-at .ensures .0, le-ltb _ commandCount (c .if1 .taken)))
 
 fields-fit-requires : tie.Need-fields-fit-requires Inv-loop μ-loop
 unfolding rowHeld
