@@ -17,7 +17,7 @@ use Rattle.rules.proofs.Number.{signed-bits}
 use Rattle.rules.proofs.Tests.{Test, holds, fails, test}
 use Rattle.table.specs.declared.lent.Node.{Node}
 use Rattle.table.specs.Cells.{Cell, cell, Table, cellSize, ByteLevels, gone, cells}
-use Rattle.table.specs.Holds.{Placed, empty, node, erase, head, Stored, Spare, end, more, Linked, Free, Holds}
+use Rattle.table.specs.Holds.{Placed, empty, node, erase, head, last, Stored, Spare, end, more, Linked, Free, Holds}
 use Rattle.table.specs.Lent.{nodeOf, cellOf, blank, nodesTable, stored, putNode, loaded}
 use Rattle.table.specs.Promises.{Behind}
 use Rattle.table.specs.Steps.{withWord, Put}
@@ -69,7 +69,7 @@ module _ {m m′ : Table} {n used free at : ℕ} {t : Forest} {p : Place} (agree
         is-tree = h .is-tree;
         is-root = h .is-root;
         alone = h .alone;
-        stored = Frames.stored m m′ (omega arith) _ (h .placed) (λ x q. agree x (inside (none-beyond m used _ (h .placed) (h .stored) x) q)) (h .stored);
+        stored = Frames.stored m m′ (omega arith) _ _ (h .placed) (λ x q. agree x (inside (none-beyond m used _ _ (h .placed) (h .stored) x) q)) (h .stored);
         here = h .here;
         live = h .live;
         freed = Frames.freed m m′ (omega arith) (h .spare) (λ x q. agree x (inside (free-beyond m used (h .spare) (h .freed) x) q)) (h .freed);
@@ -88,16 +88,18 @@ same-cell a b =
     let e : l .existence % 256 ≡ l .existence = omega (arith, b .existence) in
     let c : l .content % 256 ≡ l .content = omega (arith, b .content) in
     let s : l .structure % 256 ≡ l .structure = omega (arith, b .structure) in
-    λ i. cell (a .first) (a .right) (a .parent) (a .children) (record { value = l .value; existence = e i; content = c i; structure = s i })
+    λ i.
+    cell (a .first) (a .right) (a .parent) (a .left) (a .last) (a .children)
+    (record { value = l .value; existence = e i; content = c i; structure = s i })
 
 module _ (m : Table) (used : ℕ) where
-  narrow-stored : (u : ℕ) (f : Placed) → Stored m used u f → Stored (narrow m) used u f
-  narrow-stored u empty h = tt
-  narrow-stored u (node x l c r) h = (
+  narrow-stored : (u v : ℕ) (f : Placed) → Stored m used u v f → Stored (narrow m) used u v f
+  narrow-stored u v empty h = tt
+  narrow-stored u v (node x l c r) h = (
     h .0,
-    ap (λ a. cellOf (nodeOf a)) (h .1) ∙ same-cell (cell (head c) (head r) u (count (erase c)) l) (h .4),
-    narrow-stored x c (h .2),
-    narrow-stored u r (h .3),
+    ap (λ a. cellOf (nodeOf a)) (h .1) ∙ same-cell (cell (head c) (head r) u v (last gone c) (count (erase c)) l) (h .4),
+    narrow-stored x gone c (h .2),
+    narrow-stored u x r (h .3),
     h .4,
   )
 
@@ -120,7 +122,7 @@ narrowed {m} {used = used} h =
       is-tree = h .is-tree;
       is-root = h .is-root;
       alone = h .alone;
-      stored = narrow-stored m used gone (h .placed) (h .stored);
+      stored = narrow-stored m used gone gone (h .placed) (h .stored);
       here = h .here;
       live = h .live;
       freed = narrow-freed m used (h .spare) (h .freed);
@@ -148,6 +150,8 @@ put-node ws x d fits long =
     let w₅ = set w₄ (at 4) (bits (d .value)) in
     let w₆ = set w₅ (at 5) (d .children) in
     let w₇ = set w₆ (at 6) (d .content) in
+    let w₈ = set w₇ (at 7) (d .structure) in
+    let w₉ = set w₈ (at 8) (d .left) in
     let p₁ : Put (cells ws) (cells w₁) x (withWord 0 (d .first) (cells ws x)) =
     subst (λ i. Put (cells ws) (cells (set ws i (d .first))) x (withWord 0 (d .first) (cells ws x))) start
     (put-word ws x long 0 (d .first) (omega arith)) in
@@ -158,7 +162,9 @@ put-node ws x d fits long =
     let p₆ = twice (withWord 5 (d .children)) p₅ (put-word w₅ x (simp length-set long) 5 (d .children) (omega arith)) in
     let p₇ = twice (withWord 6 (d .content)) p₆ (put-word w₆ x (simp length-set long) 6 (d .content) (omega arith)) in
     let p₈ = twice (withWord 7 (d .structure)) p₇ (put-word w₇ x (simp length-set long) 7 (d .structure) (omega arith)) in
-    record { on = p₈ .on ∙ ap (λ v. cellOf (record { first = d .first; right = d .right; parent = d .parent; children = d .children; value = v; existence = d .existence; content = d .content; structure = d .structure })) (signed-bits fits); off = p₈ .off }
+    let p₉ = twice (withWord 8 (d .left)) p₈ (put-word w₈ x (simp length-set long) 8 (d .left) (omega arith)) in
+    let p₁₀ = twice (withWord 9 (d .last)) p₉ (put-word w₉ x (simp length-set long) 9 (d .last) (omega arith)) in
+    record { on = p₁₀ .on ∙ ap (λ v. cellOf (record { first = d .first; right = d .right; parent = d .parent; children = d .children; left = d .left; last = d .last; value = v; existence = d .existence; content = d .content; structure = d .structure })) (signed-bits fits); off = p₁₀ .off }
 
 -- records are loaded into the places of words: the first n cells are theirs, and no cell behind them changes
 module _ (ns : List Node) (ws : List ℕ) where

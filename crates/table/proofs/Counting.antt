@@ -7,7 +7,7 @@ use native.Mathlib.Nat.{le-refl}
 use native.Mathlib.Decide.{ℕ-discrete}
 use borrow.Author.Tests.{eq-eqb, ne-eqb}
 use Rattle.rules.specs.Tree.{count, size}
-use Rattle.table.specs.Cells.{Table}
+use Rattle.table.specs.Cells.{Table, gone}
 use Rattle.table.specs.Holds.{Placed, empty, node, erase, Stored, Spare, end, more, Linked, Free, one, hit, times, spareTimes}
 
 pub hit-same : (x : ℕ) → hit x x ≡ 1
@@ -64,6 +64,17 @@ sum-term (suc n) p f lt = go (ℕ-discrete p n) (λ z. sum-term n p f z)
     go (yes q) r = rw q (omega arith)
     go (no q) r = omega (arith, r (omega arith))
 
+-- two terms
+pub sum-pair : (n p q : ℕ) (f : ℕ → ℕ) → p < n → q < n → (p ≡ q → ⊥) → f p + f q ≤ sumTo n f
+sum-pair zero p q f lt lq ne = absurd (omega arith)
+sum-pair (suc n) p q f lp lq ne = go (ℕ-discrete p n) (ℕ-discrete q n) (λ a b. sum-pair n p q f a b ne)
+  where
+    go : Dec (p ≡ n) → Dec (q ≡ n) → (p < n → q < n → f p + f q ≤ sumTo n f) → f p + f q ≤ sumTo (suc n) f
+    go (yes i) (yes j) r = absurd (ne (omega arith))
+    go (yes i) (no j) r = rw i (omega (arith, sum-term n q f (omega arith)))
+    go (no i) (yes j) r = rw j (omega (arith, sum-term n p f (omega arith)))
+    go (no i) (no j) r = omega (arith, r (omega arith) (omega arith))
+
 pub sum-hit : (n x : ℕ) → x < n → sumTo n (λ y. hit y x) ≡ 1
 sum-hit n x lt = omega (arith, sum-spike n x 1 (λ _. 0) (λ y. hit y x) lt (hit-same x) (λ i ne. hit-other i x ne), sum-zero n)
 
@@ -74,10 +85,10 @@ count-size (node x l c r) = omega (arith, count-size r)
 
 module _ (m : Table) (b : ℕ) where
   -- no place from b on
-  pub none-beyond : (u : ℕ) (f : Placed) → Stored m b u f → (y : ℕ) → b ≤ y → times y f ≡ 0
-  none-beyond u empty h y le = refl
-  none-beyond u (node x l c r) h y le =
-      omega (arith, hit-other y x (λ q. omega arith), none-beyond x c (h .2) y le, none-beyond u r (h .3) y le)
+  pub none-beyond : (u v : ℕ) (f : Placed) → Stored m b u v f → (y : ℕ) → b ≤ y → times y f ≡ 0
+  none-beyond u v empty h y le = refl
+  none-beyond u v (node x l c r) h y le =
+      omega (arith, hit-other y x (λ q. omega arith), none-beyond x gone c (h .2) y le, none-beyond u x r (h .3) y le)
 
   pub linked-beyond : (f : Placed) → Linked m b f → (y : ℕ) → b ≤ y → times y f ≡ 0
   linked-beyond empty h y le = refl
@@ -90,30 +101,30 @@ module _ (m : Table) (b : ℕ) where
       omega (arith, hit-other y x (λ q. omega arith), linked-beyond c (h .4) y le, linked-beyond r (h .5) y le, free-beyond s (h .6) y le)
 
   -- the number of nodes
-  pub sum-stored : (u : ℕ) (f : Placed) → Stored m b u f → sumTo b (λ y. times y f) ≡ size (erase f)
+  pub sum-stored : (u v : ℕ) (f : Placed) → Stored m b u v f → sumTo b (λ y. times y f) ≡ size (erase f)
   unfolding size
-  sum-stored u empty h = sum-zero b
-  sum-stored u (node x l c r) h =
+  sum-stored u v empty h = sum-zero b
+  sum-stored u v (node x l c r) h =
       omega (
         arith,
         sum-add b (λ y. hit y x + times y c) (λ y. times y r),
         sum-add b (λ y. hit y x) (λ y. times y c),
         sum-hit b x (h .0),
-        sum-stored x c (h .2),
-        sum-stored u r (h .3),
+        sum-stored x gone c (h .2),
+        sum-stored u x r (h .3),
       )
 
   -- siblings are at most as many as the places, where none stands twice
-  pub few-siblings : (u : ℕ) (f : Placed) → Stored m b u f → ((y : ℕ) → times y f ≤ 1) → count (erase f) ≤ b
-  few-siblings u f h once = omega (arith, count-size f, sum-stored u f h, sum-bound b (λ y. times y f) once)
+  pub few-siblings : (u v : ℕ) (f : Placed) → Stored m b u v f → ((y : ℕ) → times y f ≤ 1) → count (erase f) ≤ b
+  few-siblings u v f h once = omega (arith, count-size f, sum-stored u v f h, sum-bound b (λ y. times y f) once)
 
 -- where each place below b stands once, in the forest or on the stack: as many nodes as places if the stack is empty, else fewer
-module _ (m : Table) (b u : ℕ) (f : Placed) (s : Spare) (h : Stored m b u f) (once : (y : ℕ) → y < b → times y f + spareTimes y s ≡ 1) where
+module _ (m : Table) (b u v : ℕ) (f : Placed) (s : Spare) (h : Stored m b u v f) (once : (y : ℕ) → y < b → times y f + spareTimes y s ≡ 1) where
   sum-both : size (erase f) + sumTo b (λ y. spareTimes y s) ≡ b
   sum-both =
       omega (
         arith,
-        sum-stored m b u f h,
+        sum-stored m b u v f h,
         sum-add b (λ y. times y f) (λ y. spareTimes y s),
         sum-ext b (λ _. 1) (λ y. times y f + spareTimes y s) once,
         sum-one b,

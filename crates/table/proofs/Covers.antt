@@ -11,7 +11,7 @@ use Rattle.rules.specs.Level.{Level, public}
 use Rattle.rules.specs.Limits.{maxNodes}
 use Rattle.rules.specs.Tree.{Label, Forest, count, Fit, Fits}
 use Rattle.table.specs.Cells.{Cell, cell, Table, ByteLevels, gone}
-use Rattle.table.specs.Holds.{Placed, empty, node, erase, head, Stored, hit, times}
+use Rattle.table.specs.Holds.{Placed, empty, node, erase, head, last, Stored, hit, times}
 use Rattle.table.specs.Stands.{Stands, labelFits}
 use Rattle.table.proofs.Counting.{sumTo, sum-ext, sum-stored}
 
@@ -40,10 +40,11 @@ pub bound-out : (m : Table) (n u : ℕ) → n ≤ u → bound m n u ≡ public
 unfolding bound
 bound-out m n u le = rw (le-ltb u n le)
 
--- the forest of j trees that a link y of nodes with the parent u leads to
-pub record Fills (m : Table) (n u y j lo : ℕ) (f : Placed) : Type 0 where
+-- the forest of j trees that a link y of nodes with the parent u, right of v, leads to; a parent leads to the last of them
+pub record Fills (m : Table) (n u v y j lo : ℕ) (f : Placed) : Type 0 where
   pub heads : head f ≡ y
-  pub stored : Stored m n u f
+  pub stored : Stored m n u v f
+  pub ends : u < n → last v f ≡ m u .last
   pub counted : count (erase f) ≡ j
   pub fits : Fits lo (bound m n u) (erase f)
 
@@ -51,12 +52,12 @@ pub record Fills (m : Table) (n u y j lo : ℕ) (f : Placed) : Type 0 where
 abbrev pub Rest : Table → ℕ → (ℕ → ℕ) → (ℕ → ℕ) → Trail → Type 0
 Rest m n T mk home = (z : ℕ) → z < n → mk z ≡ T z
 Rest m n T mk (under x c k) =
-    (f : Placed) × Fills m n (above k) (m x .right) c (m x .label .existence) f × Rest m n T (λ z. times z f + mk z) k
+    (f : Placed) × Fills m n (above k) x (m x .right) c (m x .label .existence) f × Rest m n T (λ z. times z f + mk z) k
 
--- the link y and those that wait are filled
-pub record Cover (m : Table) (n : ℕ) (T mk : ℕ → ℕ) (k : Trail) (y j lo : ℕ) : Type 0 where
+-- the link y, right of v, and those that wait are filled
+pub record Cover (m : Table) (n : ℕ) (T mk : ℕ → ℕ) (k : Trail) (v y j lo : ℕ) : Type 0 where
   pub f : Placed
-  pub fills : Fills m n (above k) y j lo f
+  pub fills : Fills m n (above k) v y j lo f
   pub rest : Rest m n T (λ z. times z f + mk z) k
 
 module _ (m : Table) (n : ℕ) (T : ℕ → ℕ) where
@@ -97,36 +98,38 @@ test-fit lo hi l h =
     rw (h .levels .existence, h .levels .content, h .levels .structure, h .above, h .under, h .content, h .structure)
 
 -- a link that leads to no node
-pub no-node : {m : Table} {n u j lo : ℕ} (f : Placed) → n ≤ gone → Fills m n u gone j lo f → f ≡ empty
+pub no-node : {m : Table} {n u v j lo : ℕ} (f : Placed) → n ≤ gone → Fills m n u v gone j lo f → f ≡ empty
 no-node empty le h = refl
 no-node (node x l c r) le h = absurd (omega (arith, h .heads, h .stored .0))
 
-pub empty-fills : {m : Table} {n u lo : ℕ} → Fills m n u gone 0 lo empty
+pub empty-fills : {m : Table} {n u v lo : ℕ} → (u < n → v ≡ m u .last) → Fills m n u v gone 0 lo empty
 unfolding count
-empty-fills = record { heads = refl; stored = tt; counted = refl; fits = tt }
+empty-fills e = record { heads = refl; stored = tt; ends = e; counted = refl; fits = tt }
 
 -- a link that leads to a node: what the node's cell says of it, and what its two links lead to
-pub record Found (m : Table) (n u y j lo : ℕ) (f : Placed) : Type 0 where
+pub record Found (m : Table) (n u v y j lo : ℕ) (f : Placed) : Type 0 where
   pub below : y < n
   pub more : 0 < j
   pub parent : m y .parent ≡ u
+  pub left : m y .left ≡ v
   pub fit : Fit lo (bound m n u) (m y .label)
   pub bytes : ByteLevels (m y .label)
   pub c : Placed
   pub r : Placed
   pub is : (z : ℕ) → times z f ≡ hit z y + times z c + times z r
-  pub down : Fills m n y (m y .first) (m y .children) (m y .label .existence) c
-  pub on : Fills m n u (m y .right) (j - 1) (m y .label .existence) r
+  pub down : Fills m n y gone (m y .first) (m y .children) (m y .label .existence) c
+  pub on : Fills m n u y (m y .right) (j - 1) (m y .label .existence) r
 
-cell≡ : {f r u j : ℕ} (a : Cell) → f ≡ a .first → r ≡ a .right → a .parent ≡ u → j ≡ a .children → a ≡ cell f r u j (a .label)
-cell≡ a p q s z = λ i. cell (sym p i) (sym q i) (s i) (sym z i) (a .label)
+cell≡ : {f r u v z j : ℕ} (a : Cell) → f ≡ a .first → r ≡ a .right → a .parent ≡ u → a .left ≡ v → z ≡ a .last → j ≡ a .children
+    → a ≡ cell f r u v z j (a .label)
+cell≡ a p q s w e g = λ i. cell (sym p i) (sym q i) (s i) (w i) (sym e i) (sym g i) (a .label)
 
-module _ {m : Table} {n u y j lo : ℕ} where
-  pub found : (f : Placed) → (y ≡ gone → ⊥) → Fills m n u y j lo f → Found m n u y j lo f
+module _ {m : Table} {n u v y j lo : ℕ} where
+  pub found : (f : Placed) → (y ≡ gone → ⊥) → Fills m n u v y j lo f → Found m n u v y j lo f
   unfolding count
   found empty ne h = absurd (ne (sym (h .heads)))
   found (node x l c r) ne h =
-      let e : m y ≡ cell (head c) (head r) u (count (erase c)) l = sym (ap m (h .heads)) ∙ h .stored .1 in
+      let e : m y ≡ cell (head c) (head r) u v (last gone c) (count (erase c)) l = sym (ap m (h .heads)) ∙ h .stored .1 in
       let a : m y .label ≡ l = ap (λ v. v .label) e in
       let lt : y < n = omega (arith, h .heads, h .stored .0) in
       let below = subst (λ v. Fits (v .existence) (v .structure) (erase c)) (sym a) (h .fits .1) in
@@ -134,6 +137,7 @@ module _ {m : Table} {n u y j lo : ℕ} where
         below = lt;
         more = omega (arith, h .counted);
         parent = ap (λ v. v .parent) e;
+        left = ap (λ v. v .left) e;
         fit = subst (λ v. Fit lo (bound m n u) v) (sym a) (h .fits .0);
         bytes = subst ByteLevels (sym a) (h .stored .4);
         c = c;
@@ -142,38 +146,41 @@ module _ {m : Table} {n u y j lo : ℕ} where
         down =
             record {
               heads = sym (ap (λ v. v .first) e);
-              stored = subst (λ v. Stored m n v c) (h .heads) (h .stored .2);
+              stored = subst (λ v. Stored m n v gone c) (h .heads) (h .stored .2);
+              ends = λ _. sym (ap (λ v. v .last) e);
               counted = sym (ap (λ v. v .children) e);
               fits = subst (λ v. Fits (m y .label .existence) v (erase c)) (sym (bound-in m n y lt)) below;
             };
         on =
             record {
               heads = sym (ap (λ v. v .right) e);
-              stored = h .stored .3;
+              stored = subst (λ v. Stored m n u v r) (h .heads) (h .stored .3);
+              ends = λ q. subst (λ v. last v r ≡ m u .last) (h .heads) (h .ends q);
               counted = omega (arith, h .counted);
               fits = subst (λ v. Fits (v .existence) (bound m n u) (erase r)) (sym a) (h .fits .2);
             };
       }
 
-  filled : y < n → 0 < j → m y .parent ≡ u → Fit lo (bound m n u) (m y .label) → ByteLevels (m y .label) → (c r : Placed)
-      → Fills m n y (m y .first) (m y .children) (m y .label .existence) c → Fills m n u (m y .right) (j - 1) (m y .label .existence) r
-      → Fills m n u y j lo (node y (m y .label) c r)
+  filled : y < n → 0 < j → m y .parent ≡ u → m y .left ≡ v → Fit lo (bound m n u) (m y .label) → ByteLevels (m y .label) → (c r : Placed)
+      → Fills m n y gone (m y .first) (m y .children) (m y .label .existence) c → Fills m n u y (m y .right) (j - 1) (m y .label .existence) r
+      → Fills m n u v y j lo (node y (m y .label) c r)
   unfolding count
-  filled lt pos p fit bytes c r hc hr =
+  filled lt pos p q fit bytes c r hc hr =
       record {
         heads = refl;
-        stored = (lt, cell≡ (m y) (hc .heads) (hr .heads) p (hc .counted), hc .stored, hr .stored, bytes);
+        stored = (lt, cell≡ (m y) (hc .heads) (hr .heads) p q (hc .ends lt) (hc .counted), hc .stored, hr .stored, bytes);
+        ends = hr .ends;
         counted = omega (arith, hr .counted);
         fits = (fit, subst (λ v. Fits (m y .label .existence) v (erase c)) (bound-in m n y lt) (hc .fits), hr .fits);
       }
 
 -- the two steps of the walk: down to the children of a node that is entered, and on from the end of a list to what is right of the node above
 module _ (m : Table) (n : ℕ) (le : n ≤ gone) (T mk : ℕ → ℕ) where
-  pub cover-down : (mk′ : ℕ → ℕ) (k : Trail) (y j lo : ℕ) → y < n → 0 < j → m y .parent ≡ above k → Fit lo (bound m n (above k)) (m y .label)
-      → ByteLevels (m y .label)
+  pub cover-down : (mk′ : ℕ → ℕ) (k : Trail) (v y j lo : ℕ) → y < n → 0 < j → m y .parent ≡ above k → m y .left ≡ v
+      → Fit lo (bound m n (above k)) (m y .label) → ByteLevels (m y .label)
       → ((z : ℕ) → z < n → mk′ z ≡ hit z y + mk z)
-      → Cover m n T mk k y j lo ↔ Cover m n T mk′ (under y (j - 1) k) (m y .first) (m y .children) (m y .label .existence)
-  cover-down mk′ k y j lo lt pos p fit bytes e = (
+      → Cover m n T mk k v y j lo ↔ Cover m n T mk′ (under y (j - 1) k) gone (m y .first) (m y .children) (m y .label .existence)
+  cover-down mk′ k v y j lo lt pos p w fit bytes e = (
     λ h.
         let d = found (h .f) (λ q. omega arith) (h .fills) in
         record {
@@ -188,15 +195,15 @@ module _ (m : Table) (n : ℕ) (le : n ≤ gone) (T mk : ℕ → ℕ) where
     λ h.
         record {
           f = node y (m y .label) (h .f) (h .rest .0);
-          fills = filled lt pos p fit bytes (h .f) (h .rest .0) (h .fills) (h .rest .1);
+          fills = filled lt pos p w fit bytes (h .f) (h .rest .0) (h .fills) (h .rest .1);
           rest =
               rest-ext m n T (λ z. times z (h .rest .0) + (times z (h .f) + mk′ z)) (λ z. times z (node y (m y .label) (h .f) (h .rest .0)) + mk z) k
               (λ z q. omega (arith, e z q)) (h .rest .2);
         },
   )
 
-  pub cover-up : (k : Trail) (x c lo : ℕ) → Cover m n T mk (under x c k) gone 0 lo ↔ Cover m n T mk k (m x .right) c (m x .label .existence)
-  cover-up k x c lo = (
+  pub cover-up : (k : Trail) (v x c lo : ℕ) → m x .last ≡ v → Cover m n T mk (under x c k) v gone 0 lo ↔ Cover m n T mk k x (m x .right) c (m x .label .existence)
+  cover-up k v x c lo z = (
     λ h.
         let e = no-node (h .f) le (h .fills) in
         record {
@@ -209,7 +216,7 @@ module _ (m : Table) (n : ℕ) (le : n ≤ gone) (T mk : ℕ → ℕ) where
     λ h.
         record {
           f = empty;
-          fills = empty-fills;
+          fills = empty-fills (λ _. sym z);
           rest =
               (h .f, h .fills, rest-ext m n T (λ z. times z (h .f) + mk z) (λ z. times z (h .f) + (0 + mk z)) k (λ z q. omega arith) (h .rest));
         },
@@ -217,7 +224,7 @@ module _ (m : Table) (n : ℕ) (le : n ≤ gone) (T mk : ℕ → ℕ) where
 
 -- a tree that stands in the table is what fills the first link
 module _ {m : Table} {n : ℕ} (le : n ≤ gone) where
-  pub stands-cover : {t : Forest} (h : Stands m n t) → Cover m n (λ z. times z (h .placed)) (λ _. 0) home 0 1 public
+  pub stands-cover : {t : Forest} (h : Stands m n t) → Cover m n (λ z. times z (h .placed)) (λ _. 0) home gone 0 1 public
   stands-cover {t} h =
       record {
         f = h .placed;
@@ -225,6 +232,7 @@ module _ {m : Table} {n : ℕ} (le : n ≤ gone) where
             record {
               heads = h .is-root;
               stored = h .stored;
+              ends = λ lt. absurd (omega arith);
               counted = ap count (h .is-tree) ∙ h .alone;
               fits =
                   subst (λ v. Fits public v (erase (h .placed))) (sym (bound-out m n gone le))
@@ -233,7 +241,7 @@ module _ {m : Table} {n : ℕ} (le : n ≤ gone) where
         rest = λ z lt. omega arith;
       }
 
-  pub cover-stands : {T : ℕ → ℕ} → sumTo n T ≤ maxNodes → (h : Cover m n T (λ _. 0) home 0 1 public) → Stands m n (erase (h .f))
+  pub cover-stands : {T : ℕ → ℕ} → sumTo n T ≤ maxNodes → (h : Cover m n T (λ _. 0) home gone 0 1 public) → Stands m n (erase (h .f))
   cover-stands {T} total h =
       record {
         placed = h .f;
@@ -243,6 +251,6 @@ module _ {m : Table} {n : ℕ} (le : n ≤ gone) where
         stored = h .fills .stored;
         few =
             omega
-            (arith, sum-stored m n gone (h .f) (h .fills .stored), sum-ext n T (λ z. times z (h .f)) (λ z lt. omega (arith, h .rest z lt)), total);
+            (arith, sum-stored m n gone gone (h .f) (h .fills .stored), sum-ext n T (λ z. times z (h .f)) (λ z lt. omega (arith, h .rest z lt)), total);
         rules = subst (λ v. Fits public v (erase (h .f))) (bound-out m n gone le) (h .fills .fits);
       }

@@ -7,16 +7,16 @@ use native.Mathlib.Decide.{decLt}
 use Rattle.rules.specs.Limits.{maxNodes}
 use Rattle.rules.specs.Tree.{Label, Forest, Side, child, sibling, Place, count}
 use Rattle.table.specs.Cells.{Table, gone}
-use Rattle.table.specs.Holds.{Placed, empty, node, erase, head, beside, part, Stored, Spare, top, Free, times, spareTimes, Holds}
+use Rattle.table.specs.Holds.{Placed, empty, node, erase, head, last, beside, part, Stored, Spare, top, Free, times, spareTimes, Holds}
 use Rattle.table.proofs.Counting.{none-beyond, free-beyond}
-use Rattle.table.proofs.Ways.{Way, step, nodeOn, plug, pathOf, parentOf, wayTimes, Above, unplug, replug, plug-times, plug-part, Some, some-node, split}
+use Rattle.table.proofs.Ways.{Way, step, nodeOn, plug, pathOf, parentOf, prevOf, wayTimes, Above, unplug, replug, plug-times, plug-part, Some, some-node, split}
 
 -- the table holds t, with f at the end of the way k; the places of w, handed out and not yet linked, are in nobody's hands
 pub record Focus (m : Table) (n used free : ℕ) (t : Forest) (w : Placed) (k : Way) (f : Placed) (s : Spare) : Type 0 where
   pub few : n ≤ maxNodes
   pub room : used ≤ n
-  pub stored : Stored m used (parentOf k) f
-  pub above : Above m used (head f) (count (erase f)) k
+  pub stored : Stored m used (parentOf k) (prevOf k) f
+  pub above : Above m used (head f) (count (erase f)) (last (prevOf k) f) k
   pub freed : Free m used s
   pub leads : top s ≡ free
   pub once : (y : ℕ) → times y w + times y f + wayTimes y k + spareTimes y s ≤ 1
@@ -31,8 +31,8 @@ across sibling (node x l c r) = c
 
 module _ {m : Table} {n used free : ℕ} {t : Forest} {w : Placed} {s : Spare} where
   -- the same tree from another place
-  from : {k : Way} {f : Placed} (k′ : Way) (f′ : Placed) → Focus m n used free t w k f s → Stored m used (parentOf k′) f′
-      → Above m used (head f′) (count (erase f′)) k′ → ((y : ℕ) → times y f′ + wayTimes y k′ ≡ times y f + wayTimes y k) → plug k′ f′ ≡ plug k f
+  from : {k : Way} {f : Placed} (k′ : Way) (f′ : Placed) → Focus m n used free t w k f s → Stored m used (parentOf k′) (prevOf k′) f′
+      → Above m used (head f′) (count (erase f′)) (last (prevOf k′) f′) k′ → ((y : ℕ) → times y f′ + wayTimes y k′ ≡ times y f + wayTimes y k) → plug k′ f′ ≡ plug k f
       → Focus m n used free t w k′ f′ s
   from k′ f′ h st ab z e =
       record {
@@ -75,11 +75,11 @@ module _ {m : Table} {n used free x : ℕ} {t : Forest} where
   once-held h y (yes z) = omega (arith, h .each y z)
   once-held h y (no z) =
       omega
-      (arith, none-beyond m used gone (h .placed) (h .stored) y (omega arith), free-beyond m used (h .spare) (h .freed) y (omega arith))
+      (arith, none-beyond m used gone gone (h .placed) (h .stored) y (omega arith), free-beyond m used (h .spare) (h .freed) y (omega arith))
 
   view : {p : Place} (h : Holds m n used free x t p) (k : Way) (g : Placed) → plug k g ≡ h .placed → Focus m n used free t empty k g (h .spare)
   view h k g e =
-      let whole = subst (λ z. Stored m used gone z) (sym e) (h .stored) in
+      let whole = subst (λ z. Stored m used gone gone z) (sym e) (h .stored) in
       let one = ap (λ z. count (erase z)) e ∙ ap count (h .is-tree) ∙ h .alone in
       let q = unplug m used k g whole (ap head e ∙ h .is-root) one in
       record {

@@ -12,13 +12,13 @@ use lib.ListN.{length, set}
 use lib.Seq.{getD-set-same, getD-set-other}
 use Rattle.rules.specs.Tree.{Forest, Side, Place, count}
 use Rattle.table.specs.Cells.{Table, gone, sideOf}
-use Rattle.table.specs.Holds.{Placed, empty, node, erase, head, Spare, end, more, top, Linked, Free, hit, times, spareTimes, Holds}
+use Rattle.table.specs.Holds.{Placed, empty, node, erase, head, last, Spare, end, more, top, Linked, Free, hit, times, spareTimes, Holds}
 use Rattle.table.specs.Promises.{Removed}
 use Rattle.table.specs.Since.{never, number, Forgotten, Clears, Clearing, Forgets}
 use Rattle.table.specs.Steps.{withWord, Put, Pushed, some, none, Popped}
 use Rattle.table.proofs.Counting.{hit-same, hit-other, sumTo, sum-ext, sum-add, sum-bound, sum-term, sum-hit, linked-beyond, free-beyond}
 use Rattle.table.proofs.Frames.{stored, linked-by, freed}
-use Rattle.table.proofs.Ways.{Way, parentOf, wayTimes}
+use Rattle.table.proofs.Ways.{Way, parentOf, prevOf, wayTimes}
 use Rattle.table.proofs.Focus.{Focus}
 use Rattle.table.proofs.Links.{same-above}
 use Rattle.table.proofs.Spares.{onto, onto-times, push-free, push-same, unstack}
@@ -177,8 +177,8 @@ still-focus {m} {m′} {used = used} {y = y} {k = k} {f} {c} {s} h g =
     record {
       few = h .few;
       room = h .room;
-      stored = stored m m′ (le-refl used) (parentOf k) f (λ i z. ag i (omega arith)) (h .stored);
-      above = same-above m m′ (le-refl used) (head f) (count (erase f)) k (λ i z. ag i (omega arith)) (h .above);
+      stored = stored m m′ (le-refl used) (parentOf k) (prevOf k) f (λ i z. ag i (omega arith)) (h .stored);
+      above = same-above m m′ (le-refl used) (head f) (count (erase f)) (last (prevOf k) f) k (λ i z. ag i (omega arith)) (h .above);
       freed = (
         h .freed .0,
         g .firsts y ∙ h .freed .1,

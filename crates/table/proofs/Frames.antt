@@ -2,18 +2,18 @@
 use mathlib.Core.Path.{_≡_, ap, _∙_}
 use Prim.Native.Nat.{ℕ, _<_, _≤_}
 use native.Mathlib.Omega.{arith}
-use Rattle.table.specs.Cells.{Table}
+use Rattle.table.specs.Cells.{Table, gone}
 use Rattle.table.specs.Holds.{Placed, empty, node, Stored, Spare, end, more, Linked, Free, times, spareTimes}
 use Rattle.table.proofs.Counting.{hit-same}
 
 module _ (m m′ : Table) {b b′ : ℕ} (le : b ≤ b′) where
-  pub stored : (u : ℕ) (f : Placed) → ((y : ℕ) → 0 < times y f → m′ y ≡ m y) → Stored m b u f → Stored m′ b′ u f
-  stored u empty ag h = tt
-  stored u (node x l c r) ag h = (
+  pub stored : (u v : ℕ) (f : Placed) → ((y : ℕ) → 0 < times y f → m′ y ≡ m y) → Stored m b u v f → Stored m′ b′ u v f
+  stored u v empty ag h = tt
+  stored u v (node x l c r) ag h = (
     omega arith,
     ag x (omega (arith, hit-same x)) ∙ h .1,
-    stored x c (λ y q. ag y (omega arith)) (h .2),
-    stored u r (λ y q. ag y (omega arith)) (h .3),
+    stored x gone c (λ y q. ag y (omega arith)) (h .2),
+    stored u x r (λ y q. ag y (omega arith)) (h .3),
     h .4,
   )
 
@@ -46,7 +46,7 @@ module _ (m m′ : Table) {b b′ : ℕ} (le : b ≤ b′) where
       )
 
 -- a stored forest is linked
-pub still-linked : (m : Table) (b u : ℕ) (f : Placed) → Stored m b u f → Linked m b f
-still-linked m b u empty h = tt
-still-linked m b u (node x l c r) h =
-    (h .0, ap (λ a. a .first) (h .1), ap (λ a. a .right) (h .1), still-linked m b x c (h .2), still-linked m b u r (h .3))
+pub still-linked : (m : Table) (b u v : ℕ) (f : Placed) → Stored m b u v f → Linked m b f
+still-linked m b u v empty h = tt
+still-linked m b u v (node x l c r) h =
+    (h .0, ap (λ a. a .first) (h .1), ap (λ a. a .right) (h .1), still-linked m b x gone c (h .2), still-linked m b u x r (h .3))

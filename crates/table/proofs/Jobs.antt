@@ -39,12 +39,13 @@ module _ (b : List ℕ) (base : ℕ) where
       subst (λ k. Loading (parent b base) (labelOf b base) m n k n) e (load-none (parent b base) (labelOf b base) m n h)
 
   pub linking-step : {m m′ : Table} {n : ℕ} (x : ℕ) → n ≤ maxNodes → 1 < x → x ≤ n → Rule n → Linking m n x
-      → Entered (parent b base (x - 1)) (x - 1) (labelOf b base (x - 1)) m m′ → Linking m′ n (x - 1)
+      → Entered n (parent b base (x - 1)) (x - 1) (labelOf b base (x - 1)) m m′ → Linking m′ n (x - 1)
   linking-step {m} {m′} {n} x few gt le rule h e =
       let i : x ≡ suc (x - 1) = omega arith in
       let j : suc (n - x) ≡ n - (x - 1) = omega arith in
       subst (λ k. Loading (parent b base) (labelOf b base) m′ n k (x - 1)) j
-      (load-step (parent b base) (labelOf b base) (x - 1) (omega arith) (omega arith) (parent-first rule (x - 1) (omega arith) (omega arith))
+      (load-step (parent b base) (labelOf b base) (x - 1) few (omega arith) (omega arith) (parent-first rule (x - 1) (omega arith) (omega arith))
+      (λ y le′ lt. parent-first rule y (omega arith) (omega arith))
       (subst (λ v. Loading (parent b base) (labelOf b base) m n (n - x) v) i h) e)
 
   -- the lists are the job's
@@ -72,7 +73,7 @@ module _ (b : List ℕ) (base : ℕ) where
       go (no e) c r = rw (kids-miss (parent b base) (labelOf b base) p n i e, children-miss p n i e) r
 
   -- all records are linked, and the root is entered
-  pub loaded : {m m′ : Table} {p : ℕ} (n : ℕ) → 1 ≤ n → (Rule n → Linking m n 1) → Entered p 0 (labelOf b base 0) m m′ → Loaded b base n m′
+  pub loaded : {m m′ : Table} {p : ℕ} (n : ℕ) → 1 ≤ n → (Rule n → Linking m n 1) → Entered n p 0 (labelOf b base 0) m m′ → Loaded b base n m′
   unfolding Loaded treeOf
   loaded zero some h e rule places room few = absurd (omega arith)
   loaded {m} {m′} {p} (suc k) some h e rule places room few =

@@ -10,7 +10,7 @@ use lib.Dec.{eqb}
 use borrow.Author.Tests.{eq-eqb, ne-eqb}
 use Rattle.rules.specs.Tree.{Label, count}
 use Rattle.table.specs.Holds.{Placed, empty, node, erase, hit, times}
-use Rattle.table.proofs.Counting.{hit-same, hit-other, sumTo, sum-ext, sum-zero, sum-spike}
+use Rattle.table.proofs.Counting.{hit-same, hit-other, sumTo, sum-ext, sum-zero, sum-spike, sum-term, sum-pair}
 
 -- how often y stands among the k numbers from j on
 abbrev pub among : ℕ → ℕ → ℕ → ℕ
@@ -28,6 +28,14 @@ among-once y j (suc k) le lt = go (ℕ-discrete y j) (λ q. among-once y (suc j)
     go : Dec (y ≡ j) → (suc j ≤ y → among y (suc j) k ≡ 1) → hit y j + among y (suc j) k ≡ 1
     go (yes q) r = rw q (omega (arith, hit-same j, among-below j (suc j) k (le-refl (suc j))))
     go (no q) r = omega (arith, hit-other y j q, r (omega arith))
+
+among-most : (y j k : ℕ) → among y j k ≤ 1
+among-most y j zero = omega arith
+among-most y j (suc k) = go (ℕ-discrete y j) (among-most y (suc j) k)
+  where
+    go : Dec (y ≡ j) → among y (suc j) k ≤ 1 → hit y j + among y (suc j) k ≤ 1
+    go (yes q) r = rw q (omega (arith, hit-same j, among-below j (suc j) k (le-refl (suc j))))
+    go (no q) r = omega (arith, hit-other y j q)
 
 -- records by their parents and their labels
 module _ (par : ℕ → ℕ) (lab : ℕ → Label) where
@@ -76,3 +84,11 @@ module _ (par : ℕ → ℕ) (lab : ℕ → Label) where
       sum-spike j (par j) (hit y j + f j) f g (h j (le-refl j) (omega arith)) (rw (kids-hit (par j) k j refl))
       (λ i ne. rw (kids-miss i k j (λ q. ne (sym q)))) in
       omega (arith, e, spread y k (suc j) (λ x a b. h x (omega arith) (omega arith)))
+
+  -- so none stands twice, or below two of them
+  module _ (k j : ℕ) (h : (x : ℕ) → j ≤ x → x < j + k → par x < x) (y : ℕ) where
+    pub kids-once : (i : ℕ) → i < j → times y (kids i k j) ≤ 1
+    kids-once i lt = omega (arith, sum-term j i (λ i. times y (kids i k j)) lt, spread y k j h, among-most y j k)
+
+    pub kids-apart : (i i′ : ℕ) → i < j → i′ < j → (i ≡ i′ → ⊥) → times y (kids i k j) + times y (kids i′ k j) ≤ 1
+    kids-apart i i′ lt lt′ ne = omega (arith, sum-pair j i i′ (λ i. times y (kids i k j)) lt lt′ ne, spread y k j h, among-most y j k)

@@ -1,16 +1,16 @@
 -- What the cell at the cursor says of the tree, and where its links lead: one step down is the view from a side of the node, one step up goes back
--- along the way, past the siblings to the left. Assumes nothing.
+-- along the way, past the siblings to the left; one step to the left is one frame of the way, and the last child is found from the first. Assumes nothing.
 use mathlib.Core.Path.{_≡_, refl, sym, ap, subst, _∙_}
 use mathlib.Core.Bool.{true}
 use mathlib.Core.Option.{some}
 use Prim.Native.Nat.{ℕ, suc, _≤_}
 use native.Mathlib.Omega.{arith}
-use Rattle.rules.specs.Tree.{Label, Forest, tree, Side, child, sibling, along, Place, root, to, up, sub, exists, label, count}
+use Rattle.rules.specs.Tree.{Label, Forest, tree, Side, child, sibling, along, Place, root, to, up, leftOf, lastFrom, lastOf, sub, exists, label, count}
 use Rattle.table.specs.Cells.{Table, ByteLevels, gone, link, parentOn}
-use Rattle.table.specs.Holds.{Placed, empty, node, erase, head, beside, Spare, Holds}
+use Rattle.table.specs.Holds.{Placed, empty, node, erase, head, last, beside, Spare, Holds}
 use Rattle.table.specs.Promises.{Leads, outside, missing, found}
 use Rattle.table.proofs.Counting.{few-siblings}
-use Rattle.table.proofs.Ways.{Way, home, step, pathOf, parentOf, Above, plug-sub}
+use Rattle.table.proofs.Ways.{Way, home, step, pathOf, parentOf, prevOf, Above, plug-sub}
 use Rattle.table.proofs.Focus.{Focus, down, back, At, seen, whole}
 
 module _ {m : Table} {n used free : ℕ} {t : Forest} {w : Placed} {s : Spare} where
@@ -27,7 +27,7 @@ module _ {m : Table} {n used free : ℕ} {t : Forest} {w : Placed} {s : Spare} w
   -- no node has more children than there are places
   few : {k : Way} {x : ℕ} {l : Label} {c r : Placed} → Focus m n used free t w k (node x l c r) s → m x .children ≤ n
   few {x = x} {c = c} h =
-      omega (arith, ap (λ a. a .children) (h .stored .1), few-siblings m used x c (h .stored .2) (λ y. omega (arith, h .once y)), h .room)
+      omega (arith, ap (λ a. a .children) (h .stored .1), few-siblings m used x gone c (h .stored .2) (λ y. omega (arith, h .once y)), h .room)
 
   pub few-above : (k : Way) (f : Placed) → Focus m n used free t w k f s → (parentOf k ≡ gone → ⊥) → m (parentOf k) .children ≤ n
   few-above home f h ne = absurd (ne refl)
@@ -35,10 +35,10 @@ module _ {m : Table} {n used free : ℕ} {t : Forest} {w : Placed} {s : Spare} w
   few-above (step sibling x l o k) f h ne = few-above k (node x l o f) (back sibling h) ne
 
 -- the parent counts all that stands at the end of the way
-pub counts-all : (m : Table) (b h j : ℕ) (k : Way) → Above m b h j k → (parentOf k ≡ gone → ⊥) → j ≤ m (parentOf k) .children
-counts-all m b h j home a ne = absurd (ne refl)
-counts-all m b h j (step child x l o k) a ne = omega (arith, ap (λ c. c .children) (a .1))
-counts-all m b h j (step sibling x l o k) a ne = omega (arith, counts-all m b x (suc j) k (a .3) ne)
+pub counts-all : (m : Table) (b h j z : ℕ) (k : Way) → Above m b h j z k → (parentOf k ≡ gone → ⊥) → j ≤ m (parentOf k) .children
+counts-all m b h j z home a ne = absurd (ne refl)
+counts-all m b h j z (step child x l o k) a ne = omega (arith, ap (λ c. c .children) (a .1))
+counts-all m b h j z (step sibling x l o k) a ne = omega (arith, counts-all m b x (suc j) z k (a .3) ne)
 
 module _ {m : Table} {n used free : ℕ} {t : Forest} {s : Spare} where
   below : (k : Way) (f : Placed) {r : ℕ} → Focus m n used free t empty k f s → r ≡ head f → Leads m n used free t (some (pathOf k)) r
@@ -52,6 +52,18 @@ module _ {m : Table} {n used free : ℕ} {t : Forest} {s : Spare} where
   climb home f h = outside (omega (arith, h .room, h .few)) refl
   climb (step child x l o k) f h = found (pathOf k) (omega (arith, h .above .0, h .room)) refl (whole k (back child h))
   climb (step sibling x l o k) f h = climb k (node x l o f) (back sibling h)
+
+  back-left : (k : Way) (f : Placed) → Focus m n used free t empty k f s → Leads m n used free t (leftOf (pathOf k)) (prevOf k)
+  unfolding leftOf
+  back-left home f h = outside (omega (arith, h .room, h .few)) refl
+  back-left (step child x l o k) f h = outside (omega (arith, h .room, h .few)) refl
+  back-left (step sibling x l o k) f h = found (pathOf k) (omega (arith, h .above .0, h .room)) refl (whole k (back sibling h))
+
+  furthest : (k : Way) (f : Placed) {v : ℕ} → n ≤ v → Focus m n used free t empty k f s → Leads m n used free t (lastFrom (pathOf k) (erase f)) (last v f)
+  unfolding lastFrom
+  furthest k empty ge h = outside ge refl
+  furthest k (node x l c empty) ge h = found (pathOf k) (omega (arith, h .stored .0, h .room)) refl (whole k h)
+  furthest k (node x l c (node y a d r)) ge h = furthest (step sibling x l c k) (node y a d r) ge (down sibling h)
 
   go-home : (k : Way) (f : Placed) → Focus m n used free t empty k f s → Holds m n used free 0 t root
   unfolding count
@@ -85,7 +97,7 @@ module _ {m : Table} {n used free x : ℕ} {t : Forest} {p : Place} (h : Holds m
   pub few-children : m x .children ≤ n
   few-children = few (at .focus)
 
-  -- the four moves
+  -- the moves
   pub to-root : Holds m n used free 0 t root
   to-root = go-home (at .k) _ (at .focus)
 
@@ -97,6 +109,22 @@ module _ {m : Table} {n used free x : ℕ} {t : Forest} {p : Place} (h : Holds m
   to-parent =
       subst (λ q. Leads m n used free t (up q) (m x .parent)) (at .is-path)
       (subst (λ z. Leads m n used free t (up (pathOf (at .k))) z) (sym (ap (λ a. a .parent) (at .focus .stored .1))) (climb (at .k) _ (at .focus)))
+
+  pub to-left : Leads m n used free t (leftOf p) (m x .left)
+  to-left =
+      subst (λ q. Leads m n used free t (leftOf q) (m x .left)) (at .is-path)
+      (subst (λ z. Leads m n used free t (leftOf (pathOf (at .k))) z) (sym (ap (λ a. a .left) (at .focus .stored .1))) (back-left (at .k) _ (at .focus)))
+
+  pub to-last : Leads m n used free t (lastOf p t) (m x .last)
+  unfolding lastOf
+  to-last =
+      let below = down child (at .focus) in
+      let e : lastFrom (to child p) (erase (at .c)) ≡ lastFrom (to child p) (sub (to child p) t) =
+      ap (lastFrom (to child p)) (sym (subst (λ q. sub (to child q) t ≡ erase (at .c)) (at .is-path) (shown _ _ below))) in
+      subst (λ o. Leads m n used free t o (m x .last)) e
+      (subst (λ q. Leads m n used free t (lastFrom (to child q) (erase (at .c))) (m x .last)) (at .is-path)
+      (subst (λ z. Leads m n used free t (lastFrom (to child (pathOf (at .k))) (erase (at .c))) z) (sym (ap (λ a. a .last) (at .focus .stored .1)))
+      (furthest _ (at .c) (omega (arith, h .few)) below)))
 
   -- the parent that nodes on a side have
   pub to-above : (d : Side) → Leads m n used free t (up (to d p)) (parentOn d x (m x))

@@ -13,9 +13,9 @@ use Rattle.table.proofs.Unique.{same}
 
 module _ (m : Table) (b : ℕ) (le : b ≤ gone) where
   -- the parent of a node is the forest's, or in it
-  parent-in : (u : ℕ) (f : Placed) → Stored m b u f → (y : ℕ) → 0 < times y f → (m y .parent ≡ u) ⊎ (0 < times (m y .parent) f)
-  parent-in u empty h y q = absurd (omega arith)
-  parent-in u (node x l c r) h y q = go (ℕ-discrete y x) (decLt 0 (times y c)) (parent-in x c (h .2) y) (parent-in u r (h .3) y)
+  parent-in : (u v : ℕ) (f : Placed) → Stored m b u v f → (y : ℕ) → 0 < times y f → (m y .parent ≡ u) ⊎ (0 < times (m y .parent) f)
+  parent-in u v empty h y q = absurd (omega arith)
+  parent-in u v (node x l c r) h y q = go (ℕ-discrete y x) (decLt 0 (times y c)) (parent-in x gone c (h .2) y) (parent-in u x r (h .3) y)
     where
       go : Dec (y ≡ x) → Dec (0 < times y c) → (0 < times y c → (m y .parent ≡ x) ⊎ (0 < times (m y .parent) c))
           → (0 < times y r → (m y .parent ≡ u) ⊎ (0 < times (m y .parent) r)) → (m y .parent ≡ u) ⊎ (0 < times (m y .parent) (node x l c r))
@@ -35,48 +35,49 @@ module _ (m : Table) (b : ℕ) (le : b ≤ gone) where
   record Within (y : ℕ) (f : Placed) : Type 0 where
     g : Placed
     u : ℕ
+    v : ℕ
     is : head g ≡ y
-    stored : Stored m b u g
+    stored : Stored m b u v g
     small : size (erase g) ≤ size (erase f)
 
-  within : (u : ℕ) (f : Placed) → Stored m b u f → (y : ℕ) → 0 < times y f → Within y f
+  within : (u v : ℕ) (f : Placed) → Stored m b u v f → (y : ℕ) → 0 < times y f → Within y f
   unfolding size
-  within u empty h y q = absurd (omega arith)
-  within u (node x l c r) h y q = go (ℕ-discrete y x) (decLt 0 (times y c)) (within x c (h .2) y) (within u r (h .3) y)
+  within u v empty h y q = absurd (omega arith)
+  within u v (node x l c r) h y q = go (ℕ-discrete y x) (decLt 0 (times y c)) (within x gone c (h .2) y) (within u x r (h .3) y)
     where
       go : Dec (y ≡ x) → Dec (0 < times y c) → (0 < times y c → Within y c) → (0 < times y r → Within y r) → Within y (node x l c r)
-      go (yes e) d hc hr = record { g = node x l c r; u = u; is = sym e; stored = h; small = omega arith }
+      go (yes e) d hc hr = record { g = node x l c r; u = u; v = v; is = sym e; stored = h; small = omega arith }
       go (no e) (yes z) hc hr =
-          let w = hc z in record { g = w .g; u = w .u; is = w .is; stored = w .stored; small = omega (arith, w .small) }
+          let w = hc z in record { g = w .g; u = w .u; v = w .v; is = w .is; stored = w .stored; small = omega (arith, w .small) }
       go (no e) (no z) hc hr =
           let w = hr (omega (arith, hit-other y x e)) in
-          record { g = w .g; u = w .u; is = w .is; stored = w .stored; small = omega (arith, w .small) }
+          record { g = w .g; u = w .u; v = w .v; is = w .is; stored = w .stored; small = omega (arith, w .small) }
 
   -- a list does not come back to its first node
-  not-on : (u x : ℕ) (l : Label) (c r : Placed) → Stored m b u (node x l c r) → times x r ≡ 0
+  not-on : (u v x : ℕ) (l : Label) (c r : Placed) → Stored m b u v (node x l c r) → times x r ≡ 0
   unfolding size
-  not-on u x l c r h = go (decLt 0 (times x r))
+  not-on u v x l c r h = go (decLt 0 (times x r))
     where
       go : Dec (0 < times x r) → times x r ≡ 0
       go (no q) = omega arith
       go (yes q) =
-          let w = within u r (h .3) x q in
-          let e = same m b b (w .u) u (w .g) (node x l c r) le le (w .stored) h (w .is) in
+          let w = within u x r (h .3) x q in
+          let e = same m b b (w .u) u (w .v) v (w .g) (node x l c r) le le (w .stored) h (w .is) in
           absurd (omega (arith, w .small, ap (λ f. size (erase f)) e))
 
   -- a forest whose nodes have parents that are not in r, and are not the parent of r, has no place of r
-  apart : (u : ℕ) (r : Placed) → Stored m b u r → (v : ℕ) (f : Placed) → Stored m b v f → times v r ≡ 0 → (v ≡ u → ⊥) → times u f ≡ 0
+  apart : (u i : ℕ) (r : Placed) → Stored m b u i r → (v j : ℕ) (f : Placed) → Stored m b v j f → times v r ≡ 0 → (v ≡ u → ⊥) → times u f ≡ 0
       → (z : ℕ) → 0 < times z f → times z r ≡ 0
-  apart u r hr v empty h out ne none z q = absurd (omega arith)
-  apart u r hr v (node x l c s) h out ne none z q =
+  apart u i r hr v j empty h out ne none z q = absurd (omega arith)
+  apart u i r hr v j (node x l c s) h out ne none z q =
       let free = first (decLt 0 (times x r)) in
       let xu : x ≡ u → ⊥ = λ e. omega (arith, ap (λ i. hit i x) e, hit-same x) in
-      go (ℕ-discrete z x) (decLt 0 (times z c)) free (apart u r hr x c (h .2) free xu (omega arith) z)
-      (apart u r hr v s (h .3) out ne (omega arith) z)
+      go (ℕ-discrete z x) (decLt 0 (times z c)) free (apart u i r hr x gone c (h .2) free xu (omega arith) z)
+      (apart u i r hr v x s (h .3) out ne (omega arith) z)
     where
       first : Dec (0 < times x r) → times x r ≡ 0
-      first (no i) = omega arith
-      first (yes i) = absurd (clash (parent-in u r hr x i))
+      first (no z) = omega arith
+      first (yes z) = absurd (clash (parent-in u i r hr x z))
         where
           e : m x .parent ≡ v
           e = ap (λ a. a .parent) (h .1)
@@ -91,16 +92,16 @@ module _ (m : Table) (b : ℕ) (le : b ≤ gone) where
       go (no e) (no i) k hc hs = hs (omega (arith, hit-other z x e))
 
   -- no place stands twice, where the parent of the forest is not in it
-  pub once : (u : ℕ) (f : Placed) → Stored m b u f → times u f ≡ 0 → (z : ℕ) → times z f ≤ 1
-  once u empty h out z = omega arith
-  once u (node x l c r) h out z = go (ℕ-discrete z x) (decLt 0 (times z c)) (once x c (h .2) not-down z) (once u r (h .3) (omega arith) z)
+  pub once : (u v : ℕ) (f : Placed) → Stored m b u v f → times u f ≡ 0 → (z : ℕ) → times z f ≤ 1
+  once u v empty h out z = omega arith
+  once u v (node x l c r) h out z = go (ℕ-discrete z x) (decLt 0 (times z c)) (once x gone c (h .2) not-down z) (once u x r (h .3) (omega arith) z)
     where
       xu : x ≡ u → ⊥
       xu e = omega (arith, ap (λ i. hit i x) e, hit-same x)
 
       inside : Dec (0 < times x c) → times x c ≡ 0
       inside (no i) = omega arith
-      inside (yes i) = absurd (clash (parent-in x c (h .2) x i))
+      inside (yes i) = absurd (clash (parent-in x gone c (h .2) x i))
         where
           e : m x .parent ≡ u
           e = ap (λ a. a .parent) (h .1)
@@ -113,11 +114,11 @@ module _ (m : Table) (b : ℕ) (le : b ≤ gone) where
       not-down = inside (decLt 0 (times x c))
 
       go : Dec (z ≡ x) → Dec (0 < times z c) → times z c ≤ 1 → times z r ≤ 1 → hit z x + times z c + times z r ≤ 1
-      go (yes e) d hc hr = rw e (omega (arith, hit-same x, not-down, not-on u x l c r h))
+      go (yes e) d hc hr = rw e (omega (arith, hit-same x, not-down, not-on u v x l c r h))
       go (no e) (no i) hc hr = omega (arith, hit-other z x e)
       go (no e) (yes i) hc hr =
-          omega (arith, hit-other z x e, apart u r (h .3) x c (h .2) (not-on u x l c r h) xu (omega arith) z i)
+          omega (arith, hit-other z x e, apart u x r (h .3) x gone c (h .2) (not-on u v x l c r h) xu (omega arith) z i)
 
   -- so none does in a tree
-  pub tree-once : (f : Placed) → Stored m b gone f → (z : ℕ) → times z f ≤ 1
-  tree-once f h = once gone f h (none-beyond m b gone f h gone le)
+  pub tree-once : (f : Placed) → Stored m b gone gone f → (z : ℕ) → times z f ≤ 1
+  tree-once f h = once gone gone f h (none-beyond m b gone gone f h gone le)

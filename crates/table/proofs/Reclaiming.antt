@@ -104,7 +104,7 @@ spared-all {m} {m′} {n} {b} le g e t h =
       is-tree = h .is-tree;
       is-root = h .is-root;
       alone = h .alone;
-      stored = stored m m′ (le-refl n) gone (h .placed) (λ y q. g .kept y (omega (arith, below y q (decLt y n)))) (h .stored);
+      stored = stored m m′ (le-refl n) gone gone (h .placed) (λ y q. g .kept y (omega (arith, below y q (decLt y n)))) (h .stored);
       here = h .is-root;
       live = first (h .placed) (h .stored) (h .is-root);
       freed = g .freed;
@@ -114,8 +114,8 @@ spared-all {m} {m′} {n} {b} le g e t h =
   where
     below : (y : ℕ) → 0 < times y (h .placed) → Dec (y < n) → times y (h .placed) ≡ seen b y
     below y q (yes lt) = e t h y lt (omega arith)
-    below y q (no ge) = absurd (omega (arith, none-beyond m n gone (h .placed) (h .stored) y (omega arith)))
+    below y q (no ge) = absurd (omega (arith, none-beyond m n gone gone (h .placed) (h .stored) y (omega arith)))
 
-    first : (f : Placed) → Stored m n gone f → head f ≡ 0 → 0 < n
+    first : (f : Placed) → Stored m n gone gone f → head f ≡ 0 → 0 < n
     first empty s z = absurd (omega arith)
     first (node x l c r) s z = omega (arith, s .0)

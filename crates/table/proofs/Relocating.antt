@@ -167,4 +167,4 @@ elsewhere {m} {used = used} {y = y} {q = q} h s =
   where
     below : Dec (y < used) → y < used
     below (yes z) = z
-    below (no z) = absurd (omega (arith, there y q (h .placed) (s .0) (s .1), none-beyond m used gone (h .placed) (h .stored) y (omega arith)))
+    below (no z) = absurd (omega (arith, there y q (h .placed) (s .0) (s .1), none-beyond m used gone gone (h .placed) (h .stored) y (omega arith)))

@@ -5,15 +5,15 @@ use mathlib.Core.Option.{none, some}
 use Prim.Native.Nat.{ℕ, _+_, _-_, _<_, _≤_}
 use native.Mathlib.Omega.{arith}
 use Rattle.rules.specs.Tree.{Label, Forest, Side, sibling, Place, to, change, remove, count, afterRemove}
-use Rattle.table.specs.Cells.{Table, gone, wordOf, sideOf, parentOn}
+use Rattle.table.specs.Cells.{Table, gone, wordOf, sideOf, parentOn, leftOn}
 use Rattle.table.specs.Holds.{Placed, empty, node, head, Spare, end, more, hit, times, Holds}
 use Rattle.table.specs.Promises.{Leads, Removed}
-use Rattle.table.specs.Steps.{withWord, Put, Detached}
+use Rattle.table.specs.Steps.{withWord, Put, LedBack, Detached}
 use Rattle.table.proofs.Ways.{Way, step, plug, pathOf, parentOf, plug-times}
 use Rattle.table.proofs.Focus.{Focus, across}
 use Rattle.table.proofs.Unique.{Stands, there as standing, held-stands, placing, one-lead}
 use Rattle.table.proofs.Moves.{few-above, counts-all, to-side}
-use Rattle.table.proofs.Links.{withLink, withCount, link-count, same-count}
+use Rattle.table.proofs.Links.{withLink, withCount, link-count, same-count, led-count}
 use Rattle.table.proofs.Changes.{prune, withParent}
 use Rattle.table.proofs.Sides.{return, link-above, parent-above, has-parent, at, way-on, forest-on, view-on}
 use Rattle.table.proofs.Relocating.{stands-pruned, stands-lost, elsewhere}
@@ -29,7 +29,7 @@ pub record Pruned (m′ : Table) (n used x y : ℕ) (t : Forest) (d : Side) (a :
 
 module _ {m m′ : Table} {n used free x y u : ℕ} {t : Forest} {l : Label} {o : Placed} {k : Way} {s : Spare} (side : ℕ) (lt : side < 2) where
   cut-off : (f : Placed) → Focus m n used free t empty (step (sideOf side) x l o k) f s → y ≡ head f → y < n → u ≡ parentOf (step (sideOf side) x l o k)
-      → u < n → Detached side m m′ x u y free → Pruned m′ n used x y t (sideOf side) l o k f s
+      → u < n → Detached side m m′ n x u y free → Pruned m′ n used x y t (sideOf side) l o k f s
   unfolding withWord count
   cut-off empty h e ly z lu g = absurd (omega (arith, h .few))
   cut-off (node q a c r) h e ly z lu g =
@@ -37,13 +37,17 @@ module _ {m m′ : Table} {n used free x y u : ℕ} {t : Forest} {l : Label} {o 
       let passed : Put m (g .m₁) x (withLink d (head r) (m x)) =
       subst (λ v. Put m (g .m₁) x v)
       (with-link side (m y .right) (m x) lt ∙ ap (λ v. withLink d v (m x)) (ap (λ v. m v .right) e ∙ ap (λ v. v .right) (h .stored .1))) (g .passed) in
-      let cut : Put (g .m₁) (g .m₂) q (withLink sibling gone (g .m₁ q)) = subst (λ v. Put (g .m₁) (g .m₂) v (withLink sibling gone (g .m₁ v))) e (g .cut) in
-      let stacked : Put (g .m₂) (g .m₃) q (withParent free (g .m₂ q)) = subst (λ v. Put (g .m₂) (g .m₃) v (withParent free (g .m₂ v))) e (g .stacked) in
+      let back : LedBack (g .m₁) n (head r) (parentOf (step d x l o k)) (leftOn d x) (g .m₂) =
+      subst (λ v. LedBack (g .m₁) n (head r) (parentOf (step d x l o k)) v (g .m₂)) (ap (λ v. m v .left) e ∙ ap (λ v. v .left) (h .stored .1))
+      (subst (λ v. LedBack (g .m₁) n v (parentOf (step d x l o k)) (m y .left) (g .m₂)) (ap (λ v. m v .right) e ∙ ap (λ v. v .right) (h .stored .1))
+      (subst (λ v. LedBack (g .m₁) n (m y .right) v (m y .left) (g .m₂)) z (g .back))) in
+      let cut : Put (g .m₂) (g .m₃) q (withLink sibling gone (g .m₂ q)) = subst (λ v. Put (g .m₂) (g .m₃) v (withLink sibling gone (g .m₂ v))) e (g .cut) in
+      let stacked : Put (g .m₃) (g .m₄) q (withParent free (g .m₃ q)) = subst (λ v. Put (g .m₃) (g .m₄) v (withParent free (g .m₃ v))) e (g .stacked) in
       let ne : parentOf (step d x l o k) ≡ gone → ⊥ = λ i. omega (arith, h .few) in
-      let kept : g .m₃ u .children ≡ m (parentOf (step d x l o k)) .children =
-      same-count stacked refl u ∙ same-count cut (link-count sibling gone (g .m₁ q)) u ∙ same-count passed (link-count d (head r) (m x)) u ∙ ap (λ v. m v .children) z in
-      let fewer = one-less (g .m₃ u .children) (omega (arith, kept, counts-all m used q _ (step d x l o k) (h .above) ne)) (omega (arith, kept, few-above (step d x l o k) _ h ne, h .few)) in
-      let counted = subst (λ v. Put (g .m₃) m′ v (withCount (g .m₃ v .children - 1) (g .m₃ v))) z (subst (λ i. Put (g .m₃) m′ u (withCount i (g .m₃ u))) fewer (g .counted)) in
+      let kept : g .m₄ u .children ≡ m (parentOf (step d x l o k)) .children =
+      same-count stacked refl u ∙ same-count cut (link-count sibling gone (g .m₂ q)) u ∙ led-count back u ∙ same-count passed (link-count d (head r) (m x)) u ∙ ap (λ v. m v .children) z in
+      let fewer = one-less (g .m₄ u .children) (omega (arith, kept, counts-all m used q _ _ (step d x l o k) (h .above) ne)) (omega (arith, kept, few-above (step d x l o k) _ h ne, h .few)) in
+      let counted = subst (λ v. Put (g .m₄) m′ v (withCount (g .m₄ v .children - 1) (g .m₄ v))) z (subst (λ i. Put (g .m₄) m′ u (withCount i (g .m₄ u))) fewer (g .counted)) in
       record {
         l = a;
         c = c;
@@ -51,7 +55,7 @@ module _ {m m′ : Table} {n used free x y u : ℕ} {t : Forest} {l : Label} {o 
         was = ap (λ v. node v a c r) (sym e);
         focus =
             subst (λ v. Focus m′ n used v (change (to d (pathOf k)) remove t) empty (step d x l o k) r (more v c empty s)) (sym e)
-            (prune h ne passed cut stacked counted);
+            (prune h ne passed back cut stacked counted);
       }
 
 -- what leads to the free places fits a word
@@ -72,7 +76,7 @@ module _ {m : Table} {n used free x : ℕ} {t : Forest} {p : Place} (h : Holds m
     is-head : y ≡ head (forest-on h (sideOf side))
     is-head = one-lead e (to-side h (sideOf side)) ly ∙ link-above (sideOf side) (view-on h (sideOf side))
 
-    pub pruned : {m′ : Table} → u < n → Detached side m m′ x u y (wordOf free) → Gone y m′
+    pub pruned : {m′ : Table} → u < n → Detached side m m′ n x u y (wordOf free) → Gone y m′
     pruned lu g =
         let f = view-on h (sideOf side) in
         cut-off side lt _ f is-head ly (z ∙ parent-above (sideOf side) f) lu (rw (free-fits f) at g)

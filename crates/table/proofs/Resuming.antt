@@ -19,7 +19,7 @@ use Rattle.table.proofs.Unique.{same}
 pub stands-one : {m : Table} {n : ℕ} {t t′ : Forest} → n ≤ gone → Stands m n t → Stands m n t′ → t ≡ t′
 stands-one {m} {n} le h h′ =
     sym (h .is-tree)
-    ∙ ap erase (same m n n gone gone (h .placed) (h′ .placed) le le (h .stored) (h′ .stored) (h .is-root ∙ sym (h′ .is-root)))
+    ∙ ap erase (same m n n gone gone gone gone (h .placed) (h′ .placed) le le (h .stored) (h′ .stored) (h .is-root ∙ sym (h′ .is-root)))
     ∙ h′ .is-tree
 
 -- the tree that a run left is the one that stands
@@ -27,7 +27,7 @@ pub held-one : {m : Table} {n k used free at : ℕ} {t t′ : Forest} {p : Place
 held-one {m} {n} {used = used} le h h′ =
     sym (h .is-tree)
     ∙ ap erase
-    (same m used n gone gone (h .placed) (h′ .placed) (omega (arith, h .room, h .few)) le (h .stored) (h′ .stored) (h .is-root ∙ sym (h′ .is-root)))
+    (same m used n gone gone gone gone (h .placed) (h′ .placed) (omega (arith, h .room, h .few)) le (h .stored) (h′ .stored) (h .is-root ∙ sym (h′ .is-root)))
     ∙ h′ .is-tree
 
 -- a tree stands in every table with the same first n cells
@@ -38,14 +38,14 @@ stands-same {m} {m′} {n} e h =
       is-tree = h .is-tree;
       is-root = h .is-root;
       alone = h .alone;
-      stored = stored m m′ (le-refl n) gone (h .placed) (λ y q. e y (below y q (decLt y n))) (h .stored);
+      stored = stored m m′ (le-refl n) gone gone (h .placed) (λ y q. e y (below y q (decLt y n))) (h .stored);
       few = h .few;
       rules = h .rules;
     }
   where
     below : (y : ℕ) → 0 < times y (h .placed) → Dec (y < n) → y < n
     below y q (yes lt) = lt
-    below y q (no ge) = absurd (omega (arith, none-beyond m n gone (h .placed) (h .stored) y (omega arith)))
+    below y q (no ge) = absurd (omega (arith, none-beyond m n gone gone (h .placed) (h .stored) y (omega arith)))
 
 -- and what is known of the one holds of the other
 pub decided-same : {m m′ : Table} {n : ℕ} {r : Bool} → ((x : ℕ) → x < n → m′ x ≡ m x) → Decided m n r → Decided m′ n r
@@ -67,13 +67,13 @@ holds-stands {m} {n} {used} h rules =
       is-tree = h .is-tree;
       is-root = h .is-root;
       alone = h .alone;
-      stored = stored m m (h .room) gone (h .placed) (λ y q. refl) (h .stored);
+      stored = stored m m (h .room) gone gone (h .placed) (λ y q. refl) (h .stored);
       few =
           omega (
             arith,
             h .few,
             h .room,
-            sum-stored m used gone (h .placed) (h .stored),
+            sum-stored m used gone gone (h .placed) (h .stored),
             sum-bound used (λ x. times x (h .placed)) (λ x. one x (decLt x used)),
             ap size (h .is-tree),
           );
@@ -82,7 +82,7 @@ holds-stands {m} {n} {used} h rules =
   where
     one : (x : ℕ) → Dec (x < used) → times x (h .placed) ≤ 1
     one x (yes lt) = omega (arith, h .each x lt)
-    one x (no ge) = omega (arith, none-beyond m used gone (h .placed) (h .stored) x (omega arith))
+    one x (no ge) = omega (arith, none-beyond m used gone gone (h .placed) (h .stored) x (omega arith))
 
 -- the table that a run can go on with
 pub record Resumed (m m′ : Table) (n free : ℕ) : Type 0 where

@@ -9,11 +9,11 @@ use lib.Dec.{ltb}
 use borrow.Author.Tests.{lt-ltb, le-ltb}
 use Rattle.rules.specs.Tree.{Forest, count, size}
 use Rattle.table.specs.Cells.{Table, gone}
-use Rattle.table.specs.Holds.{Placed, empty, node, erase, head, Stored, Spare, end, more, top, Linked, Free, hit, times, spareTimes}
+use Rattle.table.specs.Holds.{Placed, empty, node, erase, head, last, Stored, Spare, end, more, top, Linked, Free, hit, times, spareTimes}
 use Rattle.table.specs.Steps.{Pushed, some, none, Popped, Took, again, fresh, full, withWord}
 use Rattle.table.proofs.Counting.{hit-same, hit-other, differ, none-beyond, free-beyond, size-all, size-less}
 use Rattle.table.proofs.Frames.{stored, linked, freed}
-use Rattle.table.proofs.Ways.{Way, plug, parentOf, wayTimes, replug, plug-times}
+use Rattle.table.proofs.Ways.{Way, plug, parentOf, prevOf, wayTimes, replug, plug-times}
 use Rattle.table.proofs.Focus.{Focus}
 use Rattle.table.proofs.Links.{same-above, unchanged}
 use Rattle.table.proofs.Changes.{loose}
@@ -98,8 +98,8 @@ module _ {m : Table} {n used : ℕ} {t : Forest} {k : Way} {f : Placed} where
         focus = record {
           few = h .few;
           room = h .room;
-          stored = stored m m′ (le-refl used) (parentOf k) f (λ y z. ag y (omega arith)) (h .stored);
-          above = same-above m m′ (le-refl used) (head f) (count (erase f)) k (λ y z. ag y (omega arith)) (h .above);
+          stored = stored m m′ (le-refl used) (parentOf k) (prevOf k) f (λ y z. ag y (omega arith)) (h .stored);
+          above = same-above m m′ (le-refl used) (head f) (count (erase f)) (last (prevOf k) f) k (λ y z. ag y (omega arith)) (h .above);
           freed = u .freed;
           leads = sym (u .leads);
           once = λ y. omega (arith, h .once y, onto-times y r s, onto-times y c (onto r s));
@@ -110,11 +110,11 @@ module _ {m : Table} {n used : ℕ} {t : Forest} {k : Way} {f : Placed} where
       }
 
 module _ {m : Table} {n used free : ℕ} {t : Forest} {k : Way} {f : Placed} {s : Spare} (h : Focus m n used free t empty k f s) where
-  tree-stored : Stored m used gone (plug k f)
+  tree-stored : Stored m used gone gone (plug k f)
   tree-stored = replug m used k f (h .stored) (h .above) .0
 
   none-new : (y : ℕ) → used ≤ y → times y f + wayTimes y k + spareTimes y s ≡ 0
-  none-new y le = omega (arith, none-beyond m used gone (plug k f) tree-stored y le, plug-times y k f, free-beyond m used s (h .freed) y le)
+  none-new y le = omega (arith, none-beyond m used gone gone (plug k f) tree-stored y le, plug-times y k f, free-beyond m used s (h .freed) y le)
 
   -- a place that was never used
   begin : {m′ : Table} → ((y : ℕ) → m′ y ≡ m y) → used < n → Handed m′ n (used + 1) free used t k f
@@ -125,8 +125,8 @@ module _ {m : Table} {n used free : ℕ} {t : Forest} {k : Way} {f : Placed} {s 
         focus = record {
           few = h .few;
           room = omega arith;
-          stored = stored m m′ le (parentOf k) f (λ y _. same y) (h .stored);
-          above = same-above m m′ le (head f) (count (erase f)) k (λ y _. same y) (h .above);
+          stored = stored m m′ le (parentOf k) (prevOf k) f (λ y _. same y) (h .stored);
+          above = same-above m m′ le (head f) (count (erase f)) (last (prevOf k) f) k (λ y _. same y) (h .above);
           freed = freed m m′ le s (λ y _. same y) (h .freed);
           leads = h .leads;
           once = λ y. once y (ℕ-discrete y used);
@@ -165,12 +165,12 @@ module _ {m : Table} {n used free : ℕ} {t : Forest} {k : Way} {f : Placed} {s 
   some-spare (more x c r s) g lt = (g .0, omega (arith, hit-same x))
 
   size-is : n ≤ free → size t ≡ used
-  size-is ge = ap size (sym (h .is-tree)) ∙ size-all m used gone (plug k f) s tree-stored once (no-spare s (h .freed) (rw (← h .leads) at ge))
+  size-is ge = ap size (sym (h .is-tree)) ∙ size-all m used gone gone (plug k f) s tree-stored once (no-spare s (h .freed) (rw (← h .leads) at ge))
 
   size-below : free < n → size t < used
   size-below lt =
       let q = some-spare s (h .freed) (rw (← h .leads) at lt) in
-      omega (arith, ap size (h .is-tree), size-less m used gone (plug k f) s tree-stored once (top s) (q .0) (q .1))
+      omega (arith, ap size (h .is-tree), size-less m used gone gone (plug k f) s tree-stored once (top s) (q .0) (q .1))
 
   pub found-room : {m′ : Table} {x free′ used′ : ℕ} → Took m n used free m′ x free′ used′ → ltb x n ≡ ltb (size t) n
   found-room (again lt p j u) = lt-ltb _ n (omega arith) ∙ sym (lt-ltb (size t) n (omega (arith, size-below lt, h .room)))

@@ -18,19 +18,19 @@ node≡ : {x x′ : ℕ} {l l′ : Label} {c c′ r r′ : Placed} → x ≡ x�
 node≡ p q s z = λ i. node (p i) (q i) (s i) (z i)
 
 -- one forest from one place
-pub same : (m : Table) (b b′ u u′ : ℕ) (f g : Placed) → b ≤ gone → b′ ≤ gone → Stored m b u f → Stored m b′ u′ g → head f ≡ head g → f ≡ g
-same m b b′ u u′ empty empty le le′ h h′ e = refl
-same m b b′ u u′ empty (node y l c r) le le′ h h′ e = absurd (omega arith)
-same m b b′ u u′ (node x l c r) empty le le′ h h′ e = absurd (omega arith)
-same m b b′ u u′ (node x l c r) (node y l′ c′ r′) le le′ h h′ e =
+pub same : (m : Table) (b b′ u u′ v v′ : ℕ) (f g : Placed) → b ≤ gone → b′ ≤ gone → Stored m b u v f → Stored m b′ u′ v′ g → head f ≡ head g → f ≡ g
+same m b b′ u u′ v v′ empty empty le le′ h h′ e = refl
+same m b b′ u u′ v v′ empty (node y l c r) le le′ h h′ e = absurd (omega arith)
+same m b b′ u u′ v v′ (node x l c r) empty le le′ h h′ e = absurd (omega arith)
+same m b b′ u u′ v v′ (node x l c r) (node y l′ c′ r′) le le′ h h′ e =
     let a = sym (h .1) ∙ ap m e ∙ h′ .1 in
-    node≡ e (ap (λ z. z .label) a) (same m b b′ x y c c′ le le′ (h .2) (h′ .2) (ap (λ z. z .first) a))
-    (same m b b′ u u′ r r′ le le′ (h .3) (h′ .3) (ap (λ z. z .right) a))
+    node≡ e (ap (λ z. z .label) a) (same m b b′ x y gone gone c c′ le le′ (h .2) (h′ .2) (ap (λ z. z .first) a))
+    (same m b b′ u u′ x y r r′ le le′ (h .3) (h′ .3) (ap (λ z. z .right) a))
 
 module _ {m : Table} {n n′ used used′ free free′ x x′ : ℕ} {t t′ : Forest} {p p′ : Place} where
   pub one-placing : (h : Holds m n used free x t p) (h′ : Holds m n′ used′ free′ x′ t′ p′) → h .placed ≡ h′ .placed
   one-placing h h′ =
-      same m used used′ gone gone (h .placed) (h′ .placed) (omega (arith, h .room, h .few)) (omega (arith, h′ .room, h′ .few)) (h .stored) (h′ .stored)
+      same m used used′ gone gone gone gone (h .placed) (h′ .placed) (omega (arith, h .room, h .few)) (omega (arith, h′ .room, h′ .few)) (h .stored) (h′ .stored)
       (h .is-root ∙ sym (h′ .is-root))
 
   -- a table holds at most one tree
@@ -53,7 +53,7 @@ pub placing : {m : Table} {n used free x : ℕ} {t : Forest} {p : Place} {w : Pl
 placing {m} {used = used} {k = k} {f} h g =
     let q = replug m used k f (g .stored) (g .above) in
     let le : used ≤ gone = omega (arith, h .room, h .few) in
-    same m used used gone gone (h .placed) (plug k f) le le (h .stored) (q .0) (h .is-root ∙ sym (q .1))
+    same m used used gone gone gone gone (h .placed) (plug k f) le le (h .stored) (q .0) (h .is-root ∙ sym (q .1))
 
 -- a place of the tree is the root, or leads on from one of its two sides
 abbrev pub under : Side → Place → Place
@@ -136,7 +136,7 @@ module _ {m : Table} {n used free x : ℕ} {t : Forest} {p : Place} where
   -- a tree has no more nodes than the table has places
   pub few-nodes : Holds m n used free x t p → size t ≤ n
   few-nodes h =
-      omega (arith, ap size (h .is-tree), size-most m used gone (h .placed) (h .spare) (h .stored) (h .each), h .room)
+      omega (arith, ap size (h .is-tree), size-most m used gone gone (h .placed) (h .spare) (h .stored) (h .each), h .room)
 
 -- a move leads to one place
 pub one-lead : {m : Table} {n used free r r′ : ℕ} {t : Forest} {o : Option Place} → Leads m n used free t o r → Leads m n used free t o r′ → r < n

@@ -19,9 +19,9 @@ use Rattle.rules.specs.Tree.{Fit, count, size}
 use Rattle.table.specs.declared.lent.Node.{Node}
 use Rattle.table.specs.declared.standing.Spot.{Spot}
 use Rattle.table.specs.Cells.{Table, ByteLevels, gone}
-use Rattle.table.specs.Holds.{empty, erase, hit, times}
+use Rattle.table.specs.Holds.{empty, erase, last, hit, times}
 use Rattle.table.specs.Lent.{cellOf}
-use Rattle.table.specs.Stands.{Decided, flag, seen, Marked, labelFits, start, Asked, short, over, up, full, outside, down, admits, leave, enter, stuck, mark, Ready, Rooms, Turned, left, entered, refused}
+use Rattle.table.specs.Stands.{Decided, flag, seen, Marked, labelFits, start, Asked, short, over, up, full, outside, down, admits, closes, leave, enter, stuck, mark, Ready, Rooms, Turned, left, open-ended, entered, refused}
 use Rattle.table.proofs.Counting.{hit-same, hit-other, sumTo, sum-zero, sum-add, sum-spike, sum-stored, count-size}
 use Rattle.table.proofs.Once.{tree-once}
 use Rattle.table.proofs.Covers.{Trail, home, under, above, depth, bound, bound-in, bound-out, Fills, Cover, Found, rest-le, both, fit-test, test-fit, no-node, empty-fills, found, cover-down, cover-up, stands-cover, cover-stands}
@@ -31,8 +31,8 @@ sum-mono zero f g h = le-refl 0
 sum-mono (suc n) f g h = omega (arith, h n (le-refl (suc n)), sum-mono n f g (λ z lt. h z (omega arith)))
 
 -- the tests of a record
-all-three : {a b c : Bool} → a ≡ true → b ≡ true → c ≡ true → (a && b && c) ≡ true
-all-three p q r = rw (p, q, r)
+all-four : {a b c d : Bool} → a ≡ true → b ≡ true → c ≡ true → d ≡ true → (a && b && c && d) ≡ true
+all-four p q r s = rw (p, q, r, s)
 
 -- a mark is there or not
 pub flag-pos : (j : ℕ) → 0 < j → flag j ≡ 1
@@ -60,7 +60,7 @@ mark-seen c y z k long lt e = go (ℕ-discrete z y)
 pub admitted-due : (s : Spot) (d : Node) → admits s d ≡ true → 0 < s .due
 unfolding admits
 admitted-due s d e =
-    let a = eqb (d .parent) (s .up) in
+    let a = eqb (d .parent) (s .up) && eqb (d .left) (s .prev) in
     let b = ltb 0 (s .due) in
     ltb-true 0 (s .due) (both a b (both (a && b) (labelFits (s .lo) (s .hi) (cellOf d .label)) e .0) .1)
 
@@ -101,11 +101,11 @@ pub record Walking (m : Table) (n : ℕ) (b e c : List ℕ) (s : Spot) : Type 0 
   pub few : s .deep ≤ s .entered
   pub limit : s .entered ≤ maxNodes
   pub marks : (z : ℕ) → z < n → z < maxNodes → seen c z ≡ flag (mk z)
-  pub same : (T : ℕ → ℕ) → sumTo n T ≤ maxNodes → Cover m n T (λ _. 0) home 0 1 public ↔ Cover m n T mk k (s .link) (s .due) (s .lo)
+  pub same : (T : ℕ → ℕ) → sumTo n T ≤ maxNodes → Cover m n T (λ _. 0) home gone 0 1 public ↔ Cover m n T mk k (s .prev) (s .link) (s .due) (s .lo)
 
--- turns that are left: three for each node that can be entered, two for each that can be left, and one for a link
+-- turns that are left: three for each node that can be entered, two for each that can be left, and one where no list is too short
 pub turns : Spot → ℕ
-turns s = 3 * (maxNodes - s .entered) + 2 * s .deep + cond (eqb (s .link) gone) 0 1
+turns s = 3 * (maxNodes - s .entered) + 2 * s .deep + cond (eqb (s .link) gone && ltb 0 (s .due)) 0 1
 
 module _ {m : Table} {n : ℕ} (le : n ≤ gone) where
   pub walk-start : (b e c : List ℕ) → ((z : ℕ) → z < maxNodes → getD c z 0 ≡ 0) → Walking m n b e c start
@@ -127,34 +127,34 @@ module _ {m : Table} {n : ℕ} (le : n ≤ gone) where
 
   module _ {b e c : List ℕ} {s : Spot} (w : Walking m n b e c s) where
     -- no tree stands in the table
-    never : ((T : ℕ → ℕ) → sumTo n T ≤ maxNodes → Cover m n T (w .mk) (w .k) (s .link) (s .due) (s .lo) → ⊥) → Decided m n false
+    never : ((T : ℕ → ℕ) → sumTo n T ≤ maxNodes → Cover m n T (w .mk) (w .k) (s .prev) (s .link) (s .due) (s .lo) → ⊥) → Decided m n false
     never h =
         record {
           sound = λ i. absurd (true≢false (sym i));
           exact =
               λ t st.
               let q : sumTo n (λ z. times z (st .placed)) ≤ maxNodes =
-              omega (arith, sum-stored m n gone (st .placed) (st .stored), ap size (st .is-tree), st .few) in
+              omega (arith, sum-stored m n gone gone (st .placed) (st .stored), ap size (st .is-tree), st .few) in
               absurd (h (λ z. times z (st .placed)) q (w .same (λ z. times z (st .placed)) q .0 (stands-cover le st)));
         }
 
     -- the node that a link leads to, and room for it
-    meets : (T : ℕ → ℕ) → sumTo n T ≤ maxNodes → (s .link ≡ gone → ⊥) → (h : Cover m n T (w .mk) (w .k) (s .link) (s .due) (s .lo))
-        → Found m n (above (w .k)) (s .link) (s .due) (s .lo) (h .f) × (s .entered < maxNodes)
+    meets : (T : ℕ → ℕ) → sumTo n T ≤ maxNodes → (s .link ≡ gone → ⊥) → (h : Cover m n T (w .mk) (w .k) (s .prev) (s .link) (s .due) (s .lo))
+        → Found m n (above (w .k)) (s .prev) (s .link) (s .due) (s .lo) (h .f) × (s .entered < maxNodes)
     meets T few ne h =
         let d = found (h .f) ne (h .fills) in
         let q = sum-mono n (λ z. times z (h .f) + w .mk z) T (rest-le m n T (λ z. times z (h .f) + w .mk z) (w .k) (h .rest)) in
         let r = sum-add n (λ z. times z (h .f)) (w .mk) in
         let f = h .fills in (
           d,
-          omega (arith, q, r, few, w .total, sum-stored m n (above (w .k)) (h .f) (f .stored), count-size (h .f), f .counted, d .more),
+          omega (arith, q, r, few, w .total, sum-stored m n (above (w .k)) (s .prev) (h .f) (f .stored), count-size (h .f), f .counted, d .more),
         )
 
     -- a list that is shorter than it should be
-    too-short : s .link ≡ gone → 0 < s .due → (T : ℕ → ℕ) → Cover m n T (w .mk) (w .k) (s .link) (s .due) (s .lo) → ⊥
+    too-short : s .link ≡ gone → 0 < s .due → (T : ℕ → ℕ) → Cover m n T (w .mk) (w .k) (s .prev) (s .link) (s .due) (s .lo) → ⊥
     unfolding count
     too-short i pos T h =
-        let q = no-node (h .f) le (subst (λ v. Fills m n (above (w .k)) v (s .due) (s .lo) (h .f)) i (h .fills)) in
+        let q = no-node (h .f) le (subst (λ v. Fills m n (above (w .k)) (s .prev) v (s .due) (s .lo) (h .f)) i (h .fills)) in
         omega (arith, h .fills .counted, ap (λ f. count (erase f)) q)
 
     -- what the node above says, where there is one
@@ -165,13 +165,45 @@ module _ {m : Table} {n : ℕ} (le : n ≤ gone) where
         go home d i h = absurd (omega arith)
         go (under x j k) d i h = rw (← i) (h .0, h .4)
 
+    -- no tree stands in the table: from here on the walk is as where a list is too short
+    stops : ((T : ℕ → ℕ) → sumTo n T ≤ maxNodes → Cover m n T (w .mk) (w .k) (s .prev) (s .link) (s .due) (s .lo) → ⊥) → Walking m n b e c (stuck s)
+    unfolding count
+    stops none =
+        let never-short : (T : ℕ → ℕ) → Cover m n T (w .mk) (w .k) (s .prev) gone 1 (s .lo) → ⊥ =
+        λ T h. omega (arith, h .fills .counted, ap (λ f. count (erase f)) (no-node (h .f) le (h .fills))) in
+        record {
+          k = w .k;
+          mk = w .mk;
+          is-deep = w .is-deep;
+          is-up = w .is-up;
+          is-bound = w .is-bound;
+          chain = w .chain;
+          total = w .total;
+          few = w .few;
+          limit = w .limit;
+          marks = w .marks;
+          same = λ T q. (λ h. absurd (none T q (w .same T q .0 h)), λ h. absurd (never-short T h));
+        }
+
+    -- a list whose last node is not the one that the node above leads to
+    strays : {d : Node} → s .link ≡ gone → 0 < s .deep → cellOf d ≡ m (s .up) → closes s d ≡ false → Walking m n b e c (stuck s)
+    unfolding closes
+    strays {d} l pos ex no′ =
+        stops λ T _ h.
+        let q = no-node (h .f) le (subst (λ v. Fills m n (above (w .k)) (s .prev) v (s .due) (s .lo) (h .f)) l (h .fills)) in
+        let e : s .prev ≡ m (above (w .k)) .last =
+        sym (ap (last (s .prev)) q) ∙ h .fills .ends (subst (λ v. v < n) (sym (w .is-up)) (over-there pos .0)) in
+        let z : d .last ≡ s .prev = ap (λ v. v .last) ex ∙ ap (λ v. m v .last) (sym (w .is-up)) ∙ sym e in
+        true≢false (sym (eq-eqb (d .last) (s .prev) z) ∙ no′)
+
     -- up from the end of a list
-    goes-up : {d : Node} → s .link ≡ gone → s .due ≡ 0 → 0 < s .deep → cellOf d ≡ m (s .up)
+    goes-up : {d : Node} → s .link ≡ gone → s .due ≡ 0 → 0 < s .deep → cellOf d ≡ m (s .up) → closes s d ≡ true
         → Walking m n b e c (leave s d (getD b (s .deep - 1) 0) (getD e (s .deep - 1) 0))
-    goes-up {d} l z pos ex = go (w .k) (w .is-deep) (w .is-up) (w .chain) (w .same)
+    unfolding closes
+    goes-up {d} l z pos ex ok = go (w .k) (w .is-deep) (w .is-up) (w .chain) (w .same)
       where
         go : (k : Trail) → depth k ≡ s .deep → above k ≡ s .up → Chain m n b e k
-            → ((T : ℕ → ℕ) → sumTo n T ≤ maxNodes → Cover m n T (λ _. 0) home 0 1 public ↔ Cover m n T (w .mk) k (s .link) (s .due) (s .lo))
+            → ((T : ℕ → ℕ) → sumTo n T ≤ maxNodes → Cover m n T (λ _. 0) home gone 0 1 public ↔ Cover m n T (w .mk) k (s .prev) (s .link) (s .due) (s .lo))
             → Walking m n b e c (leave s d (getD b (s .deep - 1) 0) (getD e (s .deep - 1) 0))
         go home dp i h same = absurd (omega arith)
         go (under x j k) dp i h same =
@@ -182,8 +214,10 @@ module _ {m : Table} {n : ℕ} (le : n ≤ gone) where
             let r₂ : d .existence ≡ m x .label .existence = ap (λ v. v .label .existence) a in
             let r₃ : getD b (s .deep - 1) 0 ≡ j = sym (ap (λ v. getD b v 0) dk) ∙ h .1 in
             let step : (T : ℕ → ℕ)
-            → Cover m n T (w .mk) (under x j k) (s .link) (s .due) (s .lo) ↔ Cover m n T (w .mk) k (d .right) (getD b (s .deep - 1) 0) (d .existence) =
-            λ T. rw (l, z, r₁, r₂, r₃) (cover-up m n le T (w .mk) k x j (s .lo)) in
+            → Cover m n T (w .mk) (under x j k) (s .prev) (s .link) (s .due) (s .lo)
+            ↔ Cover m n T (w .mk) k (s .up) (d .right) (getD b (s .deep - 1) 0) (d .existence) =
+            λ T. rw (l, z, r₁, r₂, r₃, ← i)
+            (cover-up m n le T (w .mk) k (s .prev) x j (s .lo) (sym (ap (λ v. v .last) a) ∙ eqb-true (d .last) (s .prev) ok)) in
             record {
               k = k;
               mk = w .mk;
@@ -204,24 +238,27 @@ module _ {m : Table} {n : ℕ} (le : n ≤ gone) where
           → Walking m n (set b (s .deep) (s .due - 1)) (set e (s .deep) (s .hi)) (mark c (s .link)) (enter s d)
       unfolding admits
       goes-down long long′ long″ ok bytes =
-          let t = both (eqb (d .parent) (s .up) && ltb 0 (s .due)) (labelFits (s .lo) (s .hi) (cellOf d .label)) ok in
-          let u = both (eqb (d .parent) (s .up)) (ltb 0 (s .due)) (t .0) in
+          let t = both (eqb (d .parent) (s .up) && eqb (d .left) (s .prev) && ltb 0 (s .due)) (labelFits (s .lo) (s .hi) (cellOf d .label)) ok in
+          let u = both (eqb (d .parent) (s .up) && eqb (d .left) (s .prev)) (ltb 0 (s .due)) (t .0) in
+          let v = both (eqb (d .parent) (s .up)) (eqb (d .left) (s .prev)) (u .0) in
           let y = s .link in
           let dp = w .is-deep in
           let pos = ltb-true 0 (s .due) (u .1) in
-          let p : m y .parent ≡ above (w .k) = sym (ap (λ v. v .parent) ex) ∙ eqb-true (d .parent) (s .up) (u .0) ∙ sym (w .is-up) in
+          let p : m y .parent ≡ above (w .k) = sym (ap (λ v. v .parent) ex) ∙ eqb-true (d .parent) (s .up) (v .0) ∙ sym (w .is-up) in
+          let q : m y .left ≡ s .prev = sym (ap (λ v. v .left) ex) ∙ eqb-true (d .left) (s .prev) (v .1) in
           let hi : bound m n (above (w .k)) ≡ s .hi = ap (bound m n) (w .is-up) ∙ w .is-bound in
           let fit : Fit (s .lo) (bound m n (above (w .k))) (m y .label) =
           subst (λ v. Fit (s .lo) v (m y .label)) (sym hi) (subst (λ v. Fit (s .lo) (s .hi) (v .label)) ex (fit-test (s .lo) (s .hi) (cellOf d .label) (t .1))) in
           let mk′ : ℕ → ℕ = λ z. hit z y + w .mk z in
           let step : (T : ℕ → ℕ)
-          → Cover m n T (w .mk) (w .k) y (s .due) (s .lo) ↔ Cover m n T mk′ (under y (s .due - 1) (w .k)) (d .first) (d .children) (d .existence) =
+          → Cover m n T (w .mk) (w .k) (s .prev) y (s .due) (s .lo)
+          ↔ Cover m n T mk′ (under y (s .due - 1) (w .k)) gone (d .first) (d .children) (d .existence) =
           λ T.
           subst
           (λ v.
-          Cover m n T (w .mk) (w .k) y (s .due) (s .lo)
-          ↔ Cover m n T mk′ (under y (s .due - 1) (w .k)) (v .first) (v .children) (v .label .existence)) (sym ex)
-          (cover-down m n le T (w .mk) mk′ (w .k) y (s .due) (s .lo) lt pos p fit (subst (λ v. ByteLevels (v .label)) ex bytes) (λ z _. refl)) in
+          Cover m n T (w .mk) (w .k) (s .prev) y (s .due) (s .lo)
+          ↔ Cover m n T mk′ (under y (s .due - 1) (w .k)) gone (v .first) (v .children) (v .label .existence)) (sym ex)
+          (cover-down m n le T (w .mk) mk′ (w .k) (s .prev) y (s .due) (s .lo) lt pos p q fit (subst (λ v. ByteLevels (v .label)) ex bytes) (λ z _. refl)) in
           record {
             k = under y (s .due - 1) (w .k);
             mk = mk′;
@@ -245,33 +282,19 @@ module _ {m : Table} {n : ℕ} (le : n ≤ gone) where
             same = λ T q. (λ h. step T .0 (w .same T q .0 h), λ h. w .same T q .1 (step T .1 h));
           }
 
-      -- a node that does not keep the rules: no tree stands in the table, as where a list is too short
+      -- a node that does not keep the rules
       gets-stuck : admits s d ≡ false → Walking m n b e c (stuck s)
-      unfolding admits count
+      unfolding admits
       gets-stuck no′ =
-          let none : (T : ℕ → ℕ) → sumTo n T ≤ maxNodes → Cover m n T (w .mk) (w .k) (s .link) (s .due) (s .lo) → ⊥ =
-          λ T few h.
+          stops λ T few h.
           let f = meets T few ne h .0 in
           let hi : bound m n (above (w .k)) ≡ s .hi = ap (bound m n) (w .is-up) ∙ w .is-bound in
           let fit = subst (λ v. Fit (s .lo) (s .hi) (v .label)) (sym ex) (subst (λ v. Fit (s .lo) v (m (s .link) .label)) hi (f .fit)) in
           let p : d .parent ≡ s .up = ap (λ v. v .parent) ex ∙ f .parent ∙ w .is-up in
+          let q : d .left ≡ s .prev = ap (λ v. v .left) ex ∙ f .left in
           true≢false
-          (sym (all-three (eq-eqb (d .parent) (s .up) p) (lt-ltb 0 (s .due) (f .more)) (test-fit (s .lo) (s .hi) (cellOf d .label) fit)) ∙ no′) in
-          let never-short : (T : ℕ → ℕ) → Cover m n T (w .mk) (w .k) gone 1 (s .lo) → ⊥ =
-          λ T h. omega (arith, h .fills .counted, ap (λ f. count (erase f)) (no-node (h .f) le (h .fills))) in
-          record {
-            k = w .k;
-            mk = w .mk;
-            is-deep = w .is-deep;
-            is-up = w .is-up;
-            is-bound = w .is-bound;
-            chain = w .chain;
-            total = w .total;
-            few = w .few;
-            limit = w .limit;
-            marks = w .marks;
-            same = λ T q. (λ h. absurd (none T q (w .same T q .0 h)), λ h. absurd (never-short T h));
-          }
+          (sym (all-four (eq-eqb (d .parent) (s .up) p) (eq-eqb (d .left) (s .prev) q) (lt-ltb 0 (s .due) (f .more))
+          (test-fit (s .lo) (s .hi) (cellOf d .label) fit)) ∙ no′)
 
     -- the end: a tree, whose places are those entered
     walk-yes : s .link ≡ gone → s .due ≡ 0 → s .deep ≡ 0 → Decided m n true × (true ≡ true → Marked m n c)
@@ -279,19 +302,19 @@ module _ {m : Table} {n : ℕ} (le : n ≤ gone) where
     walk-yes l z dp = go (w .k) (w .is-deep) (w .same)
       where
         go : (k : Trail) → depth k ≡ s .deep
-            → ((T : ℕ → ℕ) → sumTo n T ≤ maxNodes → Cover m n T (λ _. 0) home 0 1 public ↔ Cover m n T (w .mk) k (s .link) (s .due) (s .lo))
+            → ((T : ℕ → ℕ) → sumTo n T ≤ maxNodes → Cover m n T (λ _. 0) home gone 0 1 public ↔ Cover m n T (w .mk) k (s .prev) (s .link) (s .due) (s .lo))
             → Decided m n true × (true ≡ true → Marked m n c)
         go (under x j k) i same = absurd (omega arith)
         go home i same =
             let total : sumTo n (w .mk) ≤ maxNodes = omega (arith, w .total, w .limit) in
-            let last : Cover m n (w .mk) (w .mk) home (s .link) (s .due) (s .lo) =
-            rw (l, z) record { f = empty; fills = empty-fills; rest = λ i lt. omega arith } in
+            let last : Cover m n (w .mk) (w .mk) home (s .prev) (s .link) (s .due) (s .lo) =
+            rw (l, z) record { f = empty; fills = empty-fills (λ lt. absurd (omega arith)); rest = λ i lt. omega arith } in
             let h = same (w .mk) total .1 last in (
               record { sound = λ _. (erase (h .f), cover-stands le total h); exact = λ _ _. refl },
               λ _ t st y lt few.
                   let q : sumTo n (λ z. times z (st .placed)) ≤ maxNodes =
-                  omega (arith, sum-stored m n gone (st .placed) (st .stored), ap size (st .is-tree), st .few) in
-                  let g : Cover m n (λ i. times i (st .placed)) (w .mk) home gone 0 (s .lo) =
+                  omega (arith, sum-stored m n gone gone (st .placed) (st .stored), ap size (st .is-tree), st .few) in
+                  let g : Cover m n (λ i. times i (st .placed)) (w .mk) home (s .prev) gone 0 (s .lo) =
                   rw (l, z) at (same (λ i. times i (st .placed)) q .0 (stands-cover le st)) in
                   let e : w .mk y ≡ times y (st .placed) = omega (arith, g .rest y lt, ap (times y) (no-node (g .f) le (g .fills))) in
                   sym (w .marks y lt few ∙ ap flag e ∙ flag-few (times y (st .placed)) (tree-once m n le (st .placed) (st .stored) y)),
@@ -320,30 +343,33 @@ module _ {m : Table} {n : ℕ} (le : n ≤ gone) where
       -- a turn
       pub walk-turn : {d : Node} {b′ e′ c′ : List ℕ} {r : Spot} → Asked s n x → x < n → cellOf d ≡ m x → Rooms b e c → Turned s d b e c b′ e′ c′ r → Walking m n b′ e′ c′ r × (turns r < turns s)
       unfolding turns
-      walk-turn {d} (up l z pos i) lt ex rooms (left l′ rr rb rf rc) =
-          rw (rr, rb, rf, rc) (goes-up l z pos (ex ∙ ap m i), fewer (eqb (d .right) gone))
+      walk-turn {d} (up l z pos i) lt ex rooms (left l′ ok rr rb rf rc) =
+          rw (rr, rb, rf, rc) (goes-up l z pos (ex ∙ ap m i) ok, fewer (eqb (d .right) gone && ltb 0 (getD b (s .deep - 1) 0)))
         where
-          fewer : (t : Bool) → 3 * (maxNodes - s .entered) + 2 * (s .deep - 1) + cond t 0 1 < 3 * (maxNodes - s .entered) + 2 * s .deep + cond (eqb (s .link) gone) 0 1
+          fewer : (t : Bool) → 3 * (maxNodes - s .entered) + 2 * (s .deep - 1) + cond t 0 1 < 3 * (maxNodes - s .entered) + 2 * s .deep + cond (eqb (s .link) gone && ltb 0 (s .due)) 0 1
           fewer true = omega arith
           fewer false = omega arith
+      walk-turn (up l z pos i) lt ex rooms (open-ended l′ no′ rr rb rf rc) =
+          rw (rr, rb, rf, rc) (strays l pos (ex ∙ ap m i) no′, rw (l, z) (omega arith))
       walk-turn {d} (down ne room lt′ i) lt ex rooms (entered ne′ ok bt rr rb rf rc) =
-          rw (rr, rb, rf, rc) (goes-down ne room lt′ (ex ∙ ap m i) (rooms .dues) (rooms .bounds) (rooms .marks) ok bt, fewer (eqb (d .first) gone))
+          rw (rr, rb, rf, rc) (goes-down ne room lt′ (ex ∙ ap m i) (rooms .dues) (rooms .bounds) (rooms .marks) ok bt, fewer (eqb (d .first) gone && ltb 0 (d .children)))
         where
-          fewer : (t : Bool) → 3 * (maxNodes - (s .entered + 1)) + 2 * (s .deep + 1) + cond t 0 1 < 3 * (maxNodes - s .entered) + 2 * s .deep + cond (eqb (s .link) gone) 0 1
+          fewer : (t : Bool) → 3 * (maxNodes - (s .entered + 1)) + 2 * (s .deep + 1) + cond t 0 1 < 3 * (maxNodes - s .entered) + 2 * s .deep + cond (eqb (s .link) gone && ltb 0 (s .due)) 0 1
           fewer true = rw (ne-eqb (s .link) gone ne) (omega arith)
           fewer false = rw (ne-eqb (s .link) gone ne) (omega arith)
       walk-turn (down ne room lt′ i) lt ex rooms (refused ne′ no′ rr rb rf rc) =
           rw (rr, rb, rf, rc) (gets-stuck ne room lt′ (ex ∙ ap m i) no′, rw (ne-eqb (s .link) gone ne) (omega arith))
       walk-turn (up l z pos i) lt ex rooms (entered ne ok bt rr rb rf rc) = absurd (ne l)
       walk-turn (up l z pos i) lt ex rooms (refused ne no′ rr rb rf rc) = absurd (ne l)
-      walk-turn (down ne room lt′ i) lt ex rooms (left l rr rb rf rc) = absurd (ne l)
+      walk-turn (down ne room lt′ i) lt ex rooms (left l ok rr rb rf rc) = absurd (ne l)
+      walk-turn (down ne room lt′ i) lt ex rooms (open-ended l no′ rr rb rf rc) = absurd (ne l)
       walk-turn (short l z i) lt ex rooms t = absurd (omega arith)
       walk-turn (over l z dp i) lt ex rooms t = absurd (omega arith)
       walk-turn (full ne z i) lt ex rooms t = absurd (omega arith)
       walk-turn (outside ne z i) lt ex rooms t = absurd (omega arith)
 
       -- the end: no tree
-      walk-no : ((T : ℕ → ℕ) → sumTo n T ≤ maxNodes → Cover m n T (w .mk) (w .k) (s .link) (s .due) (s .lo) → ⊥) → x ≡ n
+      walk-no : ((T : ℕ → ℕ) → sumTo n T ≤ maxNodes → Cover m n T (w .mk) (w .k) (s .prev) (s .link) (s .due) (s .lo) → ⊥) → x ≡ n
           → Decided m n (ltb n x) × (ltb n x ≡ true → Marked m n c)
       walk-no h i = rw (le-ltb n x (omega arith)) (never h, λ e. absurd (true≢false (sym e)))
 

@@ -4,8 +4,8 @@ use mathlib.Core.Path.{_≡_, refl, ap, _∙_}
 use Prim.Native.Nat.{ℕ, suc, _+_, _<_, _≤_}
 use native.Mathlib.Omega.{arith}
 use Rattle.rules.specs.Tree.{Label, Forest, tree, Side, child, sibling, along, Place, root, to, sub, onSide, change, count}
-use Rattle.table.specs.Cells.{cell, Table, ByteLevels, gone}
-use Rattle.table.specs.Holds.{Placed, empty, node, erase, head, beside, part, Stored, hit, times}
+use Rattle.table.specs.Cells.{cell, Table, ByteLevels, gone, leftOn}
+use Rattle.table.specs.Holds.{Placed, empty, node, erase, head, last, beside, part, Stored, hit, times}
 
 -- a way, innermost first: what is below it stands on a side of the node with this place and label, and the forest on the other side
 pub data Way : Type 0 where
@@ -33,23 +33,30 @@ parentOf home = gone
 parentOf (step child x l o k) = x
 parentOf (step sibling x l o k) = parentOf k
 
+-- and that of the node left of it
+abbrev pub prevOf : Way → ℕ
+prevOf home = gone
+prevOf (step d x l o k) = leftOn d x
+
 -- how often a place stands on a way
 abbrev pub wayTimes : ℕ → Way → ℕ
 wayTimes y home = 0
 wayTimes y (step d x l o k) = hit y x + times y o + wayTimes y k
 
--- the table stores the way above a forest of j trees whose first stands at h
-abbrev pub Above : Table → ℕ → ℕ → ℕ → Way → Type 0
-Above m b h j home = (h ≡ 0) × (j ≡ 1)
-Above m b h j (step child x l o k) =
-    (x < b) × (m x ≡ cell h (head o) (parentOf k) j l) × Stored m b (parentOf k) o × Above m b x (suc (count (erase o))) k × ByteLevels l
-Above m b h j (step sibling x l o k) =
-    (x < b) × (m x ≡ cell (head o) h (parentOf k) (count (erase o)) l) × Stored m b x o × Above m b x (suc j) k × ByteLevels l
+-- the table stores the way above a forest of j trees whose first stands at h, in a list whose last stands at z
+abbrev pub Above : Table → ℕ → ℕ → ℕ → ℕ → Way → Type 0
+Above m b h j z home = (h ≡ 0) × (j ≡ 1)
+Above m b h j z (step child x l o k) =
+    (x < b) × (m x ≡ cell h (head o) (parentOf k) (prevOf k) z j l) × Stored m b (parentOf k) x o
+    × Above m b x (suc (count (erase o))) (last x o) k × ByteLevels l
+Above m b h j z (step sibling x l o k) =
+    (x < b) × (m x ≡ cell (head o) h (parentOf k) (prevOf k) (last gone o) (count (erase o)) l) × Stored m b x gone o × Above m b x (suc j) z k
+    × ByteLevels l
 
 -- the tree above and the forest below, of the whole
 module _ (m : Table) (b : ℕ) where
-  pub unplug : (k : Way) (f : Placed) → Stored m b gone (plug k f) → head (plug k f) ≡ 0 → count (erase (plug k f)) ≡ 1
-      → Stored m b (parentOf k) f × Above m b (head f) (count (erase f)) k
+  pub unplug : (k : Way) (f : Placed) → Stored m b gone gone (plug k f) → head (plug k f) ≡ 0 → count (erase (plug k f)) ≡ 1
+      → Stored m b (parentOf k) (prevOf k) f × Above m b (head f) (count (erase f)) (last (prevOf k) f) k
   unfolding count
   unplug home f h z j = (h, (z, j))
   unplug (step child x l o k) f h z j =
@@ -59,8 +66,8 @@ module _ (m : Table) (b : ℕ) where
       let q = unplug k (node x l o f) h z j in
       (q .0 .3, (q .0 .0, q .0 .1, q .0 .2, q .1, q .0 .4))
 
-  pub replug : (k : Way) (f : Placed) → Stored m b (parentOf k) f → Above m b (head f) (count (erase f)) k
-      → Stored m b gone (plug k f) × (head (plug k f) ≡ 0) × (count (erase (plug k f)) ≡ 1)
+  pub replug : (k : Way) (f : Placed) → Stored m b (parentOf k) (prevOf k) f → Above m b (head f) (count (erase f)) (last (prevOf k) f) k
+      → Stored m b gone gone (plug k f) × (head (plug k f) ≡ 0) × (count (erase (plug k f)) ≡ 1)
   unfolding count
   replug home f h w = (h, w .0, w .1)
   replug (step child x l o k) f h w = replug k (node x l f o) (w .0, w .1, h, w .2, w .4) (w .3)

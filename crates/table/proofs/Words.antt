@@ -4,6 +4,7 @@ use mathlib.Core.List.{List}
 use mathlib.Core.Bool.{cond}
 use Prim.Native.Nat.{ℕ, zero, suc, _+_, _-_, _*_, _<_, _≤_}
 use Rattle.rules.specs.Number.{range}
+use Rattle.rules.specs.Tree.{Label}
 use native.Mathlib.Omega.{arith}
 use native.Mathlib.Decide.{ℕ-discrete}
 use lib.Dec.{eqb}
@@ -11,16 +12,16 @@ use lib.ListN.{length, set}
 use lib.Seq.{getD-set-same, getD-set-other}
 use borrow.Author.Tests.{eq-eqb, ne-eqb}
 use Rattle.table.specs.Cells.{Cell, cell, Table, cellSize, word, wordOf, labelWith, cells, sideOf, link}
-use Rattle.table.specs.Steps.{withWord, Put, oneMore, oneLess}
+use Rattle.table.specs.Steps.{withWord, withLabel, Put, oneMore, oneLess}
 use Rattle.table.proofs.Links.{withLink}
 
 -- the cell at x, by its words
 spelled : (b : List ℕ) (x : ℕ) (g : ℕ → ℕ) → ((i : ℕ) → i < cellSize → word b x i ≡ g i)
-    → cells b x ≡ cell (g 0) (g 1) (g 2) (g 5) (labelWith (g 4) (g 3) (g 6) (g 7))
+    → cells b x ≡ cell (g 0) (g 1) (g 2) (g 8) (g 9) (g 5) (labelWith (g 4) (g 3) (g 6) (g 7))
 unfolding cells
 spelled b x g h =
     λ i.
-    cell (h 0 (omega arith) i) (h 1 (omega arith) i) (h 2 (omega arith) i) (h 5 (omega arith) i)
+    cell (h 0 (omega arith) i) (h 1 (omega arith) i) (h 2 (omega arith) i) (h 8 (omega arith) i) (h 9 (omega arith) i) (h 5 (omega arith) i)
     (labelWith (h 4 (omega arith) i) (h 3 (omega arith) i) (h 6 (omega arith) i) (h 7 (omega arith) i))
 
 module _ (b : List ℕ) (x : ℕ) (h : cellSize * x + cellSize ≤ length b) where
@@ -32,7 +33,7 @@ module _ (b : List ℕ) (x : ℕ) (h : cellSize * x + cellSize ≤ length b) whe
       go (no q) = rw (ne-eqb i j q) (getD-set-other b (cellSize * x + j) (cellSize * x + i) v 0 (λ z. q (omega arith)))
 
   by-words : (j v : ℕ) → j < cellSize → cells (set b (cellSize * x + j) v) x
-      ≡ (let g : ℕ → ℕ = λ i. cond (eqb i j) v (word b x i) in cell (g 0) (g 1) (g 2) (g 5) (labelWith (g 4) (g 3) (g 6) (g 7)))
+      ≡ (let g : ℕ → ℕ = λ i. cond (eqb i j) v (word b x i) in cell (g 0) (g 1) (g 2) (g 8) (g 9) (g 5) (labelWith (g 4) (g 3) (g 6) (g 7)))
   by-words j v lt = spelled (set b (cellSize * x + j) v) x (λ i. cond (eqb i j) v (word b x i)) (λ i _. here j v i lt)
 
   one-word : (j v : ℕ) → j < cellSize → cells (set b (cellSize * x + j) v) x ≡ withWord j v (cells b x)
@@ -45,7 +46,9 @@ module _ (b : List ℕ) (x : ℕ) (h : cellSize * x + cellSize ≤ length b) whe
   one-word (suc (suc (suc (suc (suc zero))))) v lt = by-words 5 v lt
   one-word (suc (suc (suc (suc (suc (suc zero)))))) v lt = by-words 6 v lt
   one-word (suc (suc (suc (suc (suc (suc (suc zero))))))) v lt = by-words 7 v lt
-  one-word (suc (suc (suc (suc (suc (suc (suc (suc k)))))))) v lt = absurd (omega arith)
+  one-word (suc (suc (suc (suc (suc (suc (suc (suc zero)))))))) v lt = by-words 8 v lt
+  one-word (suc (suc (suc (suc (suc (suc (suc (suc (suc zero))))))))) v lt = by-words 9 v lt
+  one-word (suc (suc (suc (suc (suc (suc (suc (suc (suc (suc k)))))))))) v lt = absurd (omega arith)
 
   elsewhere : (j v y : ℕ) → j < cellSize → (y ≡ x → ⊥) → cells (set b (cellSize * x + j) v) y ≡ cells b y
   unfolding cells
@@ -60,13 +63,17 @@ module _ (b : List ℕ) (x : ℕ) (h : cellSize * x + cellSize ≤ length b) whe
 pub twice : {m m₁ m₂ : Table} {x : ℕ} {a : Cell} (f : Cell → Cell) → Put m m₁ x a → Put m₁ m₂ x (f (m₁ x)) → Put m m₂ x (f a)
 twice f p q = record { on = q .on ∙ ap f (p .on); off = λ y ne. q .off y ne ∙ p .off y ne }
 
--- a cell is filled, word by word
-pub filled : {m m₁ m₂ m₃ m₄ m₅ m₆ : Table} {x r u : ℕ} (v : ℕ) {e c s : ℕ} → Put m m₁ x (withWord 1 r (m x)) → Put m₁ m₂ x (withWord 2 u (m₁ x))
-    → Put m₂ m₃ x (withWord 3 e (m₂ x)) → Put m₃ m₄ x (withWord 4 v (m₃ x)) → Put m₄ m₅ x (withWord 6 c (m₄ x))
-    → Put m₅ m₆ x (withWord 7 s (m₅ x)) → Put m m₆ x (cell (m x .first) r u (m x .children) (labelWith v e c s))
-unfolding withWord
-filled {u = u} v {e} {c} {s} p₁ p₂ p₃ p₄ p₅ p₆ =
-    twice (withWord 7 s) (twice (withWord 6 c) (twice (withWord 4 v) (twice (withWord 3 e) (twice (withWord 2 u) p₁ p₂) p₃) p₄) p₅) p₆
+-- a cell gets a label, and is filled, word by word
+module _ {m m₁ m₂ m₃ m₄ : Table} {x : ℕ} where
+  pub labelled : (v : ℕ) {e c s : ℕ} → Put m m₁ x (withWord 3 e (m x)) → Put m₁ m₂ x (withWord 4 v (m₁ x)) → Put m₂ m₃ x (withWord 6 c (m₂ x))
+      → Put m₃ m₄ x (withWord 7 s (m₃ x)) → Put m m₄ x (withLabel (labelWith v e c s) (m x))
+  unfolding withWord
+  labelled v {c = c} {s} p₁ p₂ p₃ p₄ = twice (withWord 7 s) (twice (withWord 6 c) (twice (withWord 4 v) p₁ p₂) p₃) p₄
+
+  pub filled : {r u v : ℕ} {l : Label} → Put m m₁ x (withWord 1 r (m x)) → Put m₁ m₂ x (withWord 2 u (m₁ x)) → Put m₂ m₃ x (withWord 8 v (m₂ x))
+      → Put m₃ m₄ x (withLabel l (m₃ x)) → Put m m₄ x (cell (m x .first) r u v (m x .last) (m x .children) l)
+  unfolding withWord
+  filled {u = u} {v} {l} p₁ p₂ p₃ p₄ = twice (withLabel l) (twice (withWord 8 v) (twice (withWord 2 u) p₁ p₂) p₃) p₄
 
 -- links by their word
 pub link-word : (b : List ℕ) (x j : ℕ) → j < 2 → word b x j ≡ link (sideOf j) (cells b x)

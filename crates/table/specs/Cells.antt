@@ -11,16 +11,18 @@ use Rattle.table.specs.declared.shape.NewNode.{NewNode}
 abbrev pub gone : ℕ
 gone = noParent
 
--- the cell of a node: the places of its first child, right sibling and parent, how many children it has, and its label
+-- the cell of a node: the places of its first child, right sibling, parent, left sibling and last child, how many children it has, and its label
 pub record Cell : Type 0 where
   pub first : ℕ
   pub right : ℕ
   pub parent : ℕ
+  pub left : ℕ
+  pub last : ℕ
   pub children : ℕ
   pub label : Label
 
-abbrev pub cell : ℕ → ℕ → ℕ → ℕ → Label → Cell
-cell f r u j l = record { first = f; right = r; parent = u; children = j; label = l }
+abbrev pub cell : ℕ → ℕ → ℕ → ℕ → ℕ → ℕ → Label → Cell
+cell f r u v z j l = record { first = f; right = r; parent = u; left = v; last = z; children = j; label = l }
 
 -- a table: the cell at each place
 abbrev pub Table : Type 0
@@ -28,7 +30,7 @@ Table = ℕ → Cell
 
 -- how many words a cell has
 abbrev pub cellSize : ℕ
-cellSize = 8
+cellSize = 10
 
 -- word j of place x
 abbrev pub word : List ℕ → ℕ → ℕ → ℕ
@@ -52,9 +54,12 @@ pub record ByteLevels (l : Label) : Type 0 where
   pub content : l .content < 256
   pub structure : l .structure < 256
 
--- the table that a slice of words spells: first child, right sibling, parent, existence, value, count of children, content, structure
+-- the table that a slice of words spells: first child, right sibling, parent, existence, value, count of children, content, structure, left sibling,
+-- last child
 unfoldable pub cells : List ℕ → Table
-cells b x = cell (word b x 0) (word b x 1) (word b x 2) (word b x 5) (labelWith (word b x 4) (word b x 3) (word b x 6) (word b x 7))
+cells b x =
+    cell (word b x 0) (word b x 1) (word b x 2) (word b x 8) (word b x 9) (word b x 5)
+    (labelWith (word b x 4) (word b x 3) (word b x 6) (word b x 7))
 
 -- the side that the link in word j leads to
 unfoldable pub sideOf : ℕ → Side
@@ -70,6 +75,11 @@ link sibling a = a .right
 abbrev pub parentOn : Side → ℕ → Cell → ℕ
 parentOn child x a = x
 parentOn sibling x a = a .parent
+
+-- the place of the left sibling that the first node on a side of the one at x has: none, or x itself
+abbrev pub leftOn : Side → ℕ → ℕ
+leftOn child x = gone
+leftOn sibling x = x
 
 -- a slice with room for n places, "1 to 512", of which x is one
 pub record Within (b : List ℕ) (n x : ℕ) : Type 0 where

@@ -23,6 +23,11 @@ abbrev pub head : Placed → ℕ
 head empty = gone
 head (node x l c r) = x
 
+-- the last node's place, or v where there is none
+abbrev pub last : ℕ → Placed → ℕ
+last v empty = v
+last v (node x l c r) = last x r
+
 -- what stands on a side of the first node
 abbrev pub beside : Side → Placed → Placed
 beside d empty = empty
@@ -34,11 +39,12 @@ abbrev pub part : Place → Placed → Placed
 part root f = f
 part (to d p) f = beside d (part p f)
 
--- the table stores the forest, whose nodes have the parent u: their places are below `used`, the cell at each is the node's, and levels are bytes
-abbrev pub Stored : Table → ℕ → ℕ → Placed → Type 0
-Stored m used u empty = Unit
-Stored m used u (node x l c r) =
-    (x < used) × (m x ≡ cell (head c) (head r) u (count (erase c)) l) × Stored m used x c × Stored m used u r × ByteLevels l
+-- the table stores the forest, whose nodes have the parent u and stand right of v: their places are below `used`, the cell at each is the node's, and
+-- levels are bytes
+abbrev pub Stored : Table → ℕ → ℕ → ℕ → Placed → Type 0
+Stored m used u v empty = Unit
+Stored m used u v (node x l c r) =
+    (x < used) × (m x ≡ cell (head c) (head r) u v (last gone c) (count (erase c)) l) × Stored m used x gone c × Stored m used u x r × ByteLevels l
 
 -- the free places: a stack of forests that were removed, each here by its first place with what hangs below it and to its right
 pub data Spare : Type 0 where
@@ -90,7 +96,7 @@ pub record Holds (m : Table) (n used free at : ℕ) (t : Forest) (p : Place) : T
   pub is-tree : erase placed ≡ t
   pub is-root : head placed ≡ 0
   pub alone : count t ≡ 1
-  pub stored : Stored m used gone placed
+  pub stored : Stored m used gone gone placed
   -- the cursor's node, which exists
   pub here : head (part p placed) ≡ at
   pub live : at < used

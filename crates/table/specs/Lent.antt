@@ -15,6 +15,8 @@ nodeOf a =
       right = a .right;
       parent = a .parent;
       children = a .children;
+      left = a .left;
+      last = a .last;
       value = a .label .value;
       existence = a .label .existence % 256;
       content = a .label .content % 256;
@@ -27,13 +29,15 @@ cellOf d =
       first = d .first;
       right = d .right;
       parent = d .parent;
+      left = d .left;
+      last = d .last;
       children = d .children;
       label = record { value = d .value; existence = d .existence; content = d .content; structure = d .structure };
     }
 
 -- the record of no numbers
 abbrev pub blank : Node
-blank = record { first = 0; right = 0; parent = 0; children = 0; value = pos 0; existence = 0; content = 0; structure = 0 }
+blank = record { first = 0; right = 0; parent = 0; children = 0; left = 0; last = 0; value = pos 0; existence = 0; content = 0; structure = 0 }
 
 -- the table that records spell
 unfoldable pub nodesTable : List Node → Table
@@ -47,9 +51,9 @@ stored ws (suc n) ns = set (stored ws n ns) n (nodeOf (cells ws n))
 -- words with those of place x those of a record
 unfoldable pub putNode : List ℕ → ℕ → Node → List ℕ
 putNode ws x d =
-    set (set (set (set (set (set (set (set ws (cellSize * x) (d .first)) (cellSize * x + 1) (d .right)) (cellSize * x + 2) (d .parent))
+    set (set (set (set (set (set (set (set (set (set ws (cellSize * x) (d .first)) (cellSize * x + 1) (d .right)) (cellSize * x + 2) (d .parent))
     (cellSize * x + 3) (d .existence)) (cellSize * x + 4) (bits (d .value))) (cellSize * x + 5) (d .children)) (cellSize * x + 6) (d .content))
-    (cellSize * x + 7) (d .structure)
+    (cellSize * x + 7) (d .structure)) (cellSize * x + 8) (d .left)) (cellSize * x + 9) (d .last)
 
 -- the first n places become those of the first n records; the others stay
 abbrev pub loaded : List Node → ℕ → List ℕ → List ℕ

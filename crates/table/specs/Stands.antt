@@ -21,7 +21,7 @@ pub record Stands (m : Table) (n : ℕ) (t : Forest) : Type 0 where
   pub is-tree : erase placed ≡ t
   pub is-root : head placed ≡ 0
   pub alone : count t ≡ 1
-  pub stored : Stored m n gone placed
+  pub stored : Stored m n gone gone placed
   pub few : size t ≤ maxNodes
   pub rules : TreeRules t
 
@@ -55,7 +55,7 @@ labelFits lo hi l =
 
 -- the link to the root
 unfoldable pub start : Spot
-start = record { link = 0; up = gone; due = 1; lo = public; hi = public; deep = 0; entered = 0 }
+start = record { link = 0; up = gone; prev = gone; due = 1; lo = public; hi = public; deep = 0; entered = 0 }
 
 -- the place x whose record the walk needs: that of the node above where a list is at its end, or the one that the link leads to. At the end it is n
 -- where no tree stands in the table, one more where one does.
@@ -69,12 +69,26 @@ pub data Asked (s : Spot) (n x : ℕ) : Type 0 where
 
 -- the record d can be that of the node that the link leads to
 unfoldable pub admits : Spot → Node → Bool
-admits s d = eqb (d .parent) (s .up) && ltb 0 (s .due) && labelFits (s .lo) (s .hi) (cellOf d .label)
+admits s d =
+    eqb (d .parent) (s .up) && eqb (d .left) (s .prev) && ltb 0 (s .due) && labelFits (s .lo) (s .hi) (cellOf d .label)
+
+-- the record d can be that of the node above, at the end of the list of its children
+unfoldable pub closes : Spot → Node → Bool
+closes s d = eqb (d .last) (s .prev)
 
 -- up from the end of a list, where `due` siblings are due with the bound hi, and on right of the node above, whose record is d
 abbrev pub leave : Spot → Node → ℕ → Level → Spot
 leave s d due hi =
-    record { link = d .right; up = d .parent; due = due; lo = d .existence; hi = hi; deep = s .deep - 1; entered = s .entered }
+    record {
+      link = d .right;
+      up = d .parent;
+      prev = s .up;
+      due = due;
+      lo = d .existence;
+      hi = hi;
+      deep = s .deep - 1;
+      entered = s .entered;
+    }
 
 -- down to the children of the node that the link leads to, whose record is d
 abbrev pub enter : Spot → Node → Spot
@@ -82,6 +96,7 @@ enter s d =
     record {
       link = d .first;
       up = s .link;
+      prev = gone;
       due = d .children;
       lo = d .existence;
       hi = d .structure;
@@ -91,7 +106,8 @@ enter s d =
 
 -- a list that is too short
 abbrev pub stuck : Spot → Spot
-stuck s = record { link = gone; up = s .up; due = 1; lo = s .lo; hi = s .hi; deep = s .deep; entered = s .entered }
+stuck s =
+    record { link = gone; up = s .up; prev = s .prev; due = 1; lo = s .lo; hi = s .hi; deep = s .deep; entered = s .entered }
 
 -- a place is marked, if it is one of the first 512
 unfoldable pub mark : List ℕ → ℕ → List ℕ
@@ -110,7 +126,9 @@ pub record Rooms (b e c : List ℕ) : Type 0 where
 
 -- one turn with the record d of the place that was asked for; by depth, b has the siblings due and e what bounds them; c has the marks
 pub data Turned (s : Spot) (d : Node) (b e c b′ e′ c′ : List ℕ) (r : Spot) : Type 0 where
-  left : s .link ≡ gone → r ≡ leave s d (getD b (s .deep - 1) 0) (getD e (s .deep - 1) 0) → b′ ≡ b → e′ ≡ e → c′ ≡ c → Turned s d b e c b′ e′ c′ r
+  left : s .link ≡ gone → closes s d ≡ true → r ≡ leave s d (getD b (s .deep - 1) 0) (getD e (s .deep - 1) 0) → b′ ≡ b → e′ ≡ e → c′ ≡ c
+      → Turned s d b e c b′ e′ c′ r
+  open-ended : s .link ≡ gone → closes s d ≡ false → r ≡ stuck s → b′ ≡ b → e′ ≡ e → c′ ≡ c → Turned s d b e c b′ e′ c′ r
   entered : (s .link ≡ gone → ⊥) → admits s d ≡ true → ByteLevels (cellOf d .label) → r ≡ enter s d → b′ ≡ set b (s .deep) (s .due - 1)
       → e′ ≡ set e (s .deep) (s .hi) → c′ ≡ mark c (s .link) → Turned s d b e c b′ e′ c′ r
   refused : (s .link ≡ gone → ⊥) → admits s d ≡ false → r ≡ stuck s → b′ ≡ b → e′ ≡ e → c′ ≡ c → Turned s d b e c b′ e′ c′ r

@@ -1,8 +1,8 @@
-// The words of a cell: first child, right sibling, parent, existence, value, count of children, content, structure.
+// The words of a cell: first child, right sibling, parent, existence, value, count of children, content, structure, left sibling, last child.
 ghost use mathlib.Core.Path.{_≡_};
 ghost use Prim.Native.Nat.{_%_, _<_};
 ghost use Rattle.table.specs.Cells.{cellSize, cell, gone, word, wordOf, ByteLevels, labelNew, cells, Within};
-ghost use Rattle.table.specs.Steps.{withWord, Put, oneMore, oneLess};
+ghost use Rattle.table.specs.Steps.{withWord, withLabel, Put, LedBack, oneMore, oneLess};
 use super::levels::low;
 use super::levels::wide;
 use super::shape::NewNode;
@@ -18,6 +18,10 @@ pub const CHILDREN: usize = 5;
 pub const CONTENT: usize = 6;
 
 pub const STRUCTURE: usize = 7;
+
+pub const LEFT: usize = 8;
+
+pub const LAST: usize = 9;
 
 // 2 ^ 32: how many numbers a word has.
 const RANGE: usize = 4294967296;
@@ -73,26 +77,59 @@ pub fn store(words: &mut [u32], places: usize, x: usize, j: usize, v: u32)
 // Leaves the cell at x with no children.
 pub fn clear(words: &mut [u32], places: usize, x: usize)
     requires { ⌜ Within (now words) places x ⌝ }
-    ensures { λ _. ⌜ Put (cells (now (words .entry))) (cells (now (words .exit))) x (withWord 5 0 (withWord 0 gone (cells (now (words .entry)) x))) ⌝ }
+    ensures { λ _. ⌜ Put (cells (now (words .entry))) (cells (now (words .exit))) x
+        (withWord 5 0 (withWord 9 gone (withWord 0 gone (cells (now (words .entry)) x)))) ⌝ }
 {
     store(words, places, x, super::FIRST, word_of(super::NIL));
+    store(words, places, x, LAST, word_of(super::NIL));
     store(words, places, x, CHILDREN, 0);
 }
 
-// Fills the cell at x but for its children.
-pub fn fill(words: &mut [u32], places: usize, x: usize, right: u32, parent: u32, node: NewNode)
+// Makes the label of the cell at x that of a new node.
+fn set_label(words: &mut [u32], places: usize, x: usize, node: NewNode)
     requires { ⌜ Within (now words) places x ⌝ }
-    ensures { λ _. ⌜ Put (cells (now (words .entry))) (cells (now (words .exit))) x
-        (cell (cells (now (words .entry)) x .first) right parent (cells (now (words .entry)) x .children)
-        (labelNew node)) ⌝ }
+    ensures { λ _. ⌜ Put (cells (now (words .entry))) (cells (now (words .exit))) x (withLabel (labelNew node) (cells (now (words .entry)) x)) ⌝ }
     ensures { λ _. ⌜ ByteLevels (labelNew node) ⌝ }
 {
-    store(words, places, x, super::RIGHT, right);
-    store(words, places, x, PARENT, parent);
     store(words, places, x, EXISTENCE, wide(node.existence));
     store(words, places, x, VALUE, node.value);
     store(words, places, x, CONTENT, wide(node.content));
     store(words, places, x, STRUCTURE, wide(node.structure));
+}
+
+// Fills the cell at x but for its children.
+pub fn fill(
+    words: &mut [u32],
+    places: usize,
+    x: usize,
+    right: u32,
+    parent: u32,
+    left: u32,
+    node: NewNode,
+)
+    requires { ⌜ Within (now words) places x ⌝ }
+    ensures { λ _. ⌜ Put (cells (now (words .entry))) (cells (now (words .exit))) x
+        (cell (cells (now (words .entry)) x .first) right parent left (cells (now (words .entry)) x .last)
+        (cells (now (words .entry)) x .children) (labelNew node)) ⌝ }
+    ensures { λ _. ⌜ ByteLevels (labelNew node) ⌝ }
+{
+    store(words, places, x, super::RIGHT, right);
+    store(words, places, x, PARENT, parent);
+    store(words, places, x, LEFT, left);
+    set_label(words, places, x, node);
+}
+
+// Leads back to `prev` from behind it in a list of the parent u: from `next` by its left link, or where that is no place from the parent by its last.
+pub fn lead_back(words: &mut [u32], places: usize, next: u32, u: usize, prev: u32)
+    requires { ⌜ Within (now words) places u ⌝ }
+    ensures { λ _. ⌜ LedBack (cells (now (words .entry))) places next u prev (cells (now (words .exit))) ⌝ }
+{
+    let at = index(next);
+    if at < places {
+        store(words, places, at, LEFT, prev);
+    } else {
+        store(words, places, u, LAST, prev);
+    }
 }
 
 // Counts are of places, so they never reach an end of the words; that they wrap there spares a test.

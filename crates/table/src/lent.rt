@@ -15,6 +15,8 @@ pub struct Node {
     pub right: u32,
     pub parent: u32,
     pub children: u32,
+    pub left: u32,
+    pub last: u32,
     pub value: i32,
     pub existence: u8,
     pub content: u8,
@@ -32,6 +34,8 @@ pub fn node_of(words: &[u32], x: usize) -> Node
         right: words[at + 1],
         parent: words[at + 2],
         children: words[at + 5],
+        left: words[at + 8],
+        last: words[at + 9],
         value: numbers::signed(words[at + 4]),
         existence: low(words[at + 3]),
         content: low(words[at + 6]),
@@ -57,6 +61,8 @@ pub fn put(words: &mut [u32], x: usize, node: Node)
     words[at + 5] = node.children;
     words[at + 6] = content;
     words[at + 7] = structure;
+    words[at + 8] = node.left;
+    words[at + 9] = node.last;
 }
 
 // The record of no numbers.
@@ -68,6 +74,8 @@ pub fn blank() -> Node
         right: 0,
         parent: 0,
         children: 0,
+        left: 0,
+        last: 0,
         value: 0,
         existence: 0,
         content: 0,

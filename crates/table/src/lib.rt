@@ -15,7 +15,7 @@ pub use lent::Node;
 use rules::limits::MAX_NODES;
 
 // How many words a place takes.
-pub const CELL: usize = 8;
+pub const CELL: usize = 10;
 
 // How many words the largest table takes.
 pub const WORDS: usize = CELL * MAX_NODES;

@@ -53,22 +53,24 @@ fn clear(words: &mut [u32], n: usize)
 // Enters the record x, under the parent p if that comes before it.
 fn place(words: &mut [u32], n: usize, x: usize, p: usize, node: NewNode)
     requires { ⌜ Within (now words) n x ⌝ }
-    ensures { λ _. ⌜ Entered p x (labelNew node) (cells (now (words .entry))) (cells (now (words .exit))) ⌝ }
+    ensures { λ _. ⌜ Entered n p x (labelNew node) (cells (now (words .entry))) (cells (now (words .exit))) ⌝ }
 {
     if p < x {
         let old = cells::get(words, n, p, super::FIRST);
-        cells::fill(words, n, x, old, word_of(p), node);
+        cells::fill(words, n, x, old, word_of(p), word_of(super::NIL), node);
         cells::store(words, n, p, super::FIRST, word_of(x));
+        cells::lead_back(words, n, old, p, word_of(x));
         cells::count_up(words, n, p);
     } else {
-        cells::fill(words, n, x, word_of(super::NIL), word_of(super::NIL), node);
+        let none = word_of(super::NIL);
+        cells::fill(words, n, x, none, none, none, node);
     }
 }
 
 // Enters the node record x of n, from `base` on in the job.
 fn enter(job: &[u8], base: usize, n: usize, words: &mut [u32], x: usize)
     requires { ⌜ Loadable (now job) (now words) base n × (x < n) ⌝ }
-    ensures { λ _. ⌜ Entered (parent (now (job .entry)) base x) x (labelOf (now (job .entry)) base x)
+    ensures { λ _. ⌜ Entered n (parent (now (job .entry)) base x) x (labelOf (now (job .entry)) base x)
         (cells (now (words .entry))) (cells (now (words .exit))) ⌝ }
 {
     let at = base + RECORD * x;

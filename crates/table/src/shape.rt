@@ -4,7 +4,7 @@ ghost use mathlib.Core.Option.{some};
 ghost use Prim.Native.Nat.{ℕ, _<_, _≤_};
 ghost use lib.ListN.{length};
 ghost use Rattle.rules.specs.Tree.{Forest, Place, to, up};
-ghost use Rattle.table.specs.Cells.{cells, labelNew, wordOf, sideOf, parentOn, Within};
+ghost use Rattle.table.specs.Cells.{cells, labelNew, wordOf, sideOf, parentOn, leftOn, Within};
 ghost use Rattle.table.specs.Holds.{Holds};
 ghost use Rattle.table.specs.Promises.{Leads, Added, Removed, Behind};
 ghost use Rattle.table.specs.Since.{Forgets};
@@ -34,6 +34,17 @@ fn parent_on(words: &[u32], places: usize, at: usize, side: usize) -> usize
     cells::link(words, places, at, cells::PARENT)
 }
 
+// The place of the left sibling that the first node on a side of the one at `at` has: none, or `at` itself.
+fn left_on(at: usize, side: usize) -> usize
+    requires { ⌜ side < 2 ⌝ }
+    ensures { λ r. ⌜ r ≡ leftOn (sideOf side) at ⌝ }
+{
+    if side == super::FIRST {
+        return super::NIL;
+    }
+    at
+}
+
 // Links the place y in front of what stands on a side of the node at `at`, under the parent u.
 fn attach(
     words: &mut [u32],
@@ -46,22 +57,26 @@ fn attach(
 )
     requires { ⌜ Within (now words) places at × ((side < 2) × ((u < places) × (y < places))) ⌝ }
     ensures { λ _. ⌜ Attached side (labelNew node)
-        (cells (now (words .entry))) (cells (now (words .exit))) at u y ⌝ }
+        (cells (now (words .entry))) (cells (now (words .exit))) places at u y ⌝ }
 {
     let old = cells::get(words, places, at, side);
+    let prev = left_on(at, side);
     cells::clear(words, places, y);
-    cells::fill(words, places, y, old, word_of(u), node);
+    cells::fill(words, places, y, old, word_of(u), word_of(prev), node);
     cells::store(words, places, at, side, word_of(y));
+    cells::lead_back(words, places, old, u, word_of(y));
     cells::count_up(words, places, u);
 }
 
 // Takes the node at y out from a side of the one at `at`, under the parent u, and puts it onto the free places that `free` leads to.
 fn detach(words: &mut [u32], places: usize, at: usize, side: usize, u: usize, y: usize, free: usize)
     requires { ⌜ Within (now words) places at × ((side < 2) × ((u < places) × (y < places))) ⌝ }
-    ensures { λ _. ⌜ Detached side (cells (now (words .entry))) (cells (now (words .exit))) at u y (wordOf free) ⌝ }
+    ensures { λ _. ⌜ Detached side (cells (now (words .entry))) (cells (now (words .exit))) places at u y (wordOf free) ⌝ }
 {
     let next = cells::get(words, places, y, super::RIGHT);
+    let prev = cells::get(words, places, y, cells::LEFT);
     cells::store(words, places, at, side, next);
+    cells::lead_back(words, places, next, u, prev);
     cells::store(words, places, y, super::RIGHT, word_of(super::NIL));
     cells::store(words, places, y, cells::PARENT, word_of(free));
     cells::count_down(words, places, u);

@@ -21,11 +21,12 @@ use rules::levels::is_level;
 use rules::levels::not_above;
 use rules::limits::MAX_NODES;
 
-// Where the walk is: at a link under the node at `up`, which is to lead to `due` siblings. Their existence is not below `lo` and not above `hi`. There
-// are `deep` nodes above the link, and so many were entered.
+// Where the walk is: at a link under the node at `up` and right of the one at `prev`, which is to lead to `due` siblings. Their existence is not below
+// `lo` and not above `hi`. There are `deep` nodes above the link, and so many were entered.
 pub struct Spot {
     pub link: u32,
     pub up: u32,
+    pub prev: u32,
     pub due: u32,
     pub lo: u8,
     pub hi: u8,
@@ -40,6 +41,7 @@ pub fn start() -> Spot
     Spot {
         link: 0,
         up: 65535,
+        prev: 65535,
         due: 1,
         lo: PUBLIC,
         hi: PUBLIC,
@@ -91,7 +93,17 @@ fn admits(s: Spot, d: Node) -> bool
     ensures { λ r. ⌜ r ≡ Stands.admits s d ⌝ }
     ensures { λ _. ⌜ ByteLevels (cellOf d .label) ⌝ }
 {
-    (d.parent == s.up) & (s.due > 0) & label_fits(s.lo, s.hi, d.existence, d.content, d.structure)
+    (d.parent == s.up)
+        & (d.left == s.prev)
+        & (s.due > 0)
+        & label_fits(s.lo, s.hi, d.existence, d.content, d.structure)
+}
+
+// Whether the record d can be that of the node above, at the end of the list of its children.
+fn closes(s: Spot, d: Node) -> bool
+    ensures { λ r. ⌜ r ≡ Stands.closes s d ⌝ }
+{
+    d.last == s.prev
 }
 
 // Up from the end of a list, and on right of the node above, whose record is d.
@@ -102,6 +114,7 @@ fn leave(s: Spot, d: Node, due: u32, hi: u8) -> Spot
     Spot {
         link: d.right,
         up: d.parent,
+        prev: s.up,
         due: due,
         lo: d.existence,
         hi: hi,
@@ -118,6 +131,7 @@ fn enter(s: Spot, d: Node) -> Spot
     Spot {
         link: d.first,
         up: s.link,
+        prev: 65535,
         due: d.children,
         lo: d.existence,
         hi: d.structure,
@@ -153,6 +167,9 @@ pub fn turn(s: Spot, d: Node, dues: &mut [u32], bounds: &mut [u8], marks: &mut [
     ensures { λ r. ⌜ Turned s d (now (dues .entry)) (now (bounds .entry)) (now (marks .entry)) (now (dues .exit)) (now (bounds .exit)) (now (marks .exit)) r ⌝ }
 {
     if index(s.link) == super::NIL {
+        if !closes(s, d) {
+            return stuck(s);
+        }
         let at = s.deep - 1;
         return leave(s, d, dues[at], bounds[at]);
     }

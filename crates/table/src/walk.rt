@@ -1,7 +1,7 @@
 // The cursor's moves: each gives the place of the node moved to, or a number that is no place where there is none.
 ghost use mathlib.Core.Option.{some};
 ghost use Prim.Native.Nat.{ℕ, _<_};
-ghost use Rattle.rules.specs.Tree.{Forest, Place, to, up};
+ghost use Rattle.rules.specs.Tree.{Forest, Place, to, up, leftOf, lastOf};
 ghost use Rattle.rules.specs.Tree as Tree;
 ghost use Rattle.table.specs.Cells.{Table, cells, sideOf, Within};
 ghost use Rattle.table.specs.Holds.{Holds};
@@ -31,4 +31,22 @@ pub fn beside(words: &[u32], places: usize, at: usize, side: usize) -> usize
         → Leads (cells (now (words .entry))) places used free t (some (to (sideOf side) p)) r) ⌝ }
 {
     cells::link(words, places, at, side)
+}
+
+// Back to the left sibling.
+pub fn left(words: &[u32], places: usize, at: usize) -> usize
+    requires { ⌜ Within (now words) places at ⌝ }
+    ensures { λ r. ⌜ ((used free : ℕ) (t : Forest) (p : Place) → Holds (cells (now (words .entry))) places used free at t p
+        → Leads (cells (now (words .entry))) places used free t (leftOf p) r) ⌝ }
+{
+    cells::link(words, places, at, cells::LEFT)
+}
+
+// Down to the last child.
+pub fn last(words: &[u32], places: usize, at: usize) -> usize
+    requires { ⌜ Within (now words) places at ⌝ }
+    ensures { λ r. ⌜ ((used free : ℕ) (t : Forest) (p : Place) → Holds (cells (now (words .entry))) places used free at t p
+        → Leads (cells (now (words .entry))) places used free t (lastOf p t) r) ⌝ }
+{
+    cells::link(words, places, at, cells::LAST)
 }

@@ -14,7 +14,7 @@ use Rattle.table.proofs.lent.node_of.Tie as tie
 returns : tie.Need-returns
 unfolding cells
 returns c =
-    let a = c .before .before .before .before .before .before .before .before .before .before .before .before .before .args in
+    let a = c .before .before .before .before .before .before .before .before .before .before .before .before .before .before .before .args in
     let w : ℕ → ℕ = word (now (a .words)) (a .x) in
     let start : cellSize * a .x ≡ cellSize * a .x + 0 = omega arith in
     λ i.
@@ -23,6 +23,8 @@ returns c =
       right = w 1;
       parent = w 2;
       children = w 5;
+      left = w 8;
+      last = w 9;
       value = (toZ-ofZ {w = w32} (record { sfits = c .before .before .before .before .before .before .signed .ok }) ∙ c .before .before .before .before .before .before .signed .ensures) i;
       existence = c .before .before .before .before .low .ensures i;
       content = c .before .before .low2 .ensures i;
@@ -32,4 +34,4 @@ returns c =
 pub node-of-spec : {M : Type 1} → statement M
 node-of-spec =
     tie.close
-    (tie.spec (λ c. search needs) (λ c. search needs) (λ c. search needs) (λ c. search needs) (λ c. search needs) (λ c. search needs) (λ c. search needs) (λ c. search needs) (λ c. search needs) (λ c. search needs) (λ c. search needs) (λ c. search needs) (λ c. search needs) (λ c. search needs) (λ c. search needs) (λ c κs. search needs) (λ c. search needs) (λ c. search needs) (λ c. search needs) (λ c κs. search needs) (λ c. search needs) (λ c. search needs) (λ c. search needs) (λ c κs. search needs) (λ c. search needs) (λ c. search needs) (λ c. search needs) (λ c κs. search needs) returns)
+    (tie.spec (λ c. search needs) (λ c. search needs) (λ c. search needs) (λ c. search needs) (λ c. search needs) (λ c. search needs) (λ c. search needs) (λ c. search needs) (λ c. search needs) (λ c. search needs) (λ c. search needs) (λ c. search needs) (λ c. search needs) (λ c. search needs) (λ c. search needs) (λ c. search needs) (λ c. search needs) (λ c. search needs) (λ c. search needs) (λ c. search needs) (λ c. search needs) (λ c κs. search needs) (λ c. search needs) (λ c. search needs) (λ c. search needs) (λ c κs. search needs) (λ c. search needs) (λ c. search needs) (λ c. search needs) (λ c κs. search needs) (λ c. search needs) (λ c. search needs) (λ c. search needs) (λ c κs. search needs) returns)
