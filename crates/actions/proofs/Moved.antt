@@ -7,10 +7,11 @@ use mathlib.Core.List.{List}
 use Prim.Native.Nat.{ℕ, _%_, _<_, _≤_}
 use native.Mathlib.Omega.{arith}
 use lib.IntN.{ℤ}
+use borrow.Author.Tests.{ne-eqb}
 use Rattle.rules.specs.Level.{Level, public, join, notAbove}
-use Rattle.rules.specs.Tree.{noLabel, Forest, nil, tree, Place, root, to, up, child, sibling, sub, label, exists, count}
+use Rattle.rules.specs.Tree.{noLabel, Forest, nil, tree, Place, root, to, up, child, sibling, leftOf, sub, label, exists, count}
 use Rattle.rules.specs.Run as Run
-use Rattle.rules.specs.Run.{Result, stop, flow, absent, need, moveTo, goTo}
+use Rattle.rules.specs.Run.{Result, stop, flow, absent, need, moveTo, goJoining, goTo, goToLast}
 use Rattle.rules.proofs.Tests.{Test, holds, fails, test}
 use Rattle.table.specs.Cells.{Table, cell, cells, gone}
 use Rattle.table.specs.Holds.{node, empty, end, hit, Holds}
@@ -21,7 +22,7 @@ use Rattle.actions.specs.declared.control.Running.{Running}
 use Rattle.actions.specs.declared.control.Stepped.{Stepped}
 use Rattle.actions.specs.Shows.{Slices, slices, Shows, levelIn}
 use Rattle.actions.specs.Stands.{stepped}
-use Rattle.actions.specs.Acts.{Does, Acts, withCursor, movedTo, moveOf, Target}
+use Rattle.actions.specs.Acts.{Does, Acts, withCursor, movedTo, moveOf, backwardOf, Target}
 use Rattle.actions.proofs.Doing.{flow-number, absent-number, does-next, passes, refuses, does-as, kept-refl, goes, stays, stops}
 
 -- in a memory that is shown, the action is a move to the node at a place of the table, with a level
@@ -59,55 +60,58 @@ module _ {places vars : ℕ} {x : Slices} (r : Running) {pc place level : ℕ} w
       by (holds e) = goes (withCursor (r .memory) place level) (i ∙ rw e) lt (λ h. h) kept-refl refl refl refl (λ μ s. there e small s (f μ s))
       by (fails e) = stays inside (i ∙ rw e) (λ z. omega arith) (λ μ s. held e s (f μ s))
 
-module _ (pc : ℕ) (μ : Run.Memory) {o : Option Place} where
+module _ (pc : ℕ) (μ : Run.Memory) (k : Place → Level) {o : Option Place} where
   -- to no node
-  away : o ≡ none → goTo pc μ o ≡ stop absent
-  unfolding goTo
+  away : o ≡ none → goJoining pc μ k o ≡ stop absent
+  unfolding goJoining
   away i = rw i
 
-  astray : {q : Place} → o ≡ some q → exists (sub q (μ .tree)) ≡ false → goTo pc μ o ≡ stop absent
-  unfolding goTo need
+  astray : {q : Place} → o ≡ some q → exists (sub q (μ .tree)) ≡ false → goJoining pc μ k o ≡ stop absent
+  unfolding goJoining need
   astray i e = rw (i, e)
 
   -- to a node
-  arrives : {q : Place} → o ≡ some q → exists (sub q (μ .tree)) ≡ true → goTo pc μ o ≡ moveTo pc μ q (join (μ .level) ((label (sub q (μ .tree))) .existence))
-  unfolding goTo need
+  arrives : {q : Place} → o ≡ some q → exists (sub q (μ .tree)) ≡ true → goJoining pc μ k o ≡ moveTo pc μ q (join (μ .level) (k q))
+  unfolding goJoining need
   arrives i e = rw (i, e)
 
-module _ {w l b : List ℕ} {v : List ℤ} {places vars : ℕ} (r : Running) {a : Stepped} (pc : ℕ) {place : ℕ} {o : Place → Option Place}
-    (inside : r .memory .cursor < places) (target : Target w places (r .memory) place o) where
+module _ {w l b : List ℕ} {v : List ℤ} {places vars : ℕ} (r : Running) {a : Stepped} (pc : ℕ) {place : ℕ} {o : Forest → Place → Option Place}
+    (inside : r .memory .cursor < places) (target : Target w places (r .memory) place o) (k : Run.Memory → Place → Level) where
   -- a link that leads to no place
   pub acts-absent : places ≤ place → a ≡ stepped 22 r
-      → Acts places vars (slices w l v b) (slices w l v b) r a (λ μ. goTo pc μ (o (μ .cursor)))
+      → Acts places vars (slices w l v b) (slices w l v b) r a (λ μ. goJoining pc μ (k μ) (o (μ .tree) (μ .cursor)))
   acts-absent ge is = stops inside absent is absent-number (λ μ s. by μ (target .leads (μ .tree) (μ .cursor) (s .tree)))
     where
-      by : (μ : Run.Memory) → Leads (cells w) places (r .memory .used) (r .memory .free) (μ .tree) (o (μ .cursor)) place → goTo pc μ (o (μ .cursor)) ≡ stop absent
-      by μ (outside z i) = away pc μ i
-      by μ (missing q z i e) = astray pc μ i e
+      by : (μ : Run.Memory) → Leads (cells w) places (r .memory .used) (r .memory .free) (μ .tree) (o (μ .tree) (μ .cursor)) place
+          → goJoining pc μ (k μ) (o (μ .tree) (μ .cursor)) ≡ stop absent
+      by μ (outside z i) = away pc μ (k μ) i
+      by μ (missing q z i e) = astray pc μ (k μ) i e
       by μ (found q z i h) = absurd (omega arith)
 
-  -- a link that leads to a place, where there is a node with the existence e
-  pub acts-go : {e level : ℕ} → place < places → Whenever (cells w) places place (λ t p. (label (sub p t)) .existence ≡ e)
+  -- a link that leads to a place, where the level e is joined
+  pub acts-go : {e level : ℕ} → place < places
+      → ((μ : Run.Memory) (q : Place) → Shows places vars (slices w l v b) (r .memory) μ
+      → Holds (cells w) places (r .memory .used) (r .memory .free) place (μ .tree) q → k μ q ≡ e)
       → level ≡ join (levelIn (r .memory)) e → (a ≡ movedTo pc r place level) × (level < 256)
-      → Acts places vars (slices w l v b) (slices w l v b) r a (λ μ. goTo pc μ (o (μ .cursor)))
-  acts-go {e} {level} lt ex k is = acts-move r inside lt is (λ μ s. by μ s (target .leads (μ .tree) (μ .cursor) (s .tree)))
+      → Acts places vars (slices w l v b) (slices w l v b) r a (λ μ. goJoining pc μ (k μ) (o (μ .tree) (μ .cursor)))
+  acts-go {e} {level} lt ex j is = acts-move r inside lt is (λ μ s. by μ s (target .leads (μ .tree) (μ .cursor) (s .tree)))
     where
       by : (μ : Run.Memory) → Shows places vars (slices w l v b) (r .memory) μ
-          → Leads (cells w) places (r .memory .used) (r .memory .free) (μ .tree) (o (μ .cursor)) place
-          → Moves places (slices w l v b) (r .memory) pc place level μ (goTo pc μ (o (μ .cursor)))
-      by μ s (outside z j) = absurd (omega arith)
-      by μ s (missing q z j f) = absurd (omega arith)
-      by μ s (found q z j h) =
+          → Leads (cells w) places (r .memory .used) (r .memory .free) (μ .tree) (o (μ .tree) (μ .cursor)) place
+          → Moves places (slices w l v b) (r .memory) pc place level μ (goJoining pc μ (k μ) (o (μ .tree) (μ .cursor)))
+      by μ s (outside z i) = absurd (omega arith)
+      by μ s (missing q z i f) = absurd (omega arith)
+      by μ s (found q z i h) =
           record {
             p = q;
-            l = join (μ .level) ((label (sub q (μ .tree))) .existence);
+            l = join (μ .level) (k μ q);
             tree = h;
-            same = ap₂ join (s .level) (ex (r .memory .used) (r .memory .free) (μ .tree) q h) ∙ sym k;
-            is = arrives pc μ j (stands h);
+            same = ap₂ join (s .level) (ex μ q s h) ∙ sym j;
+            is = arrives pc μ (k μ) i (stands h);
           }
 
 -- a table of one place holds a tree of one node
-single : Holds (λ y. cell gone gone gone 0 noLabel) 1 1 gone 0 (tree noLabel nil nil) root
+single : Holds (λ y. cell gone gone gone gone gone 0 noLabel) 1 1 gone 0 (tree noLabel nil nil) root
 unfolding count hit noLabel public
 single =
     record {
@@ -148,3 +152,11 @@ module _ {places vars : ℕ} {x x′ : Slices} {r : Running} {a : Stepped} (pc :
   pub is-sibling : k ≡ 10 → Acts places vars x x′ r a (λ μ. goTo pc μ (some (to sibling (μ .cursor)))) → Acts places vars x x′ r a (λ μ. moveOf k pc μ)
   unfolding moveOf
   is-sibling e h = rw e h
+
+  pub is-left : k ≡ 18 → Acts places vars x x′ r a (λ μ. goTo pc μ (leftOf (μ .cursor))) → Acts places vars x x′ r a (λ μ. backwardOf k pc μ)
+  unfolding backwardOf
+  is-left e h = rw e h
+
+  pub is-last : (k ≡ 18 → ⊥) → Acts places vars x x′ r a (λ μ. goToLast pc μ) → Acts places vars x x′ r a (λ μ. backwardOf k pc μ)
+  unfolding backwardOf
+  is-last n h = rw (ne-eqb k 18 n) h

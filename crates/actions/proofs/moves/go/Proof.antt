@@ -11,19 +11,19 @@ use Rattle.actions.proofs.moves.go.Tie as tie
 
 returns : tie.Need-returns
 returns c =
-    λ l v b vars. is-up (c .before .before .before .before .args .pc) (c .before .before .match .keys1) (c .go-to .ensures l v b vars up (record { leads = c .before .parent .ensures _ _ }))
+    λ l v b vars. is-up (c .before .before .before .before .args .pc) (c .before .before .match .keys1) (c .go-to .ensures l v b vars (λ t p. up p) (record { leads = c .before .parent .ensures _ _ }))
 
 returns-2 : tie.Need-returns-2
 unfolding sideOf
 returns-2 c =
     λ l v b vars.
-    is-child (c .before .before .before .before .args .pc) (c .before .before .match .keys2) (c .go-to2 .ensures l v b vars (λ p. some (to child p)) (record { leads = c .before .beside .ensures _ _ }))
+    is-child (c .before .before .before .before .args .pc) (c .before .before .match .keys2) (c .go-to2 .ensures l v b vars (λ t p. some (to child p)) (record { leads = c .before .beside .ensures _ _ }))
 
 returns-3 : tie.Need-returns-3
 unfolding sideOf
 returns-3 c =
     λ l v b vars.
-    is-sibling (c .before .before .before .before .args .pc) (c .before .before .match .keys3) (c .go-to3 .ensures l v b vars (λ p. some (to sibling p)) (record { leads = c .before .beside2 .ensures _ _ }))
+    is-sibling (c .before .before .before .before .args .pc) (c .before .before .match .keys3) (c .go-to3 .ensures l v b vars (λ t p. some (to sibling p)) (record { leads = c .before .beside2 .ensures _ _ }))
 
 returns-4 : tie.Need-returns-4
 returns-4 c =
