@@ -11,7 +11,7 @@ use lib.ListN.{length, getD}
 use lib.IntN.{ℤ}
 use lib.Dec.{eqb, ltb}
 use borrow.Author.Tests.{eq-eqb, eqb-true, ltb-true, ltb-false}
-use Rattle.rules.specs.Limits.{maxDepth, maxNodes, maxRecords, recordSize}
+use Rattle.rules.specs.Limits.{maxDepth, maxNodes, maxRecords, recordSize, commandCount}
 use Rattle.rules.specs.Level.{secret}
 use Rattle.rules.specs.Tree.{Place, child, sibling, root, to, up}
 use Rattle.rules.specs.Bytes.{byte, recordPlace}
@@ -40,7 +40,7 @@ use Rattle.actions.specs.declared.control.Stepped.{Stepped}
 use Rattle.actions.specs.Guards.{Holds}
 use Rattle.actions.specs.Board.{capacity}
 use Rattle.actions.specs.Shows.{Slices, Reads, Readable}
-use Rattle.actions.specs.Acts.{Does, Kept, shifted, closedUp, Same, Becomes, Acting, Acts, Evaluates, moveOf}
+use Rattle.actions.specs.Acts.{Does, Kept, shifted, closedUp, Same, Becomes, Acting, Acts, Evaluates, moveOf, backwardOf}
 use Rattle.actions.specs.Stands.{Stands, Timely, stepped as answered, ended}
 use Rattle.actions.specs.Control.{Keeps, Jumps, Leaves, Enters, Stays, Saves, Restores}
 use Rattle.monitor.specs.Steps.{Held, scriptIn, fieldsAt, Script, Safe, Lent, Steps, Carries}
@@ -96,7 +96,7 @@ module _ (h : Held) (sc : Script h) where
     pub target-in : (rowOf (byte (h .bytes) (recordPlace (h .base) i))) .target ≡ true → byte (h .bytes) (recordPlace (h .base) i + 1) < h .vars
     target-in e = record-in _ _ _ (sc .fields i inside) .fields .target e
 
-    pub command-in : byte (h .bytes) (recordPlace (h .base) i) < 18
+    pub command-in : byte (h .bytes) (recordPlace (h .base) i) < commandCount
     command-in = record-in _ _ _ (sc .fields i inside) .command
 
   -- the rules' step, by the fields of the record that comes next
@@ -329,6 +329,17 @@ module _ (h : Held) (sc : Script h) where
               pick (third e) = by-number k 9 (Action.go child) _ e refl (λ lent μ l. rw e) refl refl acts
               pick (fourth e) = by-number k 10 (Action.go sibling) _ e refl (λ lent μ l. rw e) refl refl acts
 
+          -- 18 and 19
+          pub goes-backward : 18 ≤ c → c < commandCount
+              → Acts (h .places) (h .vars) x x′ r a (λ μ. backwardOf c pc μ) → Steps h x x′ k k r a
+          unfolding commands effect relocate backwardOf
+          goes-backward l m acts = pick (c - 18) refl
+            where
+              pick : (d : ℕ) → c - 18 ≡ d → Steps h x x′ k k r a
+              pick zero e = let i : c ≡ 18 = omega arith in by-number k 18 Action.goLeft _ i refl (λ lent μ l. rw i) refl refl acts
+              pick (suc zero) e = let i : c ≡ 19 = omega arith in by-number k 19 Action.goLast _ i refl (λ lent μ l. rw i) refl refl acts
+              pick (suc (suc d)) e = absurd (omega arith)
+
           -- 11 and 12
           pub inserts : (m side : ℕ) → m ≡ f .target → c ≡ side + 11 → side < 2
               → Acting (shifted side) Same (h .places) (h .vars) x x′ r a
@@ -357,7 +368,6 @@ pub from-seven : (k : ℕ) → (k ≡ 0 → ⊥) → (k ≡ 1 → ⊥) → (k �
 from-seven k a b c d e f g =
     above 6 k (above 5 k (above 4 k (above 3 k (above 2 k (above 1 k (above 0 k (omega arith) a) b) c) d) e) f) g
 
--- the rest are not below 18
 pub from-eighteen : (k : ℕ) → 15 ≤ k → (k ≡ 15 → ⊥) → (k ≡ 16 → ⊥) → (k ≡ 17 → ⊥) → 18 ≤ k
 from-eighteen k l a b c = above 17 k (above 16 k (above 15 k l a) b) c
 
@@ -402,7 +412,7 @@ means m o = go (test (eqb m 5)) (test (eqb o 17))
     go (holds e) (fails e′) = rw (e, e′) (itself (sym (eqb-true _ _ e)) (λ _. e′))
     go (fails e) _ = rw e (itself refl (λ i. clash (eq-eqb _ _ i) e))
 
-means-small : {c m o : ℕ} → m < 18 → Means c m o → c < endMark
+means-small : {c m o : ℕ} → m < commandCount → Means c m o → c < endMark
 means-small l (itself e _) = omega arith
 means-small l (back e _ _) = omega arith
 
@@ -422,7 +432,7 @@ module _ (h : Held) (sc : Script h) (x : Slices) (k : List ℕ) (r : Running) (s
         ap number (section-spelled (h .bytes) (h .base) (h .records) (r .at) inside)
         ∙ numbered-at (h .bytes) (h .vars) (recordPlace (h .base) (r .at)) (sc .fields (r .at) inside)
 
-    small : numbers (r .at) < 18
+    small : numbers (r .at) < commandCount
     small = omega (arith, number-is, command-in h sc (r .at) inside)
 
     meant : Means (planCode numbers (r .at)) (numbers (r .at)) opener
@@ -462,7 +472,7 @@ module _ (h : Held) (sc : Script h) (x : Slices) (k : List ℕ) (r : Running) (s
           absurd (omega (arith, m))
 
   -- another is no record's
-  pub outside-by : 18 ≤ c → (c ≡ endBack → ⊥) → h .records ≤ r .at
+  pub outside-by : commandCount ≤ c → (c ≡ endBack → ⊥) → h .records ≤ r .at
   outside-by l n = pick (test (ltb (r .at) (h .records)))
     where
       out : (i : r .at < h .records) → Means c (numbers (r .at)) opener → ⊥
@@ -478,7 +488,7 @@ module _ (h : Held) (sc : Script h) (x : Slices) (k : List ℕ) (r : Running) (s
     pub inside : r .at < h .records
     pub coded : n ≡ fieldsAt h (r .at) .command
 
-  pub known-by : c < 18 → Known c
+  pub known-by : c < commandCount → Known c
   unfolding fieldsOf
   known-by l = let i = inside-by (omega arith) in record { inside = i; coded = pick i (coded i) }
     where

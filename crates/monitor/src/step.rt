@@ -190,6 +190,7 @@ pub fn carry_out(
             places,
             marks,
         ),
+        18..=19 => moves::go_backward(command, words, places, pc, r),
         END_BACK => come_back(r, next(word), places, marks),
         _ => halt(r, FINISHED),
     }

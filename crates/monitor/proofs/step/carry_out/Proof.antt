@@ -4,7 +4,7 @@ use Prim.Native.Nat.{ℕ}
 use native.Mathlib.Omega.{arith}
 use Rattle.rules.specs.Script.{rows, rowOf}
 use Rattle.actions.proofs.Doing.{passes-on}
-use Rattle.monitor.proofs.Commands.{timely, at-cursor, record-there, known-by, outside-by, plain-end, known-back, inner-back, goal-by, as-step, as-end, expressed, evaluated, target-by, insert-row, from-seven, from-eighteen, skips, assigns, ifs, elses, whiles, ends, backs, comes-back, outputs, goes, inserts, removes, writes, raises}
+use Rattle.monitor.proofs.Commands.{timely, at-cursor, record-there, known-by, outside-by, plain-end, known-back, inner-back, goal-by, as-step, as-end, expressed, evaluated, target-by, insert-row, from-seven, from-eighteen, skips, assigns, ifs, elses, whiles, ends, backs, comes-back, outputs, goes, goes-backward, inserts, removes, writes, raises}
 use borrow.Author.Needs.{needs}
 use Rattle.monitor.proofs.step.carry_out.Statement.{statement}
 use Rattle.monitor.proofs.step.carry_out.Tie as tie
@@ -202,6 +202,12 @@ remove-requires c κs =
     let i = known-by _ (p .0) _ _ _ (p .1 .0) _ (c .before .before .before .before .before .before .before .code .ensures) (omega (arith, c .before .before .before .if3 .taken)) in
     (timely _ (p .0) _ _ _ (p .1 .0) (i .inside) (p .1 .1), (at-cursor _ (p .0) _ _ _ (p .1 .0) (i .inside), (omega (arith, c .before .before .side2 .ensures, c .before .before .before .before .if2 .left, c .before .before .before .if3 .taken), p .1 .0 .marks)))
 
+go-backward-requires : tie.Need-go-backward-requires
+go-backward-requires c κs =
+    let p = c .before .before .before .before .before .before .before .before .before .before .before .before .before .before .before .before .pre in
+    let i = known-by _ (p .0) _ _ _ (p .1 .0) _ (c .before .before .before .before .before .before .code .ensures) (c .before .if4 .taken) in
+    (timely _ (p .0) _ _ _ (p .1 .0) (i .inside) (p .1 .1), at-cursor _ (p .0) _ _ _ (p .1 .0) (i .inside))
+
 returns : tie.Need-returns
 returns c =
     let p = c .before .before .before .before .before .before .before .before .before .before .before .before .pre in
@@ -300,9 +306,16 @@ returns-14 c =
 
 returns-15 : tie.Need-returns-15
 returns-15 c =
-    let p = c .before .before .before .before .before .before .before .before .before .before .before .before .before .before .before .pre in
-    let m = c .before .before .before .before .match .rest in
-    as-end _ _ _ _ _ (outside-by _ (p .0) _ _ _ (p .1 .0) _ (c .before .before .before .before .before .code .ensures) (from-eighteen _ (c .before .if3 .left) (m .0 .0 .0 .1) (m .0 .0 .1) (m .0 .1)) (m .1)) (c .halt .ensures)
+    let p = c .before .before .before .before .before .before .before .before .before .before .before .before .before .before .before .before .before .pre in
+    let i = known-by _ (p .0) _ _ _ (p .1 .0) _ (c .before .before .before .before .before .before .before .code .ensures) (c .before .before .if4 .taken) in
+    let m = c .before .before .before .before .before .before .match .rest in
+    as-step _ _ _ _ _ _ _ (i .inside) (goes-backward _ (p .0) _ _ _ (p .1 .0) (i .inside) _ (i .coded) _ refl _ _ _ (c .before .before .before .before .before .before .before .before .before .top .ensures) (record { words = refl; levels = refl; values = refl; board = refl })
+    (from-eighteen _ (c .before .before .before .if3 .left) (m .0 .0 .0 .1) (m .0 .0 .1) (m .0 .1)) (c .before .before .if4 .taken) (c .go-backward .ensures _ _ _ _))
+
+returns-16 : tie.Need-returns-16
+returns-16 c =
+    let p = c .before .before .before .before .before .before .before .before .before .before .before .before .before .before .before .before .pre in
+    as-end _ _ _ _ _ (outside-by _ (p .0) _ _ _ (p .1 .0) _ (c .before .before .before .before .before .before .code .ensures) (c .before .if4 .left) (c .before .before .before .before .before .match .rest .1)) (c .halt .ensures)
 
 pub carry-out-spec : {M : Type 1} → statement M
-carry-out-spec = tie.close (tie.spec (λ c κs. search needs) (λ c. search needs) shared-slice-read-word (λ c κs. search needs) onward-requires target-requires fields-at-requires evaluate-requires assign-requires fields-at-requires-2 evaluate-requires-2 (λ c κs. search needs) enter-if-requires (λ c κs. search needs) jump-requires fields-at-requires-3 evaluate-requires-3 (λ c κs. search needs) enter-while-requires (λ c κs. search needs) leave-requires fields-at-requires-4 evaluate-requires-4 output-requires fields-at-requires-5 evaluate-requires-5 write-requires raise-requires fields-at-requires-6 evaluate-requires-6 (λ c κs. search needs) enter-back-requires (λ c κs. search needs) come-back-requires go-requires (λ c κs. search needs) target-requires-2 fields-at-requires-7 evaluate-requires-7 insert-on-requires (λ c κs. search needs) remove-requires (λ c κs. search needs) returns (λ c. search needs) (λ c. search needs) returns-2 (λ c. search needs) (λ c. search needs) returns-3 returns-4 (λ c. search needs) (λ c. search needs) returns-5 returns-6 (λ c. search needs) (λ c. search needs) (λ c. search needs) returns-7 (λ c. search needs) (λ c. search needs) returns-8 returns-9 (λ c. search needs) (λ c. search needs) (λ c. search needs) returns-10 (λ c. search needs) returns-11 (λ c. search needs) returns-12 (λ c. search needs) (λ c. search needs) returns-13 (λ c. search needs) (λ c. search needs) returns-14 returns-15)
+carry-out-spec = tie.close (tie.spec (λ c κs. search needs) (λ c. search needs) shared-slice-read-word (λ c κs. search needs) onward-requires target-requires fields-at-requires evaluate-requires assign-requires fields-at-requires-2 evaluate-requires-2 (λ c κs. search needs) enter-if-requires (λ c κs. search needs) jump-requires fields-at-requires-3 evaluate-requires-3 (λ c κs. search needs) enter-while-requires (λ c κs. search needs) leave-requires fields-at-requires-4 evaluate-requires-4 output-requires fields-at-requires-5 evaluate-requires-5 write-requires raise-requires fields-at-requires-6 evaluate-requires-6 (λ c κs. search needs) enter-back-requires (λ c κs. search needs) come-back-requires go-requires (λ c κs. search needs) target-requires-2 fields-at-requires-7 evaluate-requires-7 insert-on-requires (λ c κs. search needs) remove-requires go-backward-requires (λ c κs. search needs) returns (λ c. search needs) (λ c. search needs) returns-2 (λ c. search needs) (λ c. search needs) returns-3 returns-4 (λ c. search needs) (λ c. search needs) returns-5 returns-6 (λ c. search needs) (λ c. search needs) (λ c. search needs) returns-7 (λ c. search needs) (λ c. search needs) returns-8 returns-9 (λ c. search needs) (λ c. search needs) (λ c. search needs) returns-10 (λ c. search needs) returns-11 (λ c. search needs) returns-12 (λ c. search needs) (λ c. search needs) returns-13 (λ c. search needs) (λ c. search needs) returns-14 (λ c. search needs) returns-15 returns-16)
