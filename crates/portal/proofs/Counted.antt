@@ -14,7 +14,7 @@ use Rattle.rules.specs.Tree.{Forest, Place}
 use Rattle.rules.specs.Script.{Expression, Action, Command, act, fetch}
 use Rattle.rules.specs.Check.{Checked, accepted, refused}
 use Rattle.rules.specs.Job.{Variable, script}
-use Rattle.rules.specs.Run.{Memory, Block, State, Buffers, withVariables, withTree, withCursor, withLine, assign, output, moveTo, goTo, insertAt, removeAt, write, effect, stepped, raised, enterIf, enterWhile, enterBack, leaveBlock, carried, step, start, run}
+use Rattle.rules.specs.Run.{Memory, Block, State, Buffers, withVariables, withTree, withCursor, withLine, assign, output, moveTo, goJoining, goTo, goToLast, insertAt, removeAt, write, effect, stepped, raised, enterIf, enterWhile, enterBack, leaveBlock, carried, step, start, run}
 use Rattle.rules.specs.Outcome.{Outcome, rejected, ran, answer, checkJobBy, checkJob, budgetRule, begin, runJob}
 use Rattle.rules.specs.History.{Store, FollowOn, checkFollowOn, follow}
 use Rattle.rules.proofs.Tests.{Test, holds, fails, test, both}
@@ -29,10 +29,10 @@ OneMore : Memory → Memory → Type 0
 OneMore m m′ = length (m′ .lines) ≤ suc (length (m .lines))
 
 module _ (pc : Level) (m : Memory) where
-  go-lines : (q : Option Place) → Good (OneMore m) (goTo pc m q)
-  unfolding OneMore goTo moveTo withCursor
-  go-lines none = tt
-  go-lines (some p) = good-need (OneMore m) _ _ _ λ _. good-need (OneMore m) _ _ _ λ _. omega arith
+  go-lines : (l : Place → Level) (q : Option Place) → Good (OneMore m) (goJoining pc m l q)
+  unfolding OneMore goJoining moveTo withCursor
+  go-lines l none = tt
+  go-lines l (some p) = good-need (OneMore m) _ _ _ λ _. good-need (OneMore m) _ _ _ λ _. omega arith
 
   insert-lines : (places : ℕ) (p : Place) (q : Option Place) (mark : ℕ) (e : Expression) → Good (OneMore m) (insertAt pc m places p q mark e)
   unfolding OneMore insertAt withTree
@@ -42,14 +42,16 @@ module _ (pc : Level) (m : Memory) where
       good-need (OneMore m) _ _ _ λ _. good-need (OneMore m) _ _ _ λ _. omega arith
 
   effect-lines : (lent : Buffers) (a : Action) → Good (OneMore m) (effect lent pc m a)
-  unfolding OneMore effect assign output moveTo removeAt write withVariables withTree withCursor withLine
+  unfolding OneMore effect assign output moveTo goTo goToLast removeAt write withVariables withTree withCursor withLine
   effect-lines lent Action.skip = omega arith
   effect-lines lent (Action.assign i e) = good-need (OneMore m) _ _ _ λ _. good-given (OneMore m) _ _ λ _. omega arith
   effect-lines lent (Action.output e) =
       good-need (OneMore m) _ _ _ λ _. good-given (OneMore m) _ _ λ z. good-need (OneMore m) _ _ _ λ _. omega (arith, length-append (m .lines) (z ∷ []))
   effect-lines lent Action.goRoot = good-need (OneMore m) _ _ _ λ _. omega arith
-  effect-lines lent Action.goParent = go-lines _
-  effect-lines lent (Action.go d) = go-lines _
+  effect-lines lent Action.goParent = go-lines _ _
+  effect-lines lent (Action.go d) = go-lines _ _
+  effect-lines lent Action.goLeft = go-lines _ _
+  effect-lines lent Action.goLast = go-lines _ _
   effect-lines lent (Action.insert d mark e) = insert-lines _ _ _ mark e
   effect-lines lent (Action.remove d) = good-need (OneMore m) _ _ _ λ _. good-need (OneMore m) _ _ _ λ _. omega arith
   effect-lines lent (Action.write e) = good-need (OneMore m) _ _ _ λ _. good-given (OneMore m) _ _ λ _. omega arith
