@@ -5,6 +5,7 @@ use Rattle.walks.proofs.Walk.{frame, done, Is, uint-makes, u32, usize, unit, Re
 use lib.Dec.{T as Holds}
 use denote.Enum.Laws as EL
 use Rattle.table.specs.declared.lent.Node.{Node}
+use Rattle.table.specs.Cells.{cellSize}
 use Rattle.table.proofs.lent.Node as N
 use Rattle.monitor.specs.declared.entry.Outcome.{Outcome}
 use Rattle.monitor.proofs.entry.Outcome as O
@@ -49,7 +50,7 @@ module _ {M : Type 1} (𝓤 : URA M) (H : Heap 𝓤) (A : Atoms 𝓤) (W : Given
       ToStore =
           ‵ (flft κ q) ∷ ‵ (flft κ′ q′) ∷ ‵ (MutSlice (named 0) κ N.the-row .own t (s ∷ [])) ∷ ‵ (ShrSlice (named 1) κ′ u32 .own c (z ∷ [])) ∷ []
 
-      pub goes-store : k < 2 ^ 64 → (k ≤ length (t .now)) × (8 * k ≤ length (c .now)) → ent 𝓤 (⋆ 𝓤 H A ToStore) (Store 𝓤 H A mem run .pre to-store)
+      pub goes-store : k < 2 ^ 64 → (k ≤ length (t .now)) × (cellSize * k ≤ length (c .now)) → ent 𝓤 (⋆ 𝓤 H A ToStore) (Store 𝓤 H A mem run .pre to-store)
       goes-store fits asks =
           qed W ToStore ∵ says ! asks $ nothing ! $ move ! (2 ∷ 0 ∷ []) $ join ! $ move ! (1 ∷ 0 ∷ []) $ join ! $ frame ! $ nothing ! $
           owned ! usize (Is usize) (uint-makes 𝓤 H A W w64) k _ (refl, fits) $ fjoin ! $ move ! (2 ∷ 0 ∷ []) $ fjoin ! $ move ! (1 ∷ 0 ∷ []) $ fjoin ! $ done !
@@ -61,7 +62,7 @@ module _ {M : Type 1} (𝓤 : URA M) (H : Heap 𝓤) (A : Atoms 𝓤) (W : Given
       ToLoad =
           ‵ (flft κ q) ∷ ‵ (flft κ′ q′) ∷ ‵ (ShrSlice (named 0) κ N.the-row .own t (s ∷ [])) ∷ ‵ (MutSlice (named 1) κ′ u32 .own c (z ∷ [])) ∷ []
 
-      pub goes-load : k < 2 ^ 64 → (k ≤ length (t .now)) × (8 * k ≤ length (c .now)) → ent 𝓤 (⋆ 𝓤 H A ToLoad) (Load 𝓤 H A mem run .pre to-load)
+      pub goes-load : k < 2 ^ 64 → (k ≤ length (t .now)) × (cellSize * k ≤ length (c .now)) → ent 𝓤 (⋆ 𝓤 H A ToLoad) (Load 𝓤 H A mem run .pre to-load)
       goes-load fits asks =
           qed W ToLoad ∵ says ! asks $ nothing ! $ move ! (2 ∷ 0 ∷ []) $ join ! $ move ! (1 ∷ 0 ∷ []) $ join ! $ frame ! $ nothing ! $
           owned ! usize (Is usize) (uint-makes 𝓤 H A W w64) k _ (refl, fits) $ fjoin ! $ move ! (2 ∷ 0 ∷ []) $ fjoin ! $ move ! (1 ∷ 0 ∷ []) $ fjoin ! $ done !

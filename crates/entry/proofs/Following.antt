@@ -16,7 +16,7 @@ use Rattle.rules.specs.History as History
 use Rattle.rules.specs.History.{Store, after}
 use Rattle.rules.proofs.Tests.{Test, holds, fails, test}
 use Rattle.table.specs.declared.lent.Node.{Node}
-use Rattle.table.specs.Cells.{cells, gone}
+use Rattle.table.specs.Cells.{cellSize, cells, gone}
 use Rattle.table.specs.Lent.{nodesTable, loaded, stored}
 use Rattle.table.specs.Stands.{Stands, Decided, Marked}
 use Rattle.table.proofs.Copies.{length-stored, length-loaded, loaded-at}
@@ -31,17 +31,18 @@ use Rattle.monitor.proofs.Taken.{fair}
 use Rattle.entry.specs.Promises.{Tree, keptOf}
 use Rattle.entry.specs.Records.{StandsIn, Loads, Unmarked, Surveys}
 use Rattle.entry.proofs.Runs as Runs
+use Rattle.entry.proofs.Numbers.{wordCount}
 
 -- no place has a mark at first
 pub unmarked : Unmarked (replicate maxNodes 0)
 unmarked = record { long = omega (arith, length-replicate {A = ℕ} maxNodes 0); none = λ x lt. getD-replicate {A = ℕ} maxNodes x 0 0 lt }
 
 -- the first c records are copied into words
-pub load-asks : (ns : List Node) (c : ℕ) → c ≡ min (length ns) maxNodes → (w : List ℕ) → length w ≡ 4096 → (c ≤ length ns) × (8 * c ≤ length w)
+pub load-asks : (ns : List Node) (c : ℕ) → c ≡ min (length ns) maxNodes → (w : List ℕ) → length w ≡ wordCount → (c ≤ length ns) × (cellSize * c ≤ length w)
 load-asks ns c few w long = (omega (arith, few), omega (arith, few, long))
 
-module _ (ns : List Node) (c : ℕ) (few : c ≡ min (length ns) maxNodes) (w w′ : List ℕ) (long : length w ≡ 4096) (l : Loads ns c w w′) where
-  same-length : length w′ ≡ 4096
+module _ (ns : List Node) (c : ℕ) (few : c ≡ min (length ns) maxNodes) (w w′ : List ℕ) (long : length w ≡ wordCount) (l : Loads ns c w w′) where
+  same-length : length w′ ≡ wordCount
   same-length = ap length (l .words) ∙ length-loaded ns c w ∙ long
 
   module _ (le : length ns ≤ maxNodes) where
@@ -82,14 +83,14 @@ module _ (ns : List Node) (c : ℕ) (few : c ≡ min (length ns) maxNodes) (w w�
     turned (by-store z e) = Runs.none ns x x′ r k ek badFollowOn 0 e
     turned (by-script j i z a e) = Runs.none ns x x′ r k ek j i e
 
-    pub store-asks : length w″ ≡ 4096 → (k ≤ length ns) × (8 * k ≤ length w″)
+    pub store-asks : length w″ ≡ wordCount → (k ≤ length ns) × (cellSize * k ≤ length w″)
     store-asks len = go (test (leb (length ns) maxNodes))
       where
-        by : Follows (λ _. length ns) Words.Tree (StandsAmong (length ns)) b budget x x′ r → (k ≤ length ns) × (8 * k ≤ length w″)
+        by : Follows (λ _. length ns) Words.Tree (StandsAmong (length ns)) b budget x x′ r → (k ≤ length ns) × (cellSize * k ≤ length w″)
         by (over s g t a) = Runs.store-asks ns x x′ r k ek (length levels) _ (t .outcome) (t .leaves) len
         by (none g t) = Runs.store-asks ns x x′ r k ek (length levels) _ (t .outcome) (t .leaves) len
 
-        go : Test (leb (length ns) maxNodes) → (k ≤ length ns) × (8 * k ≤ length w″)
+        go : Test (leb (length ns) maxNodes) → (k ≤ length ns) × (cellSize * k ≤ length w″)
         go (holds e) = by (h .few (leb-true (length ns) maxNodes e))
         go (fails e) = let z = turned (h .many (leb-false (length ns) maxNodes e) .0) in (omega arith, omega arith)
 

@@ -3,10 +3,19 @@ use mathlib.Core.Path.{_≡_}
 use mathlib.Core.List.{List, [], _∷_}
 use Prim.Native.Nat.{ℕ, zero, suc, _+_, _*_, _-_, _^_, _<_, _≤_}
 use native.Mathlib.Omega.{arith}
+use Rattle.table.specs.Cells.{cellSize}
+
+-- how many words a table of 512 places takes
+abbrev pub wordCount : ℕ
+wordCount = 5120
+
+-- how many bytes a record takes
+abbrev pub recordBytes : ℕ
+recordBytes = 32
 
 module _ (i n : ℕ) (h : i < n) where
-  -- a place below n, where n elements of 24 bytes have room
-  pub start-fits : n * 24 < 2 ^ 63 → i * 24 < 2 ^ 64
+  -- a place below n, where n records have room
+  pub start-fits : n * recordBytes < 2 ^ 63 → i * recordBytes < 2 ^ 64
   start-fits room = omega arith
 
   pub next-fits : n < 2 ^ 64 → i + 1 < 2 ^ 64
@@ -22,7 +31,7 @@ module _ (i n : ℕ) (h : i < n) where
   within m le = omega arith
 
   -- the cell of such a place
-  pub cell-in : (m : ℕ) → 8 * n ≤ m → 8 * i + 8 ≤ m
+  pub cell-in : (m : ℕ) → cellSize * n ≤ m → cellSize * i + cellSize ≤ m
   cell-in m le = omega arith
 
 pub one-more : (i : ℕ) → i + 1 ≡ suc i

@@ -9,6 +9,7 @@ use lib.IntN.{ℤ}
 use lib.ListN.{length, replicate, take, drop, length-replicate, length-append, take-append-drop}
 use lib.Seq.{length-take-le}
 use Rattle.table.specs.declared.lent.Node.{Node}
+use Rattle.table.specs.Cells.{cellSize}
 use Rattle.table.specs.Lent.{blank, loaded}
 use Rattle.table.proofs.Copies.{length-stored}
 use Rattle.monitor.specs.declared.entry.Outcome.{Outcome}
@@ -16,17 +17,18 @@ use Rattle.monitor.specs.Follow.{Follows}
 use Rattle.monitor.specs.Promises.{Lent, lent, Promises}
 use Rattle.entry.specs.Promises.{Tree, ownPlaces, copiedOf, ownRecords, Kept, Owned}
 use Rattle.entry.specs.Records.{StandsIn}
+use Rattle.entry.proofs.Numbers.{recordBytes}
 
 -- what `store` and `load` ask for
 copied-few : (follows : Bool) → copiedOf follows ≤ ownPlaces
 copied-few true = omega arith
 copied-few false = omega arith
 
-pub first-asks : (follows : Bool) (k : ℕ) → k ≡ copiedOf follows → (w : List ℕ) → 8 * ownPlaces ≤ length w
-    → (k ≤ length (replicate ownPlaces blank)) × (8 * k ≤ length w)
+pub first-asks : (follows : Bool) (k : ℕ) → k ≡ copiedOf follows → (w : List ℕ) → cellSize * ownPlaces ≤ length w
+    → (k ≤ length (replicate ownPlaces blank)) × (cellSize * k ≤ length w)
 first-asks follows k e w long = let a = copied-few follows in (omega (arith, a, e, length-replicate ownPlaces blank), omega (arith, a, e, long))
 
-pub load-asks : (ns : List Node) (ws : List ℕ) → length ns ≡ ownPlaces → 8 * ownPlaces ≤ length ws → (ownPlaces ≤ length ns) × (8 * ownPlaces ≤ length ws)
+pub load-asks : (ns : List Node) (ws : List ℕ) → length ns ≡ ownPlaces → cellSize * ownPlaces ≤ length ws → (ownPlaces ≤ length ns) × (cellSize * ownPlaces ≤ length ws)
 load-asks ns ws e long = (omega (arith, e), long)
 
 -- which of the two calls was made
@@ -57,7 +59,7 @@ module _ (places m : ℕ) (em : m ≡ min places ownPlaces) (follows : Bool) (x 
   pub lent-length : length (take m own) ≡ m
   lent-length = length-take-le m own (omega (arith, few, own-length))
 
-  pub lent-fits : (m < 2 ^ 64) × (m * 24 < 2 ^ 63)
+  pub lent-fits : (m < 2 ^ 64) × (m * recordBytes < 2 ^ 63)
   lent-fits = (omega (arith, few), omega (arith, few))
 
   -- all records, after the run

@@ -11,12 +11,14 @@ use Rattle.rules.specs.Run.{Ending, finished, stopped, Ended}
 use Rattle.rules.specs.Outcome as Rules
 use Rattle.rules.specs.Outcome.{runJob}
 use Rattle.table.specs.declared.lent.Node.{Node}
+use Rattle.table.specs.Cells.{cellSize}
 use Rattle.table.specs.Lent.{stored}
 use Rattle.table.proofs.Copies as Copies
 use Rattle.monitor.specs.declared.entry.Outcome.{Outcome}
 use Rattle.monitor.specs.Promises as Words
 use Rattle.monitor.specs.Promises.{told, toldBy, Lent, lent, lentBy, Ran, Leaves, Promises}
 use Rattle.entry.specs.Promises.{Tree, keptOf}
+use Rattle.entry.proofs.Numbers.{wordCount}
 
 -- a run that has ended fills every record
 ran-all : (k : Ending) (e : Ended) (n : ℕ) → keptOf (toldBy k e) n ≡ n
@@ -34,13 +36,13 @@ module _ (ns : List Node) (x x′ : Lent (List ℕ)) (r : Outcome) (k : ℕ) (ek
   unfolding told
   all e q = ek ∙ ap (λ s. keptOf s (length ns)) q ∙ ran-all (e .ending) e (length ns)
 
-  asked : (n : ℕ) (o : Rules.Outcome) → r ≡ told o → Leaves (λ _. length ns) Words.Tree n x x′ o → (k ≤ length ns) × (8 * k ≤ 4096)
+  asked : (n : ℕ) (o : Rules.Outcome) → r ≡ told o → Leaves (λ _. length ns) Words.Tree n x x′ o → (k ≤ length ns) × (cellSize * k ≤ wordCount)
   asked n (Rules.rejected j i) e h = let z = none j i e in (omega arith, omega arith)
   asked n (Rules.ran a) e h = let z = all a e in (omega arith, omega (arith, h .tree .holds .few))
 
   -- what `store` asks for
-  pub store-asks : (n : ℕ) (o : Rules.Outcome) → r ≡ told o → Leaves (λ _. length ns) Words.Tree n x x′ o → length (x′ .table) ≡ 4096
-      → (k ≤ length ns) × (8 * k ≤ length (x′ .table))
+  pub store-asks : (n : ℕ) (o : Rules.Outcome) → r ≡ told o → Leaves (λ _. length ns) Words.Tree n x x′ o → length (x′ .table) ≡ wordCount
+      → (k ≤ length ns) × (cellSize * k ≤ length (x′ .table))
   store-asks n o e h len = let a = asked n o e h in (a .0, omega (arith, a .1))
 
   -- the records are filled

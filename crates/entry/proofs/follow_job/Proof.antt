@@ -27,7 +27,7 @@ use Rattle.monitor.specs.Follow.{Follows, Surveyed, FollowsOver}
 use Rattle.entry.specs.Promises.{Tree, keptOf}
 use Rattle.entry.specs.Records.{StandsIn, Loads, Surveys}
 use Rattle.entry.proofs.Following.{unmarked, load-asks, run-asks, store-asks, followed}
-use Rattle.entry.proofs.Numbers.{span}
+use Rattle.entry.proofs.Numbers.{wordCount, span}
 use Rattle.entry.proofs.Callees.{Kept, Store, Load, outcome-typed, unit-typed, to-kept, goes-kept, to-store, goes-store, to-load, goes-load}
 use Rattle.walks.proofs.Locals.{sized, var, sets, result, valued, frees-all}
 use Rattle.walks.proofs.Slots.{gather, repeats}
@@ -83,9 +83,9 @@ abbrev no-marks : List ℕ
 no-marks = replicate 512 0
 
 abbrev no-words : List ℕ
-no-words = replicate 4096 0
+no-words = replicate wordCount 0
 
-roomy : Room u32 4096
+roomy : Room u32 wordCount
 roomy = (lit< tt, lit< tt)
 
 -- the last values of what `follow_places` is passed
@@ -200,7 +200,7 @@ module _ {M : Type 1} (𝓤 : URA M) (H : Heap 𝓤) (A : Atoms 𝓤) (W : Given
         (section, (budget, (n, (stands, (under l 0 marks δ, (under l′ 0 ws δ′, (le, (va, (li, tt))))))))),
         (
           sj ∷ [],
-          (vint w64 budget ∷ [], (vint w64 n ∷ [], (vbool stands ∷ [], (sliceVal (l, 0) 512 ∷ [], (sliceVal (l′, 0) 4096 ∷ [], (sl ∷ [], (sv ∷ [], (sb ∷ [], tt)))))))),
+          (vint w64 budget ∷ [], (vint w64 n ∷ [], (vbool stands ∷ [], (sliceVal (l, 0) 512 ∷ [], (sliceVal (l′, 0) wordCount ∷ [], (sl ∷ [], (sv ∷ [], (sb ∷ [], tt)))))))),
         ),
       ),
       tt,
@@ -210,7 +210,7 @@ module _ {M : Type 1} (𝓤 : URA M) (H : Heap 𝓤) (A : Atoms 𝓤) (W : Given
     Passed =
         ‵ (flft κ₀ q₀) ∷ ‵ (flft (ν ∷ []) fullShare) ∷ ‵ (flft (ν′ ∷ []) fullShare) ∷ ‵ (flft κ₂ q₂) ∷ ‵ (flft κ₃ q₃) ∷ ‵ (flft κ₄ q₄) ∷ ‵ J
         ∷ ‵ (ShrSlice (named 1) (ν ∷ []) u8 .own (under l 0 marks δ) (sliceVal (l, 0) 512 ∷ []))
-        ∷ ‵ (MutSlice (named 2) (ν′ ∷ []) u32 .own (under l′ 0 ws δ′) (sliceVal (l′, 0) 4096 ∷ [])) ∷ ‵ Le ∷ ‵ Va ∷ ‵ Li ∷ []
+        ∷ ‵ (MutSlice (named 2) (ν′ ∷ []) u32 .own (under l′ 0 ws δ′) (sliceVal (l′, 0) wordCount ∷ [])) ∷ ‵ Le ∷ ‵ Va ∷ ‵ Li ∷ []
 
     goes-run : n < 2 ^ 64 → (n ≤ maxNodes → Surveyed ws n stands marks) × (maxNodes ≤ length marks) → ent 𝓤 (⋆ 𝓤 H A Passed) (Core 𝓤 H A mem run .pre to-run)
     goes-run fits asks =
@@ -286,7 +286,7 @@ module _ {M : Type 1} (𝓤 : URA M) (H : Heap 𝓤) (A : Atoms 𝓤) (W : Given
         ends-mut ! tt u8 marks l₈ 0 $
         -- the words, into which the first records are copied
         owned ! u32 (Is u32) (uint-makes 𝓤 H A W w32) 0 (vint w32 0 ∷ []) (refl, lit< tt) $
-        repeats ! u32 tt (uint-copy 𝓤 H A W w32) (uint-lawful 𝓤 H A W w32) 4096 0 (vint w32 0) (lit ! tt) refl 63 refl (λ lenW.
+        repeats ! u32 tt (uint-copy 𝓤 H A W w32) (uint-lawful 𝓤 H A W w32) wordCount 0 (vint w32 0) (lit ! tt) refl 63 refl (λ lenW.
         use0 W (raw (Few 𝓤 H A mem run .pre to-few)) (goes-few (rt .0)) $
         calls-at ! (fmOf 𝓤 H (W .laws) 𝓣) (Few 𝓤 H A mem run) known-few to-few (and-then ! (var ! 69 refl) (no-more !)) (λ v₁₁.
         answers ! tt usize v₁₁ (‵ ftrue) (λ (zs : Unit {0} × Unit {0}). lasts fe.ended tt (n, tt) zs) (λ r zs. r ≡ min n maxNodes) (id⊢ 𝓤 _) (λ c zsf
@@ -296,11 +296,11 @@ module _ {M : Type 1} (𝓤 : URA M) (H : Heap 𝓤) (A : Atoms 𝓤) (W : Given
         sets ! (agg ! (and-then ! (var ! 46 refl) (and-then ! (load ! (from ! (fld ! refl (stop !))) (look-in ! 76 (sub ! 1 refl (whole !)))) (no-more
         !)))) 44 refl (sized (rt .0)) $ sets ! (addr ! (from ! (stop !))) 42 refl (tt, tt) $
         sets ! (agg ! (and-then ! (var ! 42 refl) (and-then ! (big ! (record { fits = lit< tt })) (no-more !)))) 40 refl (sized (lit< tt)) $
-        lends-mut ! tt u32 (named 1) no-words l₁₀ 0 4096 lenW roomy (λ ν₂ δ₂.
+        lends-mut ! tt u32 (named 1) no-words l₁₀ 0 wordCount lenW roomy (λ ν₂ δ₂.
         let gh = to-load 𝓤 H A W mem run (ν₀ ∷ []) (ν₂ ∷ []) fullShare fullShare (under b o ys δ₀) (under l₁₀ 0 no-words δ₂) st (sliceVal (l₁₀, 0)
-        4096) c in move ! (7 ∷ 2 ∷ 8 ∷ 0 ∷ []) $ group ! 4 $
+        wordCount) c in move ! (7 ∷ 2 ∷ 8 ∷ 0 ∷ []) $ group ! 4 $
         use1 W (raw (Load 𝓤 H A mem run .pre gh)) (goes-load 𝓤 H A W mem run (ν₀ ∷ []) (ν₂ ∷ []) fullShare fullShare (under b o ys δ₀) (under l₁₀ 0
-        no-words δ₂) st (sliceVal (l₁₀, 0) 4096) c (isc .1) (load-asks ys c ec no-words lenW)) $
+        no-words δ₂) st (sliceVal (l₁₀, 0) wordCount) c (isc .1) (load-asks ys c ec no-words lenW)) $
         calls-at ! (fmOf 𝓤 H (W .laws) 𝓣) (Load 𝓤 H A mem run) known-load gh (and-then ! (var ! 43 refl) (and-then ! (var ! 39 refl) (and-then ! (var
         ! 61 refl) (no-more !)))) (λ w₁₈.
         answers ! tt unit w₁₈ (‵ (flft (ν₀ ∷ []) fullShare) ⊛ ‵ (flft (ν₂ ∷ []) fullShare) ⊛ ‵ ftrue) (λ (zs : Unit {0} × (List ℕ × (Unit {0} × Unit
@@ -321,7 +321,7 @@ module _ {M : Type 1} (𝓤 : URA M) (H : Heap 𝓤) (A : Atoms 𝓤) (W : Given
         sets ! (agg ! (and-then ! (var ! 29 refl) (and-then ! (load ! (from ! (fld ! refl (stop !))) (look-in ! 73 (sub ! 1 refl (whole !)))) (no-more
         !)))) 27 refl (sized (rb .0)) $ let long = kM ∙ lenM in let len = kW ∙ lenW in move ! (7 ∷ []) $
         lends-shr ! tt u8 (named 1) marks l₈ 0 512 long (lit< tt, lit< tt) (λ ν₃ δ₃. move ! (5 ∷ []) $
-        lends-mut ! tt u32 (named 2) ws l₁₀ 0 4096 len roomy (λ ν₄ δ₄. move ! (19 ∷ []) $
+        lends-mut ! tt u32 (named 2) ws l₁₀ 0 wordCount len roomy (λ ν₄ δ₄. move ! (19 ∷ []) $
         use1 W (‵ J ⊛ ‵ J) (shr-slice-copy 𝓤 H A W (named 0) κ₀ u8 .twice section (sj ∷ [])) $ split ! $ move ! (21 ∷ []) $
         use1 W (‵ Le ⊛ ‵ Le) (shr-slice-copy 𝓤 H A W (named 2) κ₂ u8 .twice le (sl ∷ [])) $ split ! $
         let gh = to-run ν₃ ν₄ l₈ l₁₀ δ₃ δ₄ stands marks ws in move ! (19 ∷ 9 ∷ 6 ∷ 20 ∷ 21 ∷ 22 ∷ 3 ∷ 7 ∷ 4 ∷ 1 ∷ 23 ∷ 24 ∷ []) $ group ! 12 $
@@ -351,12 +351,12 @@ module _ {M : Type 1} (𝓤 : URA M) (H : Heap 𝓤) (A : Atoms 𝓤) (W : Given
         sets ! (agg ! (and-then ! (var ! 33 refl) (and-then ! (load ! (from ! (fld ! refl (stop !))) (look-in ! 87 (sub ! 1 refl (whole !)))) (no-more
         !)))) 31 refl (sized (rt .0)) $ sets ! (addr ! (from ! (stop !))) 29 refl (tt, tt) $
         sets ! (agg ! (and-then ! (var ! 29 refl) (and-then ! (big ! (record { fits = lit< tt })) (no-more !)))) 27 refl (sized (lit< tt)) $
-        let len′ = kW′ ∙ len in lends-shr ! tt u32 (named 1) (last-words zs) l₁₀ 0 4096 len′ roomy (λ ν₅ δ₅.
-        let gh = to-store 𝓤 H A W mem run κ₁ (ν₅ ∷ []) q₁ fullShare t (under l₁₀ 0 (last-words zs) δ₅) st (sliceVal (l₁₀, 0) 4096) k in
+        let len′ = kW′ ∙ len in lends-shr ! tt u32 (named 1) (last-words zs) l₁₀ 0 wordCount len′ roomy (λ ν₅ δ₅.
+        let gh = to-store 𝓤 H A W mem run κ₁ (ν₅ ∷ []) q₁ fullShare t (under l₁₀ 0 (last-words zs) δ₅) st (sliceVal (l₁₀, 0) wordCount) k in
         let asks = store-asks ys c ec no-words ws lenW loads known (section .now) budget (le .now) (va .now) _ (li .now) _ (last-words zs) r k ek said
         len′ in move ! (21 ∷ 2 ∷ 20 ∷ 0 ∷ []) $ group ! 4 $
         use1 W (raw (Store 𝓤 H A mem run .pre gh)) (goes-store 𝓤 H A W mem run κ₁ (ν₅ ∷ []) q₁ fullShare t (under l₁₀ 0 (last-words zs) δ₅) st
-        (sliceVal (l₁₀, 0) 4096) k (isk .1) asks) $
+        (sliceVal (l₁₀, 0) wordCount) k (isk .1) asks) $
         calls-at ! (fmOf 𝓤 H (W .laws) 𝓣) (Store 𝓤 H A mem run) known-store gh (and-then ! (var ! 30 refl) (and-then ! (var ! 26 refl) (and-then !
         (var ! 68 refl) (no-more !)))) (λ w₁₈′.
         answers ! tt unit w₁₈′ (‵ (flft κ₁ q₁) ⊛ ‵ (flft (ν₅ ∷ []) fullShare) ⊛ ‵ ftrue) (λ (us : List Node × (Unit {0} × (Unit {0} × Unit {0}))).
@@ -366,8 +366,8 @@ module _ {M : Type 1} (𝓤 : URA M) (H : Heap 𝓤) (A : Atoms 𝓤) (W : Given
         move ! (4 ∷ 7 ∷ []) $ ends-shr ! tt u32 (last-words zs) l₁₀ 0 $ move ! (7 ∷ []) $
         use1 W (some (λ (z : Val). ‵ (fat fullShare (tyArray (tyInt w8) 512) l₈ 0 z) ⊛ ‵ (Array u8 512 .own marks (z ∷ [])))) (gather 𝓤 H A W u8 tt
         512 marks l₈ long) $ pick ! (λ zM. split ! $ move ! (2 ∷ []) $
-        use1 W (some (λ (z : Val). ‵ (fat fullShare (tyArray (tyInt w32) 4096) l₁₀ 0 z) ⊛ ‵ (Array u32 4096 .own (last-words zs) (z ∷ [])))) (gather 𝓤
-        H A W u32 tt 4096 (last-words zs) l₁₀ len′) $ pick ! (λ zW. split ! $
+        use1 W (some (λ (z : Val). ‵ (fat fullShare (tyArray (tyInt w32) wordCount) l₁₀ 0 z) ⊛ ‵ (Array u32 wordCount .own (last-words zs) (z ∷ [])))) (gather 𝓤
+        H A W u32 tt wordCount (last-words zs) l₁₀ len′) $ pick ! (λ zW. split ! $
         keep ! (span 33 48 ++ (0 ∷ 81 ∷ 82 ∷ 83 ∷ 2 ∷ span 84 17 ++ (23 ∷ 9 ∷ 22 ∷ 21 ∷ 19 ∷ 25 ∷ 4 ∷ 24 ∷ 11 ∷ 10 ∷ []))) $
         sets ! (of-opd ! (var ! 44 refl)) 68 refl (outcome-typed 𝓤 H A W r v₁₂ isr) $
         returns ! (look ! 68 refl) $

@@ -22,6 +22,7 @@ use denote.Builtin.{u64, bool}
 use denote.Index.{place}
 use denote.Plain.{bool-makes, bool-vals, bool-tells}
 use Rattle.table.specs.declared.lent.Node.{Node}
+use Rattle.table.specs.Cells.{cellSize}
 use Rattle.table.specs.Lent.{blank, stored}
 use Rattle.monitor.specs.declared.entry.Outcome.{Outcome}
 use Rattle.monitor.specs.Promises.{lent, Promises}
@@ -357,7 +358,7 @@ module _ {M : Type 1} (𝓤 : URA M) (H : Heap 𝓤) (A : Atoms 𝓤) (W : Given
         ∷ ‵ (froom tyBool (l 1) 0) ∷ ‵ (fdies tyBool (l 1)) ∷ ‵ (froom O′.mir (l 0) 0) ∷ ‵ (fdies O′.mir (l 0)) ∷ []
 
     -- from there on: all records are copied into the words
-    finish : (l : ℕ → ℕ) (m : ℕ) → m ≡ min places ownPlaces → Room u32 (length ws) → 8 * ownPlaces ≤ length ws
+    finish : (l : ℕ → ℕ) (m : ℕ) → m ≡ min places ownPlaces → Room u32 (length ws) → cellSize * ownPlaces ≤ length ws
         → (x : Ended follows (bytes .now) budget (take m (ownRecords follows ws)) ls₀ (va .now) (li .now))
         → Seq (Go {0}) W (Met l m x)
         (runs (𝓣 .C) (𝓣 .Λ) (placed (code.function .locals) (map l (span 0 41))) body.t-12 (atRet (placed (code.function .locals) (map l (span 0 41))) Post))
@@ -395,7 +396,7 @@ module _ {M : Type 1} (𝓤 : URA M) (H : Heap 𝓤) (A : Atoms 𝓤) (W : Given
         _ _ _) (x .r) (x .kept) (loads .words)) (x .kL) (x .kV) (x .kB) kW (x .isr)))))))
 
     walk : Room u8 (length (bytes .now)) → Room u8 (length ls₀) → Room i32 (length (va .now)) → Room u8 (length (li .now)) → Room u32 (length ws)
-        → 8 * ownPlaces ≤ length ws
+        → cellSize * ownPlaces ≤ length ws
         → ent 𝓤 (onEntry 𝓤 H A own′.signature (κ₀, (κ₁, (κ₂, (κ₃, (κ₄, tt))))) (q₀, (q₁, (q₂, (q₃, (q₄, tt))))) a vals)
         (WpFn 𝓤 H (𝓣 .C) (𝓣 .Λ) code.function (vbool follows ∷ sj ∷ vint w64 budget ∷ vint w64 places ∷ sl ∷ sv ∷ sb ∷ sw ∷ []) Post)
     walk rj rl rv rb ro long =
@@ -590,7 +591,7 @@ module _ {M : Type 1} (𝓤 : URA M) (H : Heap 𝓤) (A : Atoms 𝓤) (W : Given
           ),
         ),
       ))
-      (λ κs qs bounds a g are. needs 𝓤 (8 * ownPlaces ≤ length (a .1 .1 .1 .1 .1 .1 .1 .0 .now)) _ (λ long.
+      (λ κs qs bounds a g are. needs 𝓤 (cellSize * ownPlaces ≤ length (a .1 .1 .1 .1 .1 .1 .1 .0 .now)) _ (λ long.
       walk 𝓤 H A W mem run (κs .0) (κs .1 .0) (κs .1 .1 .0) (κs .1 .1 .1 .0) (κs .1 .1 .1 .1 .0) (qs .0) (qs .1 .0) (qs .1 .1 .0) (qs .1 .1 .1 .0)
       (qs .1 .1 .1 .1 .0)
       (a .0) (a .1 .0) (a .1 .1 .0) (are .1 .1 .0 .1) (a .1 .1 .1 .0) (are .1 .1 .1 .0 .1) (a .1 .1 .1 .1 .0 .ptr .0) (a .1 .1 .1 .1 .0 .ptr .1)

@@ -24,7 +24,7 @@ use Rattle.monitor.proofs.Answered.{recount, all-places}
 use Rattle.entry.specs.Promises.{Tree, keptOf}
 use Rattle.entry.proofs.Runs.{store-asks, promised}
 use Rattle.entry.proofs.Callees.{Kept, Store, outcome-typed, unit-typed, to-kept, goes-kept, to-store, goes-store}
-use Rattle.entry.proofs.Numbers.{span}
+use Rattle.entry.proofs.Numbers.{wordCount, span}
 use Rattle.walks.proofs.Locals.{sized, var, sets, result, valued, frees-all}
 use Rattle.walks.proofs.Slots.{gather, repeats}
 use Rattle.walks.proofs.Calls.{under, lends-mut, lends-shr, ends-mut, ends-shr, answers}
@@ -65,9 +65,9 @@ stayed = (
 
 -- the words as they are made
 abbrev no-words : List ℕ
-no-words = replicate 4096 0
+no-words = replicate wordCount 0
 
-roomy : Room u32 4096
+roomy : Room u32 wordCount
 roomy = (lit< tt, lit< tt)
 
 -- the last values of what `run_places` is passed
@@ -140,7 +140,7 @@ module _ {M : Type 1} (𝓤 : URA M) (H : Heap 𝓤) (A : Atoms 𝓤) (W : Given
         (q₀, (fullShare, (q₂, (q₃, (q₄, tt))))),
         tt,
         (job, (budget, (n, (under l 0 no-words δ, (le, (va, (li, tt))))))),
-        (sj ∷ [], (vint w64 budget ∷ [], (vint w64 n ∷ [], (sliceVal (l, 0) 4096 ∷ [], (sl ∷ [], (sv ∷ [], (sb ∷ [], tt))))))),
+        (sj ∷ [], (vint w64 budget ∷ [], (vint w64 n ∷ [], (sliceVal (l, 0) wordCount ∷ [], (sl ∷ [], (sv ∷ [], (sb ∷ [], tt))))))),
       ),
       tt,
     )
@@ -148,7 +148,7 @@ module _ {M : Type 1} (𝓤 : URA M) (H : Heap 𝓤) (A : Atoms 𝓤) (W : Given
     abbrev Passed : List (Item 𝓤)
     Passed =
         ‵ (flft κ₀ q₀) ∷ ‵ (flft (ν ∷ []) fullShare) ∷ ‵ (flft κ₂ q₂) ∷ ‵ (flft κ₃ q₃) ∷ ‵ (flft κ₄ q₄) ∷ ‵ J
-        ∷ ‵ (MutSlice (named 1) (ν ∷ []) u32 .own (under l 0 no-words δ) (sliceVal (l, 0) 4096 ∷ [])) ∷ ‵ Le ∷ ‵ Va ∷ ‵ Li ∷ []
+        ∷ ‵ (MutSlice (named 1) (ν ∷ []) u32 .own (under l 0 no-words δ) (sliceVal (l, 0) wordCount ∷ [])) ∷ ‵ Le ∷ ‵ Va ∷ ‵ Li ∷ []
 
     goes-core : n < 2 ^ 64 → ent 𝓤 (⋆ 𝓤 H A Passed) (Core 𝓤 H A mem run .pre to-core)
     goes-core n-fits =
@@ -173,7 +173,7 @@ module _ {M : Type 1} (𝓤 : URA M) (H : Heap 𝓤) (A : Atoms 𝓤) (W : Given
       Promises (λ _. n) Words.Tree (job .now) budget (lent no-words (le .now) (va .now) (li .now))
       (lent (zs .1 .1 .1 .0) (zs .1 .1 .1 .1 .0) (zs .1 .1 .1 .1 .1 .0) (zs .1 .1 .1 .1 .1 .1 .0)) r
 
-  counted : length no-words ≡ 4096 → (zs : Lasts) (r : Outcome) → Said zs r → Counted zs r
+  counted : length no-words ≡ wordCount → (zs : Lasts) (r : Outcome) → Said zs r → Counted zs r
   counted len zs r said =
       recount Words.Tree (λ w. placesFor n (length w)) (λ _. n) (job .now) budget _ _ r (all-places n (length no-words) (omega arith)) (said .0)
 
@@ -220,7 +220,7 @@ module _ {M : Type 1} (𝓤 : URA M) (H : Heap 𝓤) (A : Atoms 𝓤) (W : Given
         -- [the tokens; the job; the table; the levels; the values; the lines; _23 (10); …; _0]
         sets ! (of-opd ! (load ! (from ! (fld ! refl (stop !))) (look-in ! 50 (sub ! 1 refl (whole !))))) 42 refl (tt, record { fits = rt .0 }) $
         owned ! u32 (Is u32) (uint-makes 𝓤 H A W w32) 0 (vint w32 0 ∷ []) (refl, lit< tt) $
-        repeats ! u32 tt (uint-copy 𝓤 H A W w32) (uint-lawful 𝓤 H A W w32) 4096 0 (vint w32 0) (lit ! tt) refl 40 refl (λ lenW.
+        repeats ! u32 tt (uint-copy 𝓤 H A W w32) (uint-lawful 𝓤 H A W w32) wordCount 0 (vint w32 0) (lit ! tt) refl 40 refl (λ lenW.
         sets ! (addr ! (from ! (stop !))) 35 refl (tt, tt) $
         sets ! (agg ! (and-then ! (var ! 35 refl) (and-then ! (big ! (record { fits = lit< tt })) (no-more !)))) 33 refl (sized (lit< tt)) $
         sets ! (addr ! (from ! (fld ! refl (hop ! (look-in ! 48 (sub ! 0 refl (whole !))) (stop !))))) 31 refl (tt, tt) $
@@ -233,7 +233,7 @@ module _ {M : Type 1} (𝓤 : URA M) (H : Heap 𝓤) (A : Atoms 𝓤) (W : Given
         sets ! (agg ! (and-then ! (var ! 23 refl) (and-then ! (load ! (from ! (fld ! refl (stop !))) (look-in ! 44 (sub ! 1 refl (whole !)))) (no-more
         !)))) 21 refl (sized (rb .0)) $
         -- the words are lent for a lifetime ν of the call
-        lends-mut ! tt u32 (named 1) no-words l₈ 0 4096 lenW roomy (λ ν δ. move ! (8 ∷ []) $
+        lends-mut ! tt u32 (named 1) no-words l₈ 0 wordCount lenW roomy (λ ν δ. move ! (8 ∷ []) $
         use1 W (‵ J ⊛ ‵ J) (shr-slice-copy 𝓤 H A W (named 0) κ₀ u8 .twice job (sj ∷ [])) $ split ! $
         let gh = to-core ν l₈ δ in move ! (5 ∷ 4 ∷ 7 ∷ 8 ∷ 9 ∷ 1 ∷ 2 ∷ 11 ∷ 12 ∷ 13 ∷ []) $ group ! 10 $
         use1 W (raw (Core 𝓤 H A mem run .pre gh)) (goes-core ν l₈ δ (rt .0)) $
@@ -259,12 +259,12 @@ module _ {M : Type 1} (𝓤 : URA M) (H : Heap 𝓤) (A : Atoms 𝓤) (W : Given
         sets ! (agg ! (and-then ! (var ! 22 refl) (and-then ! (load ! (from ! (fld ! refl (stop !))) (look-in ! 55 (sub ! 1 refl (whole !)))) (no-more
         !)))) 20 refl (sized (rt .0)) $ sets ! (addr ! (from ! (stop !))) 18 refl (tt, tt) $
         sets ! (agg ! (and-then ! (var ! 18 refl) (and-then ! (big ! (record { fits = lit< tt })) (no-more !)))) 16 refl (sized (lit< tt)) $
-        lends-shr ! tt u32 (named 1) ws l₈ 0 4096 len roomy (λ μ ε.
-        let gh = to-store 𝓤 H A W mem run κ₁ (μ ∷ []) q₁ fullShare t (under l₈ 0 ws ε) st′ (sliceVal (l₈, 0) 4096) k in
+        lends-shr ! tt u32 (named 1) ws l₈ 0 wordCount len roomy (λ μ ε.
+        let gh = to-store 𝓤 H A W mem run κ₁ (μ ∷ []) q₁ fullShare t (under l₈ 0 ws ε) st′ (sliceVal (l₈, 0) wordCount) k in
         let asks = store-asks ys (lent _ _ _ _) (lent _ _ _ _) r k ek _ _ (ran .outcome) (ran .leaves) len in move ! (16 ∷ 2 ∷ 17 ∷ 0 ∷ []) $
         group ! 4 $
         use1 W (raw (Store 𝓤 H A mem run .pre gh)) (goes-store 𝓤 H A W mem run κ₁ (μ ∷ []) q₁ fullShare t (under l₈ 0 ws ε) st′ (sliceVal (l₈, 0)
-        4096) k (isk .1) asks) $
+        wordCount) k (isk .1) asks) $
         calls-at ! (fmOf 𝓤 H (W .laws) 𝓣) (Store 𝓤 H A mem run) known-store gh (and-then ! (var ! 19 refl) (and-then ! (var ! 15 refl) (and-then !
         (var ! 41 refl) (no-more !)))) (λ w₁₉.
         answers ! tt unit w₁₉ (‵ (flft κ₁ q₁) ⊛ ‵ (flft (μ ∷ []) fullShare) ⊛ ‵ ftrue) (λ (us : List Node × (Unit {0} × (Unit {0} × Unit {0}))). lasts
@@ -272,8 +272,8 @@ module _ {M : Type 1} (𝓤 : URA M) (H : Heap 𝓤) (A : Atoms 𝓤) (W : Given
         result ! 24 refl (unit-typed 𝓤 H A W u w₁₉ isu) $ split ! $ move ! (1 ∷ []) $ split ! $ move ! (3 ∷ []) $ fsplit ! $ move ! (1 ∷ []) $
         fsplit ! $ move ! (1 ∷ []) $ fsplit ! $ move ! (3 ∷ []) $ fsplit ! $ move ! (1 ∷ []) $ feqL ! (λ kT. move ! (4 ∷ 7 ∷ []) $
         ends-shr ! tt u32 ws l₈ 0 $
-        use1 W (some (λ (z : Val). ‵ (fat fullShare (tyArray (tyInt w32) 4096) l₈ 0 z) ⊛ ‵ (Array u32 4096 .own ws (z ∷ [])))) (gather 𝓤 H A W u32 tt
-        4096 ws l₈ len) $ pick ! (λ zW. split ! $ keep ! (span 21 30 ++ (0 ∷ span 51 17 ++ (19 ∷ 7 ∷ 18 ∷ 17 ∷ 15 ∷ 20 ∷ 2 ∷ 10 ∷ 9 ∷ 8 ∷ []))) $
+        use1 W (some (λ (z : Val). ‵ (fat fullShare (tyArray (tyInt w32) wordCount) l₈ 0 z) ⊛ ‵ (Array u32 wordCount .own ws (z ∷ [])))) (gather 𝓤 H A W u32 tt
+        wordCount ws l₈ len) $ pick ! (λ zW. split ! $ keep ! (span 21 30 ++ (0 ∷ span 51 17 ++ (19 ∷ 7 ∷ 18 ∷ 17 ∷ 15 ∷ 20 ∷ 2 ∷ 10 ∷ 9 ∷ 8 ∷ []))) $
         sets ! (of-opd ! (var ! 28 refl)) 46 refl (outcome-typed 𝓤 H A W r v₉ isr) $
         returns ! (look ! 46 refl) $
         frees-all ! (valued _ _ _ ∷ valued _ _ _ ∷ valued _ _ _ ∷ valued _ _ _ ∷ valued _ _ _ ∷ valued _ _ _ ∷ valued _ _ _ ∷ valued _ _ _ ∷ valued _

@@ -22,12 +22,13 @@ use lib.Dec.{T as Holds}
 use lib.WfN.{Nat·lt-wfRel}
 use denote.Struct.Laws as LL
 use Rattle.table.specs.declared.lent.Node.{Node}
+use Rattle.table.specs.Cells.{cellSize}
 use Rattle.table.specs.Lent.{blank, putNode, loaded}
 use Rattle.walks.proofs.While.{tests, whiles}
 use Rattle.walks.proofs.Locals.{sized, var, sets, result}
 use Rattle.walks.proofs.Slots.{lends-row, row-back}
 use Rattle.table.proofs.Copies.{length-loaded}
-use Rattle.entry.proofs.Numbers.{start-fits, next-fits, fits-below, nearer, within, cell-in, one-more}
+use Rattle.entry.proofs.Numbers.{recordBytes, start-fits, next-fits, fits-below, nearer, within, cell-in, one-more}
 use Rattle.table.proofs.lent.Node as T
 use Rattle.table.proofs.lent.Node.Laws as T′
 use Rattle.table.proofs.lent.put as put
@@ -107,13 +108,13 @@ module _ {M : Type 1} (𝓤 : URA M) (H : Heap 𝓤) (A : Atoms 𝓤) (W : Given
 
   one-fits : (i : ℕ) → Fits i → Is T.the-row (f i) (T′.lowered (f i) ∷ []) → Fits (suc i)
   one-fits i fits is =
-      subst Fits (one-more i) (below-more (λ k. SFits w32 (f k .value)) i fits (record { sfits = LL.owed T.the-type T′.the-laws (f i) _ is .1 .1 .1 .1 .0 .1 }))
+      subst Fits (one-more i) (below-more (λ k. SFits w32 (f k .value)) i fits (record { sfits = LL.owed T.the-type T′.the-laws (f i) _ is .1 .1 .1 .1 .1 .1 .0 .1 }))
 
   -- what `put_cell`'s triple binds outside: the cells lent for the lifetime ν, under the name δ, at l
   abbrev to-put : ℕ → GName → List ℕ → ℕ → Node → Put 𝓤 H A mem run .Ghost
   to-put ν δ l i d = (((ν ∷ [], tt), (fullShare, tt), tt, (c δ l, (i, (d, tt))), (sc ∷ [], (vint w64 i ∷ [], (T′.lowered d ∷ [], tt)))), tt)
 
-  goes-put : (ν : ℕ) (δ : GName) (l : List ℕ) (i : ℕ) (d : Node) → i < 2 ^ 64 → Is T.the-row d (T′.lowered d ∷ []) → 8 * i + 8 ≤ length l
+  goes-put : (ν : ℕ) (δ : GName) (l : List ℕ) (i : ℕ) (d : Node) → i < 2 ^ 64 → Is T.the-row d (T′.lowered d ∷ []) → cellSize * i + cellSize ≤ length l
       → ent 𝓤 (sep 𝓤 (A .lft (ν ∷ []) fullShare) (sem 𝓤 H A (MutSlice (named 0) (ν ∷ []) u32 .own (c δ l) (sc
       ∷ [])))) (Put 𝓤 H A mem run .pre (to-put ν δ l i d))
   goes-put ν δ l i d i-fits isd inside =
@@ -157,7 +158,7 @@ module _ {M : Type 1} (𝓤 : URA M) (H : Heap 𝓤) (A : Atoms 𝓤) (W : Given
         ∷ ‵ (fat fullShare cells-ty l₂ 0 sc) ∷ ‵ (fdies cells-ty l₂) ∷ ‵ (fat fullShare nodes-ty l₁ 0 s) ∷ ‵ (fdies nodes-ty l₁)
         ∷ ‵ (froom tyUnit l₀ 0) ∷ ‵ (fdies tyUnit l₀) ∷ []
 
-    walk : Room T.the-row (length ys) → Room u32 (length cs) → (n ≤ length ys) × (8 * n ≤ length cs)
+    walk : Room T.the-row (length ys) → Room u32 (length cs) → (n ≤ length ys) × (cellSize * n ≤ length cs)
         → ent 𝓤 (onEntry 𝓤 H A load′.signature (κ, (κ′, tt)) (q, (q′, tt)) a vals) (WpFn 𝓤 H (𝓣 .C) (𝓣 .Λ) code.function (s ∷ sc ∷ vint w64 n ∷ []) Post)
     walk room rc long =
         qed W ((‵ (flft κ q) ⊛ ‵ (flft κ′ q′) ⊛ ‵ ftrue) ∷ ‵ (owns (ShrSlice (named 0) κ T.the-row ∷ MutSlice (named 1) κ′ u32 ∷ usize ∷ []) a vals)
@@ -196,7 +197,7 @@ module _ {M : Type 1} (𝓤 : URA M) (H : Heap 𝓤) (A : Atoms 𝓤) (W : Given
           },
         ) $
         sets ! (bin ! (load ! (from ! (fld ! refl (stop !))) (look-in ! 28 (sub ! 0 refl (whole !)))) (var ! 12 refl) tt) 10 refl (tt, tt) $
-        rewrite ! 10 (λ (z : ℕ). ‵ (fat fullShare tyPtr l₁₀ 0 (vptr b z))) (sym (place-is 24 o (i .0))) refl $
+        rewrite ! 10 (λ (z : ℕ). ‵ (fat fullShare tyPtr l₁₀ 0 (vptr b z))) (sym (place-is recordBytes o (i .0))) refl $
         elem-out ! T.the-row (Is T.the-row) (shows 𝓤 H A T.the-row) (LL.vals T.the-type T′.the-laws) (LL.tells T.the-type T′.the-laws) p ys (i .0)
         blank b o h′ (λ isd.
         sets ! (of-opd ! (load ! (from ! (hop ! (look ! 12 refl) (stop !))) (look-raw ! 0 refl))) 10 refl (LL.lawful T.the-type T′.the-laws 𝓤 H A W
@@ -210,7 +211,7 @@ module _ {M : Type 1} (𝓤 : URA M) (H : Heap 𝓤) (A : Atoms 𝓤) (W : Given
         rewrite ! 0 (λ (m : ℕ). ‵ (MutSlice (named 0) (ν ∷ []) u32 .own (c δ l) (sliceVal (b′, o′) m ∷ []))) el refl $
         -- [the slice; the lender's part; the token of ν; t's row; what shuts it; the fractured borrow; res; the open borrow; obs; auth; _11; …]
         move ! (2 ∷ 0 ∷ []) $ use2 W (raw (Put 𝓤 H A mem run .pre (to-put ν δ l (i .0) (f (i .0))))) (goes-put ν δ l (i .0) (f (i .0)) (fits-below (i
-        .0) n h n-fits) isd (subst (λ (m : ℕ). 8 * i .0 + 8 ≤ m) (sym el) (cell-in (i .0) n h _ (long .1)))) $
+        .0) n h n-fits) isd (subst (λ (m : ℕ). cellSize * i .0 + cellSize ≤ m) (sym el) (cell-in (i .0) n h _ (long .1)))) $
         calls-at ! (fmOf 𝓤 H (W .laws) 𝓣) (Put 𝓤 H A mem run) known (to-put ν δ l (i .0) (f (i .0))) (and-then ! (var ! 15 refl) (and-then ! (var !
         23 refl) (and-then ! (var ! 9 refl) (no-more !)))) (λ w.
         use1 W (later (some (λ (u : Unit {0}). ((‵ (flft (ν ∷ []) fullShare) ⊛ ‵ ftrue) ⊛ ‵ (unit .own u (w ∷ [])))
@@ -258,7 +259,7 @@ module _ {M : Type 1} (𝓤 : URA M) (H : Heap 𝓤) (A : Atoms 𝓤) (W : Given
   load-walks = walked 𝓤 H A load′.ended stayed (load′.clauses 𝓤 H A mem run) (WpFn 𝓤 H (𝓣 .C) (𝓣 .Λ) code.function)
       (λ κs. (slice-vals, (slice-vals, (uint-vals w64, tt))))
       (λ κs. (shr-slice-tells (named 0) (κs .0) T.the-row, (mut-slice-tells (named 1) (κs .1 .0) u32, (uint-tells w64, tt))))
-      (λ κs qs bounds a g are. needs 𝓤 ((a .1 .1 .0 ≤ length (a .0 .now)) × (8 * a .1 .1 .0 ≤ length (a .1 .0 .now))) _ (λ long.
+      (λ κs qs bounds a g are. needs 𝓤 ((a .1 .1 .0 ≤ length (a .0 .now)) × (cellSize * a .1 .1 .0 ≤ length (a .1 .0 .now))) _ (λ long.
       walk 𝓤 H A W mem run (κs .0) (κs .1 .0) (qs .0) (qs .1 .0) (a .0 .ptr .0) (a .0 .ptr .1) (a .0 .name) (a .0 .now) (a .1 .0 .ptr .0) (a .1 .0
       .ptr .1) (a .1 .0 .name) (a .1 .0 .now) (a .1 .1 .0) (are .1 .1 .0 .1) 𝓣 known (are .0 .0 .1) (are .1 .0 .0 .1) long))
 

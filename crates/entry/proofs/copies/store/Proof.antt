@@ -16,12 +16,12 @@ use Rattle.walks.proofs.Walk.{tripleOf, entered, cited, says, needs, Stays, sta
 use Rattle.walks.proofs.Walk.{ends-at, walked, walk-meets, ensured, lasts, yes}
 use denote.Struct.Laws as LL
 use Rattle.table.specs.declared.lent.Node.{Node}
-use Rattle.table.specs.Cells.{cells}
+use Rattle.table.specs.Cells.{cellSize, cells}
 use Rattle.table.specs.Lent.{blank, nodeOf, stored}
 use Rattle.walks.proofs.While.{Upto, Nearer, nearer-wf, tests, whiles}
 use Rattle.table.proofs.Copies.{length-stored}
 use Rattle.walks.proofs.Locals.{sized, var, sets, result}
-use Rattle.entry.proofs.Numbers.{start-fits, next-fits, fits-below, nearer, within, cell-in, one-more}
+use Rattle.entry.proofs.Numbers.{recordBytes, start-fits, next-fits, fits-below, nearer, within, cell-in, one-more}
 use Rattle.table.proofs.lent.Node as T
 use Rattle.table.proofs.lent.Node.Laws as T′
 use Rattle.table.proofs.lent.node_of as of′
@@ -82,7 +82,7 @@ module _ {M : Type 1} (𝓤 : URA M) (H : Heap 𝓤) (A : Atoms 𝓤) (W : Given
   abbrev to-of : ℕ → Of 𝓤 H A mem run .Ghost
   to-of i = (((κ′, tt), (q′, tt), tt, (cs, (i, tt)), (sc ∷ [], (vint w64 i ∷ [], tt))), tt)
 
-  goes-of : (i : ℕ) → i < 2 ^ 64 → 8 * i + 8 ≤ length (cs .now) → ent 𝓤 (sep 𝓤 (A .lft κ′ q′) (sem 𝓤 H A C)) (Of 𝓤 H A mem run .pre (to-of i))
+  goes-of : (i : ℕ) → i < 2 ^ 64 → cellSize * i + cellSize ≤ length (cs .now) → ent 𝓤 (sep 𝓤 (A .lft κ′ q′) (sem 𝓤 H A C)) (Of 𝓤 H A mem run .pre (to-of i))
   goes-of i i-fits inside =
       qed W (‵ (flft κ′ q′) ∷ ‵ C ∷ []) ∵ says ! inside $ nothing ! $ move ! (1 ∷ 0 ∷ []) $ join ! $ frame ! $ nothing ! $
       owned ! usize (Is usize) (uint-makes 𝓤 H A W w64) i _ (refl, i-fits) $ fjoin ! $ move ! (1 ∷ 0 ∷ []) $ fjoin ! $ done !
@@ -121,7 +121,7 @@ module _ {M : Type 1} (𝓤 : URA M) (H : Heap 𝓤) (A : Atoms 𝓤) (W : Given
         ∷ ‵ (fat fullShare cells-ty l₂ 0 sc) ∷ ‵ (fdies cells-ty l₂) ∷ ‵ (fat fullShare nodes-ty l₁ 0 s) ∷ ‵ (fdies nodes-ty l₁)
         ∷ ‵ (froom tyUnit l₀ 0) ∷ ‵ (fdies tyUnit l₀) ∷ []
 
-    walk : Room T.the-row (length ys) → Room u32 (length (cs .now)) → (n ≤ length ys) × (8 * n ≤ length (cs .now))
+    walk : Room T.the-row (length ys) → Room u32 (length (cs .now)) → (n ≤ length ys) × (cellSize * n ≤ length (cs .now))
         → ent 𝓤 (onEntry 𝓤 H A store′.signature (κ, (κ′, tt)) (q, (q′, tt)) a vals) (WpFn 𝓤 H (𝓣 .C) (𝓣 .Λ) code.function (s ∷ sc ∷ vint w64 n
         ∷ []) Post)
     walk room rc long =
@@ -163,7 +163,7 @@ module _ {M : Type 1} (𝓤 : URA M) (H : Heap 𝓤) (A : Atoms 𝓤) (W : Given
           },
         ) $
         sets ! (bin ! (load ! (from ! (fld ! refl (stop !))) (look-in ! 21 (sub ! 0 refl (whole !)))) (var ! 9 refl) tt) 7 refl (tt, tt) $
-        rewrite ! 7 (λ (p : ℕ). ‵ (fat fullShare tyPtr l₈ 0 (vptr b p))) (sym (place-is 24 o (i .0))) refl $
+        rewrite ! 7 (λ (p : ℕ). ‵ (fat fullShare tyPtr l₈ 0 (vptr b p))) (sym (place-is recordBytes o (i .0))) refl $
         move ! (3 ∷ []) $ elem-out ! T.the-row (Is T.the-row) (shows 𝓤 H A T.the-row) (LL.vals T.the-type T′.the-laws) (LL.tells T.the-type
         T′.the-laws) fullShare (stored (cs .now) (i .0) ys) (i .0) blank b o in-row (λ _.
         -- [t[i]; what it owns; the others; what r owns; the second token, true; the cells; the open borrow; obs; auth; _8; …]
@@ -199,7 +199,7 @@ module _ {M : Type 1} (𝓤 : URA M) (H : Heap 𝓤) (A : Atoms 𝓤) (W : Given
   store-walks = walked 𝓤 H A store′.ended stayed (store′.clauses 𝓤 H A mem run) (WpFn 𝓤 H (𝓣 .C) (𝓣 .Λ) code.function)
       (λ κs. (slice-vals, (slice-vals, (uint-vals w64, tt))))
       (λ κs. (mut-slice-tells (named 0) (κs .0) T.the-row, (shr-slice-tells (named 1) (κs .1 .0) u32, (uint-tells w64, tt))))
-      (λ κs qs bounds a g are. needs 𝓤 ((a .1 .1 .0 ≤ length (a .0 .now)) × (8 * a .1 .1 .0 ≤ length (a .1 .0 .now))) _ (λ long.
+      (λ κs qs bounds a g are. needs 𝓤 ((a .1 .1 .0 ≤ length (a .0 .now)) × (cellSize * a .1 .1 .0 ≤ length (a .1 .0 .now))) _ (λ long.
       walk 𝓤 H A W mem run (κs .0) (κs .1 .0) (qs .0) (qs .1 .0) (a .0 .ptr .0) (a .0 .ptr .1) (a .0 .name) (a .0 .now) (a .1 .0) (a .1 .1 .0) (are
       .1 .1 .0 .1) 𝓣 known (are .0 .0 .1) (are .1 .0 .0 .1) long))
 

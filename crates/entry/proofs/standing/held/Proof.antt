@@ -29,7 +29,7 @@ use Rattle.table.specs.Lent.{blank}
 use Rattle.table.specs.Stands.{start, Asked, Ready, Rooms, Turned}
 use Rattle.table.proofs.Walking.{turns}
 use Rattle.entry.specs.Records.{Unmarked}
-use Rattle.entry.proofs.Numbers.{start-fits, span}
+use Rattle.entry.proofs.Numbers.{recordBytes, start-fits, span}
 use Rattle.entry.proofs.Surveying.{Point, is-record, first, ready, next, nearer-end, last}
 use Rattle.walks.proofs.Locals.{sized, var, sets, result, valued, vacant, frees-all}
 use Rattle.walks.proofs.Slots.{gather, repeats}
@@ -285,7 +285,7 @@ module _ {M : Type 1} (𝓤 : URA M) (H : Heap 𝓤) (A : Atoms 𝓤) (W : Given
           },
         ) $
         sets ! (bin ! (load ! (from ! (fld ! refl (stop !))) (look-in ! 42 (sub ! 0 refl (whole !)))) (var ! 26 refl) tt) 24 refl (tt, tt) $
-        rewrite ! 24 (λ (z : ℕ). ‵ (fat fullShare tyPtr l₁₁ 0 (vptr b z))) (sym (place-is 24 o (p .x))) refl $
+        rewrite ! 24 (λ (z : ℕ). ‵ (fat fullShare tyPtr l₁₁ 0 (vptr b z))) (sym (place-is recordBytes o (p .x))) refl $
         elem-out ! T.the-row (Is T.the-row) (shows 𝓤 H A T.the-row) (LL.vals T.the-type T′.the-laws) (LL.tells T.the-type T′.the-laws) u ys (p .x)
         blank b o h′ (λ isd.
         sets ! (of-opd ! (load ! (from ! (hop ! (look ! 26 refl) (stop !))) (look-raw ! 0 refl))) 24 refl (LL.lawful T.the-type T′.the-laws 𝓤 H A W
