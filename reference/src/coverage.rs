@@ -33,6 +33,8 @@ struct Steps {
     deepest: u64,
     /// Public variables that took a number at a cursor level of 1.
     counted_under_cover: u64,
+    /// Last children of existence 0 below a list of level 1.
+    public_lasts: u64,
     /// The command that opened each open block, and where the cursor was.
     open: Vec<(u8, Path)>,
     /// Ifs that come back: inside another, inside a while, back to a node that
@@ -160,6 +162,7 @@ impl Coverage {
         }
         self.count_all(String::from(DEEPEST), steps.deepest);
         self.count_all(String::from(COUNTED), steps.counted_under_cover);
+        self.count_all(String::from(PUBLIC_LAST), steps.public_lasts);
         self.count_all(String::from(BACK_IN_BACK), steps.back_in_back);
         self.count_all(String::from(BACK_IN_WHILE), steps.back_in_while);
         self.count_all(String::from(BACK_ELSEWHERE), steps.back_elsewhere);
@@ -242,6 +245,11 @@ impl Steps {
             let (level, _) = state.variables[usize::from(record.target)];
             self.counted_under_cover += (level == PUBLIC) as u64;
         }
+        if record.command == command::LAST_CHILD {
+            let (_, above) = state.cursor.split_last().expect("a child");
+            let public = state.tree.at(&state.cursor).existence == PUBLIC;
+            self.public_lasts += (public && state.tree.at(above).list == HOUSE) as u64;
+        }
         let new_node = match (record.command, state.cursor.split_last()) {
             (command::NEW_FIRST_CHILD, _) => &state.tree.at(&state.cursor).children[0],
             (command::NEW_RIGHT_SIBLING, Some((place, above))) => {
@@ -288,6 +296,9 @@ const DEEPEST: &str = "run with 16 open blocks";
 
 /// a public counter steps while the cursor is covered.
 const COUNTED: &str = "public variable assigned at cursor level 1";
+
+/// the list level counts where no house child stands.
+const PUBLIC_LAST: &str = "last child of existence 0 below a list of level 1";
 
 /// R-6, ifs that come back.
 const BACK_IN_BACK: &str = "if that comes back inside another";
@@ -460,7 +471,7 @@ pub fn wanted_of_histories() -> Vec<String> {
 /// Everything that a generator must reach: all commands at all levels that they
 /// can leave, all operators with all kinds, all endings of a job but 26, every stop at
 /// every command that can give it, every reason for 7, 8 and 12, long runs, sixteen
-/// open blocks, counting under cover, ifs that come back inside others, inside
+/// open blocks, counting under cover, last children of a house list, ifs that come back inside others, inside
 /// loops and to where much has changed, and nodes of all five combinations of levels.
 pub fn wanted() -> Vec<String> {
     let mut names = Vec::new();
@@ -470,8 +481,11 @@ pub fn wanted() -> Vec<String> {
     names.extend(Ending::ALL.into_iter().filter(reachable).map(ending_name));
     names.extend(LONG_RUNS.map(length_name));
     let stops: [(Ending, &[u8]); 5] = [
-        (Ending::Rule, &[1, 6, 7, 8, 9, 10, 11, 12, 13, 14, 15, 16]),
-        (Ending::Missing, &[5, 8, 9, 10, 12, 13, 14]),
+        (
+            Ending::Rule,
+            &[1, 6, 7, 8, 9, 10, 11, 12, 13, 14, 15, 16, 18, 19],
+        ),
+        (Ending::Missing, &[5, 8, 9, 10, 12, 13, 14, 18, 19]),
         (Ending::TableFull, &[11, 12]),
         (Ending::LinesFull, &[6]),
         (Ending::OutOfRange, &[1, 2, 4, 6, 11, 12, 15, 17]),
@@ -493,6 +507,7 @@ pub fn wanted() -> Vec<String> {
     names.extend(SPARE.map(spare_name));
     names.push(String::from(DEEPEST));
     names.push(String::from(COUNTED));
+    names.push(String::from(PUBLIC_LAST));
     let back = [BACK_IN_BACK, BACK_IN_WHILE, BACK_ELSEWHERE, PLACE_TAKEN];
     names.extend(back.map(String::from));
     names.extend(wanted_levels());
@@ -513,7 +528,11 @@ fn wanted_levels() -> Vec<String> {
         command::PRINT => context == PUBLIC,
         command::ROOT => context == cursor,
         command::COVER => cursor == HOUSE,
-        command::UP | command::FIRST_CHILD | command::RIGHT_SIBLING => context <= cursor,
+        command::UP
+        | command::FIRST_CHILD
+        | command::RIGHT_SIBLING
+        | command::LEFT_SIBLING
+        | command::LAST_CHILD => context <= cursor,
         // The context has joined it.
         command::IF_BACK => context <= cursor,
         _ => true,

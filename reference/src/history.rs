@@ -111,7 +111,8 @@ pub struct Entry {
 
 /// "What 0 to 7 sets a field of a node record (first, right, parent, children,
 /// value, existence, content, list [...]), 8 a variable's level, 9 a variable's
-/// value, 10 how many variables are lent (at most 65)."
+/// value, 10 how many variables are lent (at most 65)."; "a request that adds a
+/// field to the record adds its number from 16 on", which R-7 does.
 pub mod what {
     pub const FIRST: u16 = 0;
     pub const RIGHT: u16 = 1;
@@ -124,6 +125,13 @@ pub mod what {
     pub const VARIABLE_LEVEL: u16 = 8;
     pub const VARIABLE_VALUE: u16 = 9;
     pub const VARIABLES: u16 = 10;
+    pub const LEFT: u16 = 16;
+    pub const LAST: u16 = 17;
+
+    /// Whether it is a field of a node record.
+    pub fn of_node(what: u16) -> bool {
+        what <= LIST || what == LEFT || what == LAST
+    }
 }
 
 impl Entry {
@@ -153,22 +161,20 @@ impl Entry {
     }
 
     /// Those that make `record` the record at `place`.
-    pub fn of_record(place: usize, record: &Lent) -> [Entry; 8] {
-        let fields = [
-            record.first,
-            record.right,
-            record.parent,
-            record.children,
-            record.value as u32,
-            u32::from(record.existence),
-            u32::from(record.content),
-            u32::from(record.list),
-        ];
-        let mut what = 0;
-        fields.map(|value| {
-            what += 1;
-            Entry::new(what - 1, place, value)
-        })
+    pub fn of_record(place: usize, record: &Lent) -> [Entry; 10] {
+        [
+            (what::FIRST, record.first),
+            (what::RIGHT, record.right),
+            (what::PARENT, record.parent),
+            (what::CHILDREN, record.children),
+            (what::VALUE, record.value as u32),
+            (what::EXISTENCE, u32::from(record.existence)),
+            (what::CONTENT, u32::from(record.content)),
+            (what::LIST, u32::from(record.list)),
+            (what::LEFT, record.left),
+            (what::LAST, record.last),
+        ]
+        .map(|(what, value)| Entry::new(what, place, value))
     }
 }
 
@@ -226,6 +232,8 @@ impl Held {
             what::EXISTENCE => record.existence = value as u8,
             what::CONTENT => record.content = value as u8,
             what::LIST => record.list = value as u8,
+            what::LEFT => record.left = value,
+            what::LAST => record.last = value,
             _ => {}
         }
     }
@@ -339,7 +347,7 @@ impl Model {
 
     fn poke(&mut self, body: &[u8]) -> Expected {
         let entries = Entry::all(body);
-        let at_nodes = entries.iter().any(|entry| entry.what <= what::LIST);
+        let at_nodes = entries.iter().any(|entry| what::of_node(entry.what));
         if self.hidden.is_some() && at_nodes {
             return Expected::Open;
         }
@@ -394,6 +402,8 @@ pub const ROOT: Lent = Lent {
     existence: 0,
     content: 0,
     list: 0,
+    left: NO_LINK,
+    last: NO_LINK,
 };
 
 /// Puts a tree into `table`, its nodes in preorder at the places given, the
@@ -402,17 +412,17 @@ pub fn store(tree: &Tree, places: &[usize], table: &mut [Lent]) {
     store_below(tree, NO_LINK, NO_LINK, &mut places.iter().copied(), table);
 }
 
-/// Gives the place of the node.
+/// Gives the place of the node, which has no right sibling yet.
 fn store_below(
     tree: &Tree,
     parent: u32,
-    right: u32,
+    left: u32,
     places: &mut dyn Iterator<Item = usize>,
     table: &mut [Lent],
 ) -> u32 {
     let place = places.next().expect("a place for each node");
     table[place] = Lent {
-        right,
+        right: NO_LINK,
         parent,
         children: tree.children.len() as u32,
         value: tree.value,
@@ -420,15 +430,18 @@ fn store_below(
         content: tree.content,
         list: tree.list,
         first: NO_LINK,
+        left,
+        last: NO_LINK,
     };
-    let mut left: Option<u32> = None;
+    let mut last = NO_LINK;
     for child in &tree.children {
-        let at = store_below(child, place as u32, NO_LINK, places, table);
-        match left {
-            None => table[place].first = at,
-            Some(left) => table[left as usize].right = at,
+        let at = store_below(child, place as u32, last, places, table);
+        match last {
+            NO_LINK => table[place].first = at,
+            left => table[left as usize].right = at,
         }
-        left = Some(at);
+        last = at;
     }
+    table[place].last = last;
     place as u32
 }

@@ -40,7 +40,10 @@ pub mod command {
     pub const COVER: u8 = 16;
     /// An if that comes back (R-6).
     pub const IF_BACK: u8 = 17;
-    pub const COUNT: usize = 18;
+    /// The later moves (R-7).
+    pub const LEFT_SIBLING: u8 = 18;
+    pub const LAST_CHILD: u8 = 19;
+    pub const COUNT: usize = 20;
     /// Before R-6.
     pub const FIRST_COUNT: usize = 17;
 }
@@ -139,7 +142,8 @@ const fn reads(target: Target, expression: bool) -> Reads {
 
 /// "One fixed table of seventeen rows says which fields each command reads;
 /// the others are ignored." "Commands 1, 2, 4, 6, 11, 12 and 15 read an
-/// expression." Command 17 is "an if", and reads what an if reads.
+/// expression." Command 17 is "an if", and reads what an if reads; 18 and 19 are
+/// moves, and read nothing.
 pub const READS: [Reads; command::COUNT] = [
     reads(Target::Ignored, false),
     reads(Target::Variable, true),
@@ -159,6 +163,8 @@ pub const READS: [Reads; command::COUNT] = [
     reads(Target::Ignored, true),
     reads(Target::Ignored, false),
     reads(Target::Ignored, true),
+    reads(Target::Ignored, false),
+    reads(Target::Ignored, false),
 ];
 
 /// The job in `bytes`, or the first check that turns it back.
@@ -175,7 +181,7 @@ pub fn decode_with(bytes: &[u8], mistake: Mistake) -> Result<Job, Refusal> {
 }
 
 /// The job in `bytes` by the rules before R-4: its spare bytes hold anything,
-/// and there is no command 17.
+/// and there is no command from 17 on.
 pub fn decode_first(bytes: &[u8], mistake: Mistake) -> Result<Job, Refusal> {
     let job = decode_fields(bytes, command::FIRST_COUNT, mistake)?;
     check_blocks(&job.script, mistake)?;

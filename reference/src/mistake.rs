@@ -77,6 +77,15 @@ pub enum Mistake {
     BackGoesOn,
     /// There is no else for it.
     BackHasNoElse,
+    // The later moves.
+    /// Command 19 joins the existence of the last child in place of the list level.
+    LastJoinsExistence,
+    /// Command 19 joins nothing.
+    LastJoinsNothing,
+    /// Command 19 goes to the first child.
+    LastIsFirst,
+    /// Command 18 goes up from a first child.
+    LeftOfFirstIsUp,
     /// The rule of this command is not tested.
     NoRule(u8),
     // Checks of the bytes.
@@ -119,6 +128,12 @@ pub enum Mistake {
     LentParentUnchecked,
     /// A count of children is not looked at.
     LentCountUnchecked,
+    /// A link to the left sibling is not looked at.
+    LentLeftUnchecked,
+    /// A link to the last child is not looked at.
+    LentLastUnchecked,
+    /// A free place with a link to the left that is no place is 11.
+    FreeLeftChecked,
     /// The tree rules are not looked at.
     LentRulesUnchecked,
     /// A link that is no place is no link.
@@ -130,11 +145,11 @@ pub enum Mistake {
 }
 
 /// The commands that have a rule.
-pub const RULED_COMMANDS: [u8; 12] = [1, 6, 7, 8, 9, 10, 11, 12, 13, 14, 15, 16];
+pub const RULED_COMMANDS: [u8; 14] = [1, 6, 7, 8, 9, 10, 11, 12, 13, 14, 15, 16, 18, 19];
 
 impl Mistake {
     /// Every mistake that a job shows, without `None` and `NoRule`.
-    pub const ALL: [Mistake; 41] = [
+    pub const ALL: [Mistake; 45] = [
         Mistake::MoveRaisesCursorLevel,
         Mistake::ChildrenLevelFromChildren,
         Mistake::RootResetsCursorLevel,
@@ -170,6 +185,10 @@ impl Mistake {
         Mistake::BackToThePlace,
         Mistake::BackGoesOn,
         Mistake::BackHasNoElse,
+        Mistake::LastJoinsExistence,
+        Mistake::LastJoinsNothing,
+        Mistake::LastIsFirst,
+        Mistake::LeftOfFirstIsUp,
         Mistake::LeftIsPreviousRecord,
         Mistake::RightSideAlwaysChecked,
         Mistake::SeventeenBlocksAccepted,
@@ -186,7 +205,7 @@ impl Mistake {
     ];
 
     /// The mistakes that only a follow-on script shows.
-    pub const FOLLOWING: [Mistake; 14] = [
+    pub const FOLLOWING: [Mistake; 17] = [
         Mistake::CursorStays,
         Mistake::StopTakenBack,
         Mistake::BudgetBeforeStanding,
@@ -197,6 +216,9 @@ impl Mistake {
         Mistake::RootSiblingAccepted,
         Mistake::LentParentUnchecked,
         Mistake::LentCountUnchecked,
+        Mistake::LentLeftUnchecked,
+        Mistake::LentLastUnchecked,
+        Mistake::FreeLeftChecked,
         Mistake::LentRulesUnchecked,
         Mistake::LinkOutsideIsNone,
         Mistake::FreePlacesChecked,
@@ -208,7 +230,7 @@ impl Mistake {
 
     /// The mistakes by which public lines come to depend on house parts of an
     /// accepted job.
-    pub const LEAKING: [Mistake; 12] = [
+    pub const LEAKING: [Mistake; 14] = [
         Mistake::MoveRaisesCursorLevel,
         Mistake::ChildrenLevelFromChildren,
         Mistake::RootResetsCursorLevel,
@@ -221,5 +243,7 @@ impl Mistake {
         Mistake::SettingForgetsCursorLevel,
         Mistake::BackLevelAlone,
         Mistake::BackResetsLevel,
+        Mistake::LastJoinsExistence,
+        Mistake::LastJoinsNothing,
     ];
 }

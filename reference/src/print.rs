@@ -187,6 +187,8 @@ const COMMAND_NAMES: [&str; command::COUNT] = [
     "set value",
     "cover",
     "if and come back",
+    "left sibling",
+    "last child",
 ];
 
 fn expression(record: &Record) -> String {

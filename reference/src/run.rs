@@ -330,9 +330,11 @@ impl<'a> Monitor<'a> {
             command::END => return self.close(),
             command::PRINT => self.print(record)?,
             command::ROOT => self.go_to_root()?,
-            command::UP | command::FIRST_CHILD | command::RIGHT_SIBLING => {
-                self.go_to_neighbour(record)?
-            }
+            command::UP
+            | command::FIRST_CHILD
+            | command::RIGHT_SIBLING
+            | command::LEFT_SIBLING
+            | command::LAST_CHILD => self.go_to_neighbour(record)?,
             command::NEW_FIRST_CHILD => self.new_first_child(record)?,
             command::NEW_RIGHT_SIBLING => self.new_right_sibling(record)?,
             command::REMOVE_FIRST_CHILD => self.remove_first_child()?,
@@ -515,7 +517,7 @@ impl<'a> Monitor<'a> {
         Ok(())
     }
 
-    /// The rule of 7 to 10 and 16: "context not above cursor level".
+    /// The rule of 7 to 10, 16, 18 and 19: "context not above cursor level".
     fn move_rule(&self) -> Result<(), Ending> {
         self.rule(self.context() <= self.state.cursor_level)
     }
@@ -534,7 +536,9 @@ impl<'a> Monitor<'a> {
     }
 
     /// Commands 8, 9, 10: "cursor level joins the new node's existence"; 22
-    /// before 21.
+    /// before 21. "Command 18 moves to the left sibling and joins its existence to
+    /// the cursor level. Command 19 moves to the last child and joins the parent's
+    /// list level, because a house child may stand last in one run only."
     fn go_to_neighbour(&mut self, record: &Record) -> Result<(), Ending> {
         if self.mistake == Mistake::RuleBeforeMissing {
             self.move_rule()?;
@@ -542,6 +546,8 @@ impl<'a> Monitor<'a> {
         let destination = match record.command {
             command::UP => self.up(),
             command::FIRST_CHILD => self.first_child(),
+            command::LEFT_SIBLING => self.left_sibling(),
+            command::LAST_CHILD => self.last_child(),
             _ => self.right_sibling(),
         }
         .ok_or(Ending::Missing)?;
@@ -550,8 +556,14 @@ impl<'a> Monitor<'a> {
         }
         self.move_rule()?;
         let existence = self.state.tree.at(&destination).existence;
+        let joined = match (record.command, self.mistake) {
+            (command::LAST_CHILD, Mistake::LastJoinsExistence) => existence,
+            (command::LAST_CHILD, Mistake::LastJoinsNothing) => PUBLIC,
+            (command::LAST_CHILD, _) => self.working_node().list,
+            _ => existence,
+        };
         self.state.cursor = destination;
-        self.state.cursor_level = join(self.state.cursor_level, existence);
+        self.state.cursor_level = join(self.state.cursor_level, joined);
         Ok(())
     }
 
@@ -564,6 +576,28 @@ impl<'a> Monitor<'a> {
         self.working_node().children.first()?;
         let mut path = self.state.cursor.clone();
         path.push(0);
+        Some(path)
+    }
+
+    fn left_sibling(&self) -> Option<Path> {
+        let (&place, above) = self.state.cursor.split_last()?;
+        let mut path = above.to_vec();
+        match (place.checked_sub(1), self.mistake) {
+            (Some(left), _) => path.push(left),
+            // The parent of a first child.
+            (None, Mistake::LeftOfFirstIsUp) => {}
+            (None, _) => return None,
+        }
+        Some(path)
+    }
+
+    fn last_child(&self) -> Option<Path> {
+        let last = self.working_node().children.len().checked_sub(1)?;
+        let mut path = self.state.cursor.clone();
+        path.push(match self.mistake {
+            Mistake::LastIsFirst => 0,
+            _ => last,
+        });
         Some(path)
     }
 

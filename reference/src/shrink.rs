@@ -253,13 +253,16 @@ fn simpler_records(record: &Record) -> Vec<Record> {
         record.command,
         command::IF | command::WHILE | command::IF_BACK
     );
-    // An if that comes back is simpler as an if.
-    if record.command == command::IF_BACK {
-        simpler.push(Record {
-            command: command::IF,
-            ..*record
-        });
-    }
+    // An if that comes back is simpler as an if, and what is done to the first child
+    // needs no move before.
+    let plainer = match record.command {
+        command::IF_BACK => Some(command::IF),
+        command::NEW_RIGHT_SIBLING => Some(command::NEW_FIRST_CHILD),
+        command::REMOVE_RIGHT_SIBLING => Some(command::REMOVE_FIRST_CHILD),
+        command::LAST_CHILD => Some(command::FIRST_CHILD),
+        _ => None,
+    };
+    simpler.extend(plainer.map(|command| Record { command, ..*record }));
     if !opens && !matches!(record.command, command::ELSE | command::END) {
         simpler.push(Record {
             command: command::NOTHING,

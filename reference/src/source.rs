@@ -181,6 +181,14 @@ pub fn right_sibling() -> Record {
     bare(command::RIGHT_SIBLING)
 }
 
+pub fn left_sibling() -> Record {
+    bare(command::LEFT_SIBLING)
+}
+
+pub fn last_child() -> Record {
+    bare(command::LAST_CHILD)
+}
+
 pub fn new_first_child(mark: u8, expression: impl Into<Expression>) -> Record {
     with(command::NEW_FIRST_CHILD, mark, expression)
 }

@@ -21,6 +21,9 @@ pub struct Lent {
     pub existence: u8,
     pub content: u8,
     pub list: u8,
+    /// The left sibling and the last child.
+    pub left: u32,
+    pub last: u32,
 }
 
 /// Why what is lent is turned away with 11.
@@ -46,6 +49,10 @@ pub enum Fault {
     Parent,
     /// A wrong count of children.
     Count,
+    /// A node whose left sibling is another.
+    Left,
+    /// A node whose last child is another.
+    Last,
     RootParent,
     RootSibling,
     /// More than 512 live nodes.
@@ -57,7 +64,7 @@ pub enum Fault {
 }
 
 impl Fault {
-    pub const ALL: [Fault; 15] = [
+    pub const ALL: [Fault; 17] = [
         Fault::PartRecord,
         Fault::TooManyRecords,
         Fault::TooManyVariables,
@@ -68,6 +75,8 @@ impl Fault {
         Fault::Shared,
         Fault::Parent,
         Fault::Count,
+        Fault::Left,
+        Fault::Last,
         Fault::RootParent,
         Fault::RootSibling,
         Fault::TooManyNodes,
@@ -91,9 +100,12 @@ pub fn tree(table: &[Lent], mistake: Mistake) -> Result<Tree, Fault> {
     if root.right != NO_LINK && mistake != Mistake::RootSiblingAccepted {
         return Err(Fault::RootSibling);
     }
-    let (tree, _) = reader.subtree(0, NO_LINK)?;
-    if mistake == Mistake::FreePlacesChecked && reader.free_place_is_faulty() {
+    let (tree, _) = reader.subtree(0, NO_LINK, NO_LINK)?;
+    if mistake == Mistake::FreePlacesChecked && reader.free_place_is_faulty(|record| record.first) {
         return Err(Fault::Link);
+    }
+    if mistake == Mistake::FreeLeftChecked && reader.free_place_is_faulty(|record| record.left) {
+        return Err(Fault::Left);
     }
     if tree.has_level_above_1() {
         return Err(Fault::Level);
@@ -121,8 +133,9 @@ struct Reader<'a> {
 }
 
 impl Reader<'_> {
-    /// The subtree at `place`, below `parent`, and the link to its right.
-    fn subtree(&mut self, place: u32, parent: u32) -> Result<(Tree, u32), Fault> {
+    /// The subtree at `place`, below `parent` and right of `left`, and the link to
+    /// its right.
+    fn subtree(&mut self, place: u32, parent: u32, left: u32) -> Result<(Tree, u32), Fault> {
         let record = *self.table.get(place as usize).ok_or(Fault::Link)?;
         match self.found[place as usize] {
             Found::Not => {}
@@ -136,13 +149,21 @@ impl Reader<'_> {
         if record.parent != parent && self.mistake != Mistake::LentParentUnchecked {
             return Err(Fault::Parent);
         }
+        if record.left != left && self.mistake != Mistake::LentLeftUnchecked {
+            return Err(Fault::Left);
+        }
         self.found[place as usize] = Found::Open;
         let mut children = Vec::new();
         let mut next = record.first;
+        let mut last = NO_LINK;
         while !self.no_link(next) {
-            let (child, right) = self.subtree(next, place)?;
+            let (child, right) = self.subtree(next, place, last)?;
             children.push(child);
+            last = next;
             next = right;
+        }
+        if record.last != last && self.mistake != Mistake::LentLastUnchecked {
+            return Err(Fault::Last);
         }
         self.found[place as usize] = Found::Whole;
         let counted = record.children == children.len() as u32;
@@ -167,9 +188,10 @@ impl Reader<'_> {
         }
     }
 
-    fn free_place_is_faulty(&self) -> bool {
+    /// Whether a free place has a link that is no place.
+    fn free_place_is_faulty(&self, link: fn(&Lent) -> u32) -> bool {
         let links = self.table.iter().zip(&self.found);
         let mut free = links.filter(|(_, found)| **found == Found::Not);
-        free.any(|(record, _)| record.first != NO_LINK && record.first as usize >= self.table.len())
+        free.any(|(record, _)| link(record) != NO_LINK && link(record) as usize >= self.table.len())
     }
 }

@@ -15,6 +15,8 @@ pub struct Node {
     pub existence: u8,
     pub content: u8,
     pub list: u8,
+    pub left: u16,
+    pub last: u16,
 }
 
 /// Removed subtrees are kept whole and taken apart one node at a time, when a
@@ -22,8 +24,6 @@ pub struct Node {
 /// of a chain, the `parent` of a chain's head is the next chain.
 pub struct Arena {
     nodes: [Node; MAX_NODES],
-    /// The last child of each node while a job is loaded.
-    last: [u16; MAX_NODES],
     /// Places from here on were never used.
     used: usize,
     /// Head of the first chain of removed nodes.
@@ -36,7 +36,6 @@ impl Arena {
     pub fn new() -> Arena {
         Arena {
             nodes: [Node::default(); MAX_NODES],
-            last: [NONE; MAX_NODES],
             used: 0,
             free: NONE,
             removed: [0; MAX_NODES],
@@ -86,32 +85,48 @@ impl Arena {
     /// The last child so far of a node that is loaded.
     #[inline(always)]
     pub fn last_child(&self, parent: u16) -> u16 {
-        self.last[parent as usize % MAX_NODES]
+        self.at(parent).last
     }
 
     /// Puts a record's node into the next place; its parent stands already.
     #[inline(always)]
     pub fn load(&mut self, node: Node) {
         let place = self.used as u16;
+        let left = match place {
+            0 => NONE,
+            _ => self.last_child(node.parent),
+        };
         *self.at_mut(place) = Node {
             first: NONE,
             right: NONE,
+            left,
+            last: NONE,
             children: 0,
             ..node
         };
-        self.last[place as usize % MAX_NODES] = NONE;
         self.used += 1;
         if place == 0 {
             return;
         }
-        let left = self.last_child(node.parent);
         if left == NONE {
             self.at_mut(node.parent).first = place;
         } else {
             self.at_mut(left).right = place;
         }
-        self.at_mut(node.parent).children += 1;
-        self.last[node.parent as usize % MAX_NODES] = place;
+        let above = self.at_mut(node.parent);
+        above.children += 1;
+        above.last = place;
+    }
+
+    /// Makes `place` the left sibling of `right`, or the last child of `parent`
+    /// where there is none to its right.
+    #[inline(always)]
+    fn lead_back(&mut self, right: u16, parent: u16, place: u16) {
+        if right == NONE {
+            self.at_mut(parent).last = place;
+        } else {
+            self.at_mut(right).left = place;
+        }
     }
 
     /// A free place, if one of the first `places` is.
@@ -193,9 +208,12 @@ impl Arena {
             parent,
             first: NONE,
             right,
+            left: NONE,
+            last: NONE,
             children: 0,
             ..node
         };
+        self.lead_back(right, parent, place);
         let above = self.at_mut(parent);
         above.first = place;
         above.children += 1;
@@ -213,9 +231,12 @@ impl Arena {
             parent,
             first: NONE,
             right,
+            left,
+            last: NONE,
             children: 0,
             ..node
         };
+        self.lead_back(right, parent, place);
         self.at_mut(left).right = place;
         self.at_mut(parent).children += 1;
         true
@@ -226,6 +247,7 @@ impl Arena {
     #[inline(always)]
     pub fn remove_first(&mut self, parent: u16, first: u16, remembered: bool) {
         let right = self.at(first).right;
+        self.lead_back(right, parent, NONE);
         let above = self.at_mut(parent);
         above.first = right;
         above.children -= 1;
@@ -240,6 +262,7 @@ impl Arena {
             right: next,
             ..
         } = *self.at(right);
+        self.lead_back(next, parent, left);
         self.at_mut(left).right = next;
         self.at_mut(parent).children -= 1;
         self.give(right, remembered);

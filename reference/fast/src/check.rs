@@ -26,9 +26,11 @@ pub mod code {
     pub const SET_VALUE: u8 = 15;
     pub const COVER: u8 = 16;
     pub const IF_BACK: u8 = 17;
-    pub const END_WHILE: u8 = 18;
-    pub const END_BACK: u8 = 19;
-    pub const FINISH: u8 = 20;
+    pub const LEFT_SIBLING: u8 = 18;
+    pub const LAST_CHILD: u8 = 19;
+    pub const END_WHILE: u8 = 20;
+    pub const END_BACK: u8 = 21;
+    pub const FINISH: u8 = 22;
 }
 
 pub mod kind {
@@ -53,7 +55,7 @@ const VARIABLE_TARGET: u8 = 2;
 const MARK_TARGET: u8 = 4;
 
 /// "Commands 1, 2, 4, 6, 11, 12 and 15 read an expression."
-const READS: [u8; 18] = [
+const READS: [u8; 20] = [
     0,
     EXPRESSION | VARIABLE_TARGET,
     EXPRESSION,
@@ -72,6 +74,8 @@ const READS: [u8; 18] = [
     EXPRESSION,
     0,
     EXPRESSION,
+    0,
+    0,
 ];
 
 /// Fills `buffers` from an accepted job. Where the job is turned back they

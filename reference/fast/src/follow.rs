@@ -18,6 +18,8 @@ pub struct Record {
     pub children: u32,
     pub content: u32,
     pub list: u32,
+    pub left: u32,
+    pub last: u32,
 }
 
 const NO_LINK: u32 = 65_535;
@@ -90,6 +92,8 @@ fn load_table(arena: &mut Arena, table: &[Record]) -> bool {
                 existence: record.existence as u8,
                 content: record.content as u8,
                 list: record.list as u8,
+                left: record.left as u16,
+                last: record.last as u16,
             };
         });
         if good {
@@ -113,7 +117,8 @@ fn walk(
     let Some(root) = table.first() else {
         return false;
     };
-    if root.parent != NO_LINK || root.right != NO_LINK || !levels_ok(root, 0, 0) {
+    let alone = [root.parent, root.right, root.left] == [NO_LINK; 3];
+    if !alone || !levels_ok(root, 0, 0) {
         return false;
     }
     let mut place = 0;
@@ -130,9 +135,11 @@ fn walk(
         let mut next = record.first;
         let mut least = record.existence;
         let mut parent = place;
+        // The sibling to the left of the next node.
+        let mut left = NO_LINK;
         while next == NO_LINK {
             let record = &table[parent];
-            if counted[parent] != record.children {
+            if counted[parent] != record.children || record.last != left {
                 return false;
             }
             if parent == 0 {
@@ -140,13 +147,17 @@ fn walk(
             }
             next = record.right;
             least = record.existence;
+            left = parent as u32;
             parent = record.parent as usize;
         }
         let Some(record) = table.get(next as usize) else {
             return false;
         };
         let above = &table[parent];
-        if record.parent as usize != parent || !levels_ok(record, least, above.list) {
+        if record.parent as usize != parent
+            || record.left != left
+            || !levels_ok(record, least, above.list)
+        {
             return false;
         }
         counted[parent] += 1;
@@ -182,6 +193,8 @@ fn store(buffers: &Buffers, lent: Lent) {
             children: u32::from(node.children),
             content: u32::from(node.content),
             list: u32::from(node.list),
+            left: u32::from(node.left),
+            last: u32::from(node.last),
         };
     }
 }

@@ -64,7 +64,7 @@ fn operand(
     }
 }
 
-/// Commands 8, 9 and 10: "cursor level joins the new node's existence".
+/// Commands 8, 9, 10 and 18: "cursor level joins the new node's existence".
 #[inline(always)]
 fn go(
     arena: &Arena,
@@ -252,6 +252,25 @@ pub fn steps(buffers: &mut Buffers, budget: u32, places: usize, area: &mut [u8])
                 if let Err(stop) = go(arena, to, context, &mut cursor, &mut cursor_level) {
                     break (stop, next);
                 }
+                next += 1;
+            }
+            code::LEFT_SIBLING => {
+                let to = arena.at(cursor).left;
+                if let Err(stop) = go(arena, to, context, &mut cursor, &mut cursor_level) {
+                    break (stop, next);
+                }
+                next += 1;
+            }
+            code::LAST_CHILD => {
+                let Node { last, list, .. } = *arena.at(cursor);
+                if last == NONE {
+                    break (ending::MISSING, next);
+                }
+                if context > cursor_level {
+                    break (ending::RULE, next);
+                }
+                cursor = last;
+                cursor_level |= list;
                 next += 1;
             }
             code::NEW_FIRST_CHILD => {

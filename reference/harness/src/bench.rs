@@ -120,8 +120,8 @@ impl Bench {
 
 /// Lent records as plain words.
 fn words(table: &mut [Record]) -> &mut [u32] {
-    let length = 8 * table.len();
-    // SAFETY: a record is eight words, with nothing between them.
+    let length = 10 * table.len();
+    // SAFETY: a record is ten words, with nothing between them.
     unsafe { std::slice::from_raw_parts_mut(table.as_mut_ptr().cast(), length) }
 }
 

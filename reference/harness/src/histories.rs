@@ -6,7 +6,7 @@ use fast::follow::Record;
 use fast::Buffers;
 use reference::coverage::Coverage;
 use reference::follow;
-use reference::history::{self, kind, store, Entry, Event, Expected, Held, Model, RECORDS};
+use reference::history::{self, kind, store, what, Entry, Event, Expected, Held, Model, RECORDS};
 use reference::mistake::Mistake;
 use reference::run::{self, Outcome, Standing};
 use reference::table::Lent;
@@ -29,8 +29,9 @@ pub fn heading(event: &Event, number: usize) -> String {
     format!("{name} {number}\n")
 }
 
-/// "`record P FIRST RIGHT PARENT CHILDREN VALUE EXISTENCE CONTENT LIST`". A
-/// table has many of them, so the digits are made by hand.
+/// "`record P FIRST RIGHT PARENT CHILDREN VALUE EXISTENCE CONTENT LIST`, further
+/// fields behind": `LEFT LAST`. A table has many of them, so the digits are made by
+/// hand.
 fn push_record(text: &mut String, place: usize, record: &Lent) {
     text.push_str("record");
     for number in [
@@ -43,6 +44,8 @@ fn push_record(text: &mut String, place: usize, record: &Lent) {
         i64::from(record.existence),
         i64::from(record.content),
         i64::from(record.list),
+        i64::from(record.left),
+        i64::from(record.last),
     ] {
         text.push(' ');
         push_number(text, number);
@@ -91,7 +94,8 @@ fn parse_table(text: &str) -> Option<(Vec<Lent>, String)> {
             .split(' ')
             .map(|word| word.parse().ok())
             .collect::<Option<_>>()?;
-        let [place, first, right, parent, children, value, existence, content, list] = numbers[..]
+        let [place, first, right, parent, children, value, existence, content, list, left, last] =
+            numbers[..]
         else {
             return None;
         };
@@ -109,6 +113,8 @@ fn parse_table(text: &str) -> Option<(Vec<Lent>, String)> {
             existence: byte(existence)?,
             content: byte(content)?,
             list: byte(list)?,
+            left: word(left)?,
+            last: word(last)?,
         });
     }
     Some((records, rest))
@@ -335,6 +341,8 @@ impl Standin {
                 existence: record.existence as u8,
                 content: record.content as u8,
                 list: record.list as u8,
+                left: record.left,
+                last: record.last,
             };
         }
     }
@@ -351,6 +359,8 @@ pub fn records(table: &[Lent]) -> Vec<Record> {
         children: lent.children,
         content: u32::from(lent.content),
         list: u32::from(lent.list),
+        left: lent.left,
+        last: lent.last,
     };
     table.iter().map(record).collect()
 }
@@ -444,7 +454,11 @@ pub fn show(events: &[Event]) -> String {
             kind::POKE => {
                 writeln!(text).unwrap();
                 for Entry { what, index, value } in Entry::all(body) {
-                    let name = FIELDS.get(usize::from(what)).unwrap_or(&"nothing");
+                    let name = match what {
+                        what::LEFT => "left of",
+                        what::LAST => "last of",
+                        _ => FIELDS.get(usize::from(what)).unwrap_or(&"nothing"),
+                    };
                     writeln!(text, "  {name} {index} := {}", value as i32).unwrap();
                 }
             }
@@ -455,7 +469,7 @@ pub fn show(events: &[Event]) -> String {
     text
 }
 
-/// The fields that a poke sets.
+/// The fields that a poke sets, from 0 on.
 const FIELDS: [&str; 11] = [
     "first of",
     "right of",

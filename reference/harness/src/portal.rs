@@ -88,7 +88,7 @@ fn call_linked(_: &[u8], _: u64, _: &mut [u8]) -> u64 {
     unreachable!("no portal is linked")
 }
 
-/// What a follow-on script is lent besides its lines: eight words for each
+/// What a follow-on script is lent besides its lines: ten words for each
 /// place, in the order of the fast version's records.
 pub struct Lending<'a> {
     pub words: &'a mut [u32],

@@ -58,6 +58,8 @@ pub fn table() -> Vec<Workload> {
     vec![
         counting(),
         walk(MAX_NODES),
+        siblings("left to right", first_child(), right_sibling()),
+        siblings("right to left", last_child(), left_sibling()),
         chain_walk(),
         churn(20),
         sibling_churn(),
@@ -205,6 +207,17 @@ fn walk(count: usize) -> Workload {
         &format!("walk of {count} nodes"),
         &[],
         &nodes,
+        &endless(&body),
+    )
+}
+
+/// Over 500 siblings from one end to the other.
+fn siblings(way: &str, begin: Record, go_on: Record) -> Workload {
+    let body = [&[begin][..], &[go_on; 499], &[up()]].concat();
+    long(
+        &format!("walk over 500 siblings, {way}"),
+        &[],
+        &wide(501),
         &endless(&body),
     )
 }

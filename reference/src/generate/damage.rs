@@ -131,7 +131,7 @@ fn damage_record(random: &mut Random, job: &mut Job) {
     let record = &mut job.script[place];
     let number = random.pick(&[count, count.wrapping_sub(1), 0, u32::MAX as usize]) as u32;
     match random.below(7) {
-        0 => record.command = random.pick(&[16, 17, 18, 255]),
+        0 => record.command = random.pick(&[17, 19, 20, 255]),
         1 => record.target = random.pick(&[3, 4, count as u8, 255]),
         2 => record.operator = random.pick(&[5, 6, 255]),
         3 => record.left_kind = random.pick(&[3, 4, 255]),

@@ -243,7 +243,7 @@ impl Writer<'_> {
         let place = self.random.below(records.len());
         let record = &mut records[place];
         match self.random.below(4) {
-            0 => record.command = self.random.pick(&[17, 255]),
+            0 => record.command = self.random.pick(&[20, 255]),
             1 => record.command = self.random.pick(&[2, 3, 4, 5]),
             2 => record.target = self.random.byte(),
             _ => {
@@ -367,7 +367,11 @@ impl Writer<'_> {
                 1 => self.random.pick(&[512, 513, 600]),
                 _ => self.random.below(8),
             };
-            let field = self.random.below(8) as u16;
+            let field = match self.random.below(10) as u16 {
+                8 => what::LEFT,
+                9 => what::LAST,
+                field => field,
+            };
             let value = match field {
                 what::EXISTENCE..=what::LIST => self.random.pick(&[0, 0, 1, 1, 2, 255]),
                 what::VALUE => self.random.value() as u32,
@@ -413,7 +417,11 @@ impl Writer<'_> {
                 body: vec![7; self.random.below(40)],
                 ..Event::default()
             },
-            1 => Event::poke(&[Entry::new(11, 0, 1), Entry::new(15, 3, 9)]),
+            1 => Event::poke(&[
+                Entry::new(11, 0, 1),
+                Entry::new(15, 3, 9),
+                Entry::new(18, 1, 7),
+            ]),
             _ => Event {
                 kind: self.random.pick(&[kind::JOB, kind::SCRIPT]),
                 budget: 10,
@@ -452,6 +460,8 @@ fn anything(random: &mut Random, places: usize) -> Lent {
         existence: random.pick(&[0, 0, 1, 1, 2, 255]),
         content: random.pick(&[0, 1, 1, 77]),
         list: random.pick(&[0, 1, 1, 200]),
+        left: link(random),
+        last: link(random),
     }
 }
 
@@ -476,6 +486,12 @@ fn too_many(random: &mut Random) -> (Vec<Lent>, Vec<usize>) {
                 (false, true) => live as u32 - 1,
                 (false, false) => 0,
             },
+            left: if chain || index < 2 { NO_LINK } else { before },
+            last: match (chain, root) {
+                (true, _) => next,
+                (false, true) => places[live - 1] as u32,
+                (false, false) => NO_LINK,
+            },
             ..Lent::default()
         };
     }
@@ -490,7 +506,7 @@ fn break_table(random: &mut Random, table: &mut Vec<Lent>, places: &mut Vec<usiz
     let count = table.len() as u32;
     let outside = [count, count + 1, 65_534, 65_536, 65_536 + other, u32::MAX];
     let record = &mut table[some];
-    match random.below(14) {
+    match random.below(17) {
         // A link to any live node: a ring, or a place that is reached twice.
         0 => record.first = other,
         1 => record.right = other,
@@ -519,9 +535,14 @@ fn break_table(random: &mut Random, table: &mut Vec<Lent>, places: &mut Vec<usiz
             let level = random.below(2) as u8;
             set_level(random, record, level);
         }
+        // What the moves of R-7 go by: another node, itself, none, no place.
+        13 => record.left = random.pick(&[other, some as u32, NO_LINK, record.right, outside[0]]),
+        14 => record.last = random.pick(&[other, some as u32, NO_LINK, record.first, outside[0]]),
+        15 => table[0].left = random.pick(&[0, 1, count, 65_534]),
         _ => {
             record.first = NO_LINK;
             record.children = random.pick(&[0, record.children]);
+            record.last = random.pick(&[NO_LINK, record.last]);
         }
     }
 }
@@ -550,6 +571,8 @@ fn root_with_sibling(random: &mut Random, table: &mut Vec<Lent>, places: &[usize
         first: NO_LINK,
         right: NO_LINK,
         parent: random.pick(&[NO_LINK, 0]),
+        left: 0,
+        last: NO_LINK,
         ..Lent::default()
     };
 }

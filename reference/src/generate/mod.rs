@@ -66,9 +66,12 @@ fn valid_job(random: &mut Random) -> (Job, Limits) {
         let ending = trial_ending(&standing, script, mistake);
         ![Ending::Rule, Ending::Missing, Ending::OutOfRange].contains(&ending)
     };
-    let script = match random.below(30) {
-        0..=9 => script::any(random, &levels, &mut |_| true),
-        10 | 11 => script::endless(random, &levels, goes_on),
+    let script = match (random.below(30), mistake) {
+        (0..=9, _) => script::any(random, &levels, &mut |_| true),
+        (10 | 11, _) => script::endless(random, &levels, goes_on),
+        (12..=20, Mistake::NoRule(command)) if script::MOVES.contains(&command) => {
+            script::branching(random, &levels, goes_on, command)
+        }
         _ => script::short(random, &levels, goes_on),
     };
     job.script = script;

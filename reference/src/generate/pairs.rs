@@ -4,7 +4,7 @@
 use super::nodes::Growth;
 use super::{levels_of, likely_mistake, limits, nodes, script, trial_ending, Case};
 use crate::ending::Ending;
-use crate::job::{self, command, Job, Node, Record, Variable};
+use crate::job::{self, Job, Node, Record, Variable};
 use crate::mistake::Mistake;
 use crate::public::{self, Leak};
 use crate::random::Random;
@@ -125,15 +125,20 @@ fn common_script(random: &mut Random, sides: &[Standing; 2], mistake: Mistake) -
         2 => return script::short(random, &levels, &mut |script| both_finish(script, mistake)),
         _ => {}
     }
-    // Few scripts show what a cover gives away, so they are aimed at it.
-    let some = match mistake {
-        Mistake::NoRule(command::COVER) => script::covering,
-        _ => script::probing,
-    };
     // A script that the right monitor finishes too says nothing of the mistake.
     let mut script = Vec::new();
     for _ in 0..3 {
-        script = some(random, &levels, &mut |script| both_finish(script, mistake));
+        let accept = &mut |script: &[Record]| both_finish(script, mistake);
+        // Few scripts show what a single move gives away, so some are aimed at it.
+        script = match mistake {
+            Mistake::NoRule(command) if script::MOVES.contains(&command) => {
+                script::branching(random, &levels, accept, command)
+            }
+            Mistake::LastJoinsExistence | Mistake::LastJoinsNothing => {
+                script::going_last(random, &levels, accept)
+            }
+            _ => script::probing(random, &levels, accept),
+        };
         if mistake == Mistake::None || !both_finish(&script, Mistake::None) {
             return script;
         }

@@ -9,6 +9,17 @@ use crate::random::Random;
 use crate::source::*;
 use crate::{join, Level, HOUSE, PUBLIC};
 
+/// Commands with the rule of 7.
+pub const MOVES: [u8; 7] = [
+    command::ROOT,
+    command::UP,
+    command::FIRST_CHILD,
+    command::RIGHT_SIBLING,
+    command::COVER,
+    command::LEFT_SIBLING,
+    command::LAST_CHILD,
+];
+
 /// Commands that open, turn or close a block.
 pub const BLOCK_COMMANDS: [u8; 5] = [
     command::IF,
@@ -92,12 +103,37 @@ pub fn probing(random: &mut Random, levels: &[Level], accept: Accept) -> Vec<Rec
     writer.script
 }
 
-/// A script that covers the cursor inside branches, goes on from there and shows
-/// what it can see afterwards.
-pub fn covering(random: &mut Random, levels: &[Level], accept: Accept) -> Vec<Record> {
+/// A script that moves or covers by `command` inside branches, goes on from there
+/// and shows what it can see afterwards.
+pub fn branching(
+    random: &mut Random,
+    levels: &[Level],
+    accept: Accept,
+    command: u8,
+) -> Vec<Record> {
     let mut writer = Writer::new(random, levels, accept);
     for _ in 0..writer.random.between(1, 3) {
-        writer.covered();
+        for _ in 0..writer.random.below(3) {
+            writer.put_some(&mut Writer::some_move);
+        }
+        writer.branched(command);
+        writer.show();
+    }
+    writer.script
+}
+
+/// A script that goes to last children, changes something there and shows what it
+/// can see afterwards.
+pub fn going_last(random: &mut Random, levels: &[Level], accept: Accept) -> Vec<Record> {
+    let mut writer = Writer::new(random, levels, accept);
+    for _ in 0..writer.random.between(1, 3) {
+        for _ in 0..writer.random.below(2) {
+            writer.put_some(&mut Writer::some_move);
+        }
+        writer.put(&[last_child()]);
+        for _ in 0..writer.random.between(1, 2) {
+            writer.put_some(&mut Writer::some_change);
+        }
         writer.show();
     }
     writer.script
@@ -143,8 +179,8 @@ pub fn at_the_edge(random: &mut Random) -> Expression {
 struct Taste {
     /// House variable, children, value, any expression.
     guards: [usize; 4],
-    /// Root, up, first child, right sibling.
-    moves: [usize; 4],
+    /// Root, up, first child, right sibling, left sibling, last child.
+    moves: [usize; 6],
     /// The commands 11 to 15.
     changes: [usize; 5],
     /// Out of six branches, those that come back.
@@ -160,7 +196,13 @@ impl Taste {
     fn some(random: &mut Random) -> Taste {
         Taste {
             guards: random.pick(&[[4, 2, 1, 1], [1, 0, 0, 0], [1, 6, 0, 1], [2, 1, 4, 1]]),
-            moves: random.pick(&[[2, 2, 4, 3], [1, 1, 6, 2], [1, 1, 3, 6], [4, 4, 4, 4]]),
+            moves: random.pick(&[
+                [2, 2, 4, 3, 0, 0],
+                [1, 1, 6, 2, 0, 0],
+                [1, 1, 3, 6, 1, 0],
+                [4, 4, 4, 4, 2, 2],
+                [1, 1, 3, 1, 3, 6],
+            ]),
             changes: random.pick(&[
                 [3, 3, 2, 2, 4],
                 [1, 1, 0, 0, 6],
@@ -289,7 +331,9 @@ impl<'a> Writer<'a> {
     /// another stands in its place.
     fn sawn_off(&mut self, context: Level) {
         for _ in 0..self.random.between(1, 3) {
-            let down = self.random.pick(&[first_child(), right_sibling()]);
+            let down = self
+                .random
+                .pick(&[first_child(), right_sibling(), last_child()]);
             self.put(&[down]);
         }
         let (guard, level) = self.guard();
@@ -414,13 +458,17 @@ impl<'a> Writer<'a> {
         self.look();
     }
 
-    /// A cover and a move inside a branch, and changes where the cursor is then.
-    fn covered(&mut self) {
+    /// A move or a cover inside a branch, after a cover a move too; a look round from
+    /// where the cursor is then, and changes there.
+    fn branched(&mut self, command: u8) {
         let (guard, _) = self.guard();
-        if self.put(&[when(guard), cover(), end()]) {
+        if self.put(&[when(guard), bare(command), end()]) && command == command::COVER {
             self.place -= 1;
             self.put_some(&mut Self::some_move);
             self.place += 1;
+        }
+        if self.random.chance(1, 2) {
+            self.look();
         }
         for _ in 0..self.random.between(1, 2) {
             self.put_some(&mut Self::some_change);
@@ -467,7 +515,14 @@ impl<'a> Writer<'a> {
     }
 
     fn some_move(&mut self) -> Record {
-        let moves = [root(), up(), first_child(), right_sibling()];
+        let moves = [
+            root(),
+            up(),
+            first_child(),
+            right_sibling(),
+            left_sibling(),
+            last_child(),
+        ];
         moves[self.random.weighted(&self.taste.moves)]
     }
 

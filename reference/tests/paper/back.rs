@@ -170,7 +170,7 @@ fn a_guard_that_raised_the_level() {
     assert_eq!(answer(&run(&trial_job(1, &script))), (21, 3, 3, vec![]));
 }
 
-/// "7 begins at 18", and to the cleaner of R-4 at 17.
+/// 7 began at 18 with R-6; to the cleaner of R-4 it begins at 17.
 #[test]
 fn the_checks() {
     let with = |script: &[Record]| refusal(&trial_job(0, script));

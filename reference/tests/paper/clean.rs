@@ -44,7 +44,7 @@ fn which_bytes_are_spare() {
     assert_eq!(spare, expected);
 
     let all_but_command: Vec<usize> = (1..16).collect();
-    for command in [0, 3, 5, 7, 8, 9, 10, 13, 14, 16] {
+    for command in [0, 3, 5, 7, 8, 9, 10, 13, 14, 16, 18, 19] {
         assert_eq!(
             spare_of(bare(command)),
             all_but_command,
@@ -107,7 +107,7 @@ fn order_of_the_checks() {
     assert_eq!(refusal(&job), (12, 0));
     job.variables[1].spare = [0, 7, 0];
     assert_eq!(refusal(&job), (12, 1));
-    job.script[2].command = 18;
+    job.script[2].command = 20;
     assert_eq!(refusal(&job), (7, 2));
     job.nodes[1].content = 2;
     assert_eq!(refusal(&job), (6, 1));

@@ -173,7 +173,7 @@ fn ending_6_left_is_the_nearest_earlier_record_with_the_same_parent() {
 #[test]
 fn ending_7_commands_and_fields() {
     let with = |record: Record| refusal(&trial_job(0, &[nothing(), record]));
-    assert_eq!(with(bare(18)), (7, 1));
+    assert_eq!(with(bare(20)), (7, 1));
     assert_eq!(with(bare(255)), (7, 1));
     assert_eq!(with(cover()), ACCEPTED);
     assert_eq!(with(assign(1, 0)), ACCEPTED);

@@ -61,7 +61,7 @@ fn fault(change: impl Fn(&mut Vec<Lent>)) -> Fault {
     change(&mut table);
     let fault = table::tree(&table, Mistake::None).expect_err("a fault");
     // Before a 7, an 8, a 9 and a 10.
-    let body = section(&[bare(18), end()]);
+    let body = section(&[bare(20), end()]);
     assert_eq!(answer_of((&table, &VARIABLES), &body, 0), (11, 0));
     fault
 }
@@ -125,6 +125,18 @@ fn an_if_that_comes_back() {
     assert_eq!(answer(&outcome), (0, 0, 4, vec![2]));
 }
 
+/// what free places hold is nobody's business.
+#[test]
+fn links_of_free_places() {
+    let mut table = lent_table();
+    for place in [1, 3, 5] {
+        (table[place].left, table[place].last) = (u32::MAX, 6);
+    }
+    let back = [last_child(), left_sibling(), print(value())];
+    let (outcome, _) = follow_with((&table, &VARIABLES), &section(&back), &Limits::ample(100));
+    assert_eq!(answer(&outcome), (0, 0, 3, vec![3]));
+}
+
 #[test]
 fn an_empty_section_finishes() {
     let lent: Lending = (&[ROOT], &[]);
@@ -175,6 +187,24 @@ fn tables_that_are_11() {
     for children in [0, 1, 3, 65_538] {
         assert_eq!(fault(|table| table[0].children = children), Fault::Count);
     }
+    // the left sibling of 4 is 3, and no other has one; the last child of the root is 4,
+    // that of 3 is 5, and no other has one.
+    for left in [0, 1, 2, 4, 7, NO_LINK, 65_536, 65_536 + 6, u32::MAX] {
+        assert_eq!(fault(|table| table[4].left = left), Fault::Left);
+    }
+    for left in [0, 2, 65_534, u32::MAX] {
+        for place in [0, 2, 6] {
+            assert_eq!(fault(|table| table[place].left = left), Fault::Left);
+        }
+    }
+    for last in [0, 1, 2, 6, 7, NO_LINK, 65_536 + 4] {
+        assert_eq!(fault(|table| table[0].last = last), Fault::Last);
+    }
+    for last in [0, 4, 5, 6, 65_534, 65_536] {
+        for place in [2, 4, 6] {
+            assert_eq!(fault(|table| table[place].last = last), Fault::Last);
+        }
+    }
     for level in [2, 255] {
         assert_eq!(fault(|table| table[2].existence = level), Fault::Level);
         assert_eq!(fault(|table| table[2].content = level), Fault::Level);
@@ -215,6 +245,7 @@ fn tree_rules_that_are_11() {
 fn what_is_not_reached_is_free() {
     let mut table = lent_table();
     table[6].first = NO_LINK;
+    table[6].last = NO_LINK;
     table[6].children = 0;
     let (outcome, after) = follow_with(
         (&table, &VARIABLES),
@@ -230,7 +261,7 @@ fn what_is_not_reached_is_free() {
 #[test]
 fn order_of_the_numbers() {
     let mut table = vec![ROOT; 513];
-    let wrong = section(&[end(), bare(18)]);
+    let wrong = section(&[end(), bare(20)]);
     let spare = section(&[
         end(),
         Record {
@@ -261,6 +292,7 @@ fn one_node_more() {
         let mut table = vec![ROOT; RECORDS];
         for pair in places.windows(2) {
             table[pair[0]].first = pair[1] as u32;
+            table[pair[0]].last = pair[1] as u32;
             table[pair[0]].children = 1;
             table[pair[1]].parent = pair[0] as u32;
         }

@@ -6,6 +6,7 @@ mod clean;
 mod edges;
 mod endings;
 mod follow;
+mod moves;
 mod readings;
 mod trials;
 

@@ -106,7 +106,7 @@ fn reading_3_each_check_goes_over_its_whole_section() {
     assert_eq!(refusal(&job(&[], &nodes, &[])), (6, 1));
     nodes[9].parent = 9;
     assert_eq!(refusal(&job(&[], &nodes, &[])), (5, 9));
-    let late = [end(), nothing(), bare(18)];
+    let late = [end(), nothing(), bare(20)];
     assert_eq!(refusal(&trial_job(0, &late)), (7, 2));
     assert_eq!(refusal(&trial_job(0, &late[..2])), (8, 0));
     // Sections in the order of the numbers.
