@@ -6,6 +6,9 @@ from frames import (CHILD, END, FOREVER, NEW_CHILD, PAPER, PAPER_ANSWER, PRINT, 
 
 NONE = 65535
 FIRST, RIGHT, PARENT, CHILDREN, VALUE, EXISTENCE, CONTENT, LIST, LEVEL, NUMBER, COUNT = range(11)
+LEFT, LAST = 16, 17
+FIELDS = (FIRST, RIGHT, PARENT, CHILDREN, VALUE, EXISTENCE, CONTENT, LIST, LEFT, LAST)
+RECORD = "record {}" + " {}" * len(FIELDS) + "\n"
 
 
 def event(kind, body=b"", budget=100, places=512, lines=256):
@@ -28,10 +31,9 @@ def dump(places):
     return event(3, places=places)
 
 
-def fields(place, first, right, parent, children, value, existence, content, structure):
+def fields(place, *numbers):
     """The entries that set a whole record."""
-    numbers = (first, right, parent, children, value, existence, content, structure)
-    return [(what, place, number) for what, number in enumerate(numbers)]
+    return [(what, place, number) for what, number in zip(FIELDS, numbers)]
 
 
 def history(what, *pairs):
@@ -44,7 +46,6 @@ def came(ending, index=0, steps=0, lines="", left=""):
     return "script K\n" + answer(ending, index, steps, lines.count("line")) + lines + left
 
 
-BLANK = "record {} 0 0 0 0 0 0 0 0\n"
 ROOT_TEN = "node 0 0 0 0 10\n"
 FAMILY = "variable 0 0\nvariable 1 -7\n" + ROOT_TEN + "node 1 0 0 0 3\n"
 FAMILY_JOB = (start(job(TWO, ROOT + CHILD)), "job K\n" + answer(0) + FAMILY)
@@ -55,7 +56,7 @@ POKED = "poke K\n"
 # Before any job all is blank: no root stands there.
 expect("no input", b"", "")
 for places, shown in [(0, 0), (1, 1), (2, 2), (512, 512), (513, 513), (514, 513), (65535, 513)]:
-    history(f"{places} blank records", (dump(places), "table K\n" + "".join(BLANK.format(p) for p in range(shown))))
+    history(f"{places} blank records", (dump(places), "table K\n" + "".join(RECORD.format(p, *[0] * len(FIELDS)) for p in range(shown))))
 for places in [0, 1, 2, 512, 513, 65535]:
     history(f"a script over {places} blank records", (script(places=places), came(11)), (script(PRINT, places=places, budget=0), came(11)))
 
@@ -107,6 +108,22 @@ history(
     (script(BACK, NEW_CHILD, BACK, record(9), END, END, PRINT), came(0, 0, 7, "line 10\n", REPLACED)),
 )
 
+# Left sibling and last child, commands 18 and 19, over a tree that stands and grows: what one script adds or removes, the next one finds from behind.
+LEFT_SIBLING, LAST_CHILD = record(18), record(19)
+BOTH = "variable 0 0\nvariable 1 -7\n" + ROOT_TEN + "node 1 0 0 0 3\nnode 1 0 0 0 6\n"
+history(
+    "left sibling and last child",
+    FAMILY_JOB,
+    (script(LAST_CHILD, PRINT, LEFT_SIBLING), came(22, 2, 2, "line 3\n", FAMILY)),
+    (script(LAST_CHILD, record(12, left=(0, 6))), came(0, 0, 2, "", BOTH)),
+    (script(LAST_CHILD, PRINT, LEFT_SIBLING, PRINT), came(0, 0, 4, "line 6\nline 3\n", BOTH)),
+    (script(record(13), LAST_CHILD, PRINT, LEFT_SIBLING), came(22, 3, 3, "line 6\n", BOTH.replace("node 1 0 0 0 3\n", ""))),
+    # The list is the house's, so that where the last child stands is, too: a house child may stand there in another history.
+    (start(job(b"", node(65535, 0, 0, 1, 10) + CHILD)), "job K\n" + answer(0) + "node 0 0 0 1 10\nnode 1 0 0 0 3\n"),
+    (script(LAST_CHILD, PRINT), came(21, 1, 1, "", "node 0 0 0 1 10\nnode 1 0 0 0 3\n")),
+    (script(record(9), PRINT), came(0, 0, 2, "line 3\n", "node 0 0 0 1 10\nnode 1 0 0 0 3\n")),
+)
+
 # A job that is turned back leaves everything; one that is run leaves its own tree and variables. The paper's job stops and finishes alike.
 history(
     "job after job",
@@ -122,7 +139,7 @@ history(
 )
 
 # Turned away in the order 11, 7, 12, 8, 9, 10, and nothing has changed. A section has whole records, at most 1,024.
-STRANGE = record(18)
+STRANGE = record(20)
 history(
     "turned away",
     FAMILY_JOB,
@@ -165,13 +182,13 @@ for capacity in [0, 1, 1024, 1025, 65535]:
 
 # A table that is poked in, its nodes out of order: under the root, in place 0, those in places 5 and 3, under that in place 3 the one in place 1. In the
 # free places stands what leads nowhere.
-TABLE = [(5, NONE, NONE, 2, 10, 0, 0, 1), (NONE, NONE, 3, 0, -2147483648, 1, 1, 1), (7, 7, 7, 7, 7, 255, 255, 255), (1, NONE, 0, 1, 2147483647, 1, 1, 1),
-         (0, 0, 0, 0, 0, 0, 0, 0), (NONE, 3, 0, 0, -3, 0, 1, 0)]
+TABLE = [(5, NONE, NONE, 2, 10, 0, 0, 1, NONE, 3), (NONE, NONE, 3, 0, -2147483648, 1, 1, 1, NONE, NONE), (7, 7, 7, 7, 7, 255, 255, 255, 7, 7),
+         (1, NONE, 0, 1, 2147483647, 1, 1, 1, 5, 1), (0, 0, 0, 0, 0, 0, 0, 0, 0, 0), (NONE, 3, 0, 0, -3, 0, 1, 0, NONE, NONE)]
 TREE = "node 0 0 0 1 10\nnode 1 0 1 0 -3\nnode 1 1 1 1 2147483647\nnode 2 1 1 1 -2147483648\n"
 VARIABLES = "variable 0 5\nvariable 1 -5\n"
 WHOLE = poke(*[entry for place, numbers in enumerate(TABLE) for entry in fields(place, *numbers)],
              (LEVEL, 0, 0), (NUMBER, 0, 5), (LEVEL, 1, 1), (NUMBER, 1, -5), (COUNT, 0, 2))
-RECORDS = ["record {} {} {} {} {} {} {} {} {}\n".format(place, *numbers) for place, numbers in enumerate(TABLE)]
+RECORDS = [RECORD.format(place, *numbers) for place, numbers in enumerate(TABLE)]
 PUT = (WHOLE, POKED)
 RUNS = (script(places=6), came(0, left=VARIABLES + TREE))
 history("a table that is put in", PUT, (dump(6), "table K\n" + "".join(RECORDS) + VARIABLES), (dump(2), "table K\n" + "".join(RECORDS[:2]) + VARIABLES), RUNS,
@@ -189,18 +206,22 @@ for broken in [
     [(EXISTENCE, 0, 1), (CONTENT, 0, 1)], [(EXISTENCE, 5, 2)], [(CONTENT, 1, 2)], [(LIST, 3, 255)],
     [(CONTENT, 3, 0)], [(LIST, 3, 0)], [(EXISTENCE, 5, 1), (EXISTENCE, 3, 0)], [(EXISTENCE, 1, 0)], [(LIST, 0, 0)],
     [(LEVEL, 0, 2)], [(LEVEL, 1, 255)], [(COUNT, 0, 65)], [(COUNT, 0, 1000)],
+    [(LEFT, 0, 0)], [(LEFT, 0, 2)], [(LEFT, 0, 65536)], [(LEFT, 5, 3)], [(LEFT, 5, 5)], [(LEFT, 5, 0)], [(LEFT, 3, NONE)], [(LEFT, 3, 3)], [(LEFT, 3, 0)],
+    [(LEFT, 3, 2)], [(LEFT, 3, 65541)], [(LEFT, 1, 3)], [(LEFT, 1, 2**32 - 1)],
+    [(LAST, 0, NONE)], [(LAST, 0, 5)], [(LAST, 0, 0)], [(LAST, 0, 1)], [(LAST, 0, 2)], [(LAST, 0, 65539)], [(LAST, 3, NONE)], [(LAST, 3, 5)], [(LAST, 1, 1)],
+    [(LAST, 5, 3)], [(LAST, 5, 65534)],
 ]:
     changed = [list(numbers) for numbers in TABLE]
     variables = [[0, 5], [1, -5]] + [[0, 0]] * 63
     count = 2
     for what, index, number in broken:
-        if what < LEVEL:
-            changed[index][what] = number
+        if what in FIELDS:
+            changed[index][FIELDS.index(what)] = number
         elif what == COUNT:
             count = min(number, 65)
         else:
             variables[index][what - LEVEL] = number
-    shown = "".join("record {} {} {} {} {} {} {} {} {}\n".format(place, *numbers) for place, numbers in enumerate(changed))
+    shown = "".join(RECORD.format(place, *numbers) for place, numbers in enumerate(changed))
     shown += "".join("variable {} {}\n".format(*variable) for variable in variables[:count])
     history(f"a broken table, {broken}", PUT, (poke(*broken), POKED), (script(NEW_CHILD, places=6), came(11)), (script(STRANGE, budget=0, places=6), came(11)),
             (dump(6), "table K\n" + shown), (poke((COUNT, 0, 2)), POKED), PUT, RUNS)
@@ -208,6 +229,7 @@ for broken in [
 # These do not: what free places hold is nobody's business, and 64 variables are not too many.
 for entries, left in [
     ([(FIRST, 2, 2**32 - 1), (PARENT, 4, 9), (EXISTENCE, 4, 9)], VARIABLES),
+    ([(LEFT, 2, 2**32 - 1), (LAST, 2, 0), (LEFT, 4, 3), (LAST, 4, 5)], VARIABLES),
     ([(COUNT, 0, 0)], ""),
     ([(COUNT, 0, 64)], VARIABLES + "variable 0 0\n" * 62),
     ([(LEVEL, 64, 9), (NUMBER, 64, 9), (LEVEL, 2, 9)], VARIABLES),
@@ -215,19 +237,21 @@ for entries, left in [
     history(f"a table that serves, {entries}", PUT, (poke(*entries), POKED), (script(places=6), came(0, left=left + TREE)))
 
 # The most live nodes: 512. One more is too many for any job, with places enough.
-CHAIN = [entry for place in range(513) for entry in fields(place, place + 1 if place < 512 else NONE, NONE, place - 1 if place else NONE, int(place < 512), 0, 0, 0, 0)]
+CHAIN = [entry for place in range(513)
+         for below in [place + 1 if place < 512 else NONE]
+         for entry in fields(place, below, NONE, place - 1 if place else NONE, int(place < 512), 0, 0, 0, 0, NONE, below)]
 DEEP = "".join(f"node {depth} 0 0 0 0\n" for depth in range(512))
-history("512 nodes and 513", (poke(*CHAIN, (FIRST, 511, NONE), (CHILDREN, 511, 0)), POKED), (script(places=512), came(0, left=DEEP)), (script(places=513), came(10)),
+history("512 nodes and 513", (poke(*CHAIN, (FIRST, 511, NONE), (LAST, 511, NONE), (CHILDREN, 511, 0)), POKED), (script(places=512), came(0, left=DEEP)), (script(places=513), came(10)),
         (poke(*CHAIN), POKED), (script(places=513), came(11)), (script(places=512), came(11)))
 
 # A live node may stand in record 512: the tree could be held, so it is 10.
-history("a node in record 512", (poke(*fields(0, 512, NONE, NONE, 1, 0, 0, 0, 0), *fields(512, NONE, NONE, 0, 0, 1, 0, 0, 0)), POKED),
+history("a node in record 512", (poke(*fields(0, 512, NONE, NONE, 1, 0, 0, 0, 0, NONE, 512), *fields(512, NONE, NONE, 0, 0, 1, 0, 0, 0, NONE, NONE)), POKED),
         (script(places=513), came(10)), (script(places=512), came(11)))
 
 # An index that is not there, and what is nothing, is passed over; so is a part entry at the end.
 SAME = "table K\n" + "".join(RECORDS) + VARIABLES
-PASSED = [(what, 513, 1) for what in range(8)] + [(FIRST, 65535, 1), (LEVEL, 65, 1), (NUMBER, 65, 1), (NUMBER, 65535, 1)]
-PASSED += [(what, 0, 1) for what in [11, 12, 15, 16, 255, 256, 65535]]
+PASSED = [(what, 513, 1) for what in FIELDS] + [(FIRST, 65535, 1), (LEVEL, 65, 1), (NUMBER, 65, 1), (NUMBER, 65535, 1)]
+PASSED += [(what, 0, 1) for what in [11, 12, 15, 18, 255, 256, 65535]]
 PART = struct.pack("<HHI", NUMBER, 0, 6)
 history("pokes that are passed over", PUT, (poke(*PASSED), POKED), (dump(6), SAME), (event(2), POKED), (event(2, PART[:7]), POKED), (dump(6), SAME),
         (event(2, PART + PART[:7]), POKED), (dump(6), SAME.replace("variable 0 5", "variable 0 6")))
@@ -236,7 +260,7 @@ history("a long poke", PUT, (poke(*[(NUMBER, 0, number) for number in range(1000
 
 # Behind the places lent, records stay; behind the last variable, variables do. The root stands in record 0.
 expect("behind what is lent", WHOLE + poke((LEVEL, 2, 1), (NUMBER, 2, 77)) + start(PAPER, places=2) + poke((COUNT, 0, 3)) + dump(1),
-       "poke 0\npoke 1\njob 2\n" + PAPER_ANSWER + "poke 3\ntable 4\nrecord 0 65535 65535 65535 0 10 0 0 0\n" + VARIABLES + "variable 1 77\n")
+       "poke 0\npoke 1\njob 2\n" + PAPER_ANSWER + "poke 3\ntable 4\nrecord 0 65535 65535 65535 0 10 0 0 0 65535 65535\n" + VARIABLES + "variable 1 77\n")
 behind = output(WHOLE + start(PAPER, places=2) + script(NEW_CHILD, places=3) + dump(6)).splitlines(keepends=True)
 same("records behind the places lent", "".join(RECORDS[3:]), "".join(behind[-3:]))
 
@@ -250,7 +274,7 @@ for kind in range(5):
 # Many events, so that headers, bodies and answers fall on every edge of the blocks.
 N = 30000
 MANY = [start(PAPER), script(PRINT), poke((VALUE, 0, 10)), dump(1)]
-SAID = ["job {}\n" + PAPER_ANSWER, "script {}\n" + PAPER_ANSWER, "poke {}\n", "table {}\nrecord 0 65535 65535 65535 0 10 0 0 0\n"]
+SAID = ["job {}\n" + PAPER_ANSWER, "script {}\n" + PAPER_ANSWER, "poke {}\n", "table {}\nrecord 0 65535 65535 65535 0 10 0 0 0 65535 65535\n"]
 expect(f"{4 * N} events", b"".join(MANY) * N, "".join(SAID[k % 4].format(k) for k in range(4 * N)))
 same_memory(b"".join(MANY))
 one_by_one(MANY * 3, [SAID[k % 4].format(k) for k in range(12)])

@@ -78,7 +78,7 @@ static void versions(void) {
     same("PORTAL_VERSION", "its numbers", 0, strcmp(text, PORTAL_VERSION));
     same("PORTAL_MAX_LINES", "number", 1000000, PORTAL_MAX_LINES);
     same("PORTAL_MAX_SCRIPT", "number", 16384, PORTAL_MAX_SCRIPT);
-    same("PORTAL_MAX_WORDS", "number", 4096, PORTAL_MAX_WORDS);
+    same("PORTAL_MAX_WORDS", "number", 5120, PORTAL_MAX_WORDS);
 }
 
 int main(void) {

@@ -15,7 +15,7 @@
 #include "portal.h"
 
 enum { PAGE = 4096, MARK = 0xa5, NONE = 65535, STACK = 64 * 1024, PLACE = 4 * PORTAL_PLACE_WORDS };
-enum { FIRST, RIGHT, PARENT, EXISTENCE, VALUE, CHILDREN, CONTENT, LIST };
+enum { FIRST, RIGHT, PARENT, EXISTENCE, VALUE, CHILDREN, CONTENT, LIST, LEFT, LAST };
 
 static long checked;
 static const char *doing = "nothing yet";
@@ -34,7 +34,7 @@ struct area {
     uint8_t *all, *copy, *at;
 };
 
-static struct area script = {.room = 6 * PAGE}, table = {.room = 5 * PAGE}, levels = {.room = PAGE}, values = {.room = PAGE}, lines = {.room = PAGE};
+static struct area script = {.room = 6 * PAGE}, table = {.room = 6 * PAGE}, levels = {.room = PAGE}, values = {.room = PAGE}, lines = {.room = PAGE};
 static struct area *const areas[] = {&script, &table, &levels, &values, &lines};
 
 static void build(struct area *a) {
@@ -186,25 +186,25 @@ static void starts(void) {
         size_t words, levels, values, lines;
         int ending;
     } cases[] = {
-        {"one place", 8, 2, 2, 4, PORTAL_FINISHED},
-        {"one place, and seven words more", 15, 2, 2, 7, PORTAL_FINISHED},
-        {"seven words", 7, 2, 2, 4, PORTAL_BAD_BUFFERS},
+        {"one place", 10, 2, 2, 4, PORTAL_FINISHED},
+        {"one place, and nine words more", 19, 2, 2, 7, PORTAL_FINISHED},
+        {"nine words", 9, 2, 2, 4, PORTAL_BAD_BUFFERS},
         {"no table", 0, 2, 2, 4, PORTAL_BAD_BUFFERS},
-        {"512 places", 4096, 2, 2, 4, PORTAL_FINISHED},
-        {"512 places, and seven words more", 4103, 2, 2, 4, PORTAL_FINISHED},
-        {"513 places", 4104, 2, 2, 4, PORTAL_BAD_BUFFERS},
-        {"a level for one variable", 8, 1, 2, 4, PORTAL_BAD_BUFFERS},
-        {"a value for one variable", 8, 2, 1, 4, PORTAL_BAD_BUFFERS},
-        {"no variables", 8, 0, 0, 4, PORTAL_BAD_BUFFERS},
-        {"more than enough variables", 8, 64, 65, 4, PORTAL_FINISHED},
-        {"no room for a line", 8, 2, 2, 3, PORTAL_BOARD_FULL},
-        {"no area", 8, 2, 2, 0, PORTAL_BOARD_FULL},
+        {"512 places", 5120, 2, 2, 4, PORTAL_FINISHED},
+        {"512 places, and nine words more", 5129, 2, 2, 4, PORTAL_FINISHED},
+        {"513 places", 5130, 2, 2, 4, PORTAL_BAD_BUFFERS},
+        {"a level for one variable", 10, 1, 2, 4, PORTAL_BAD_BUFFERS},
+        {"a value for one variable", 10, 2, 1, 4, PORTAL_BAD_BUFFERS},
+        {"no variables", 10, 0, 0, 4, PORTAL_BAD_BUFFERS},
+        {"more than enough variables", 10, 64, 65, 4, PORTAL_FINISHED},
+        {"no room for a line", 10, 2, 2, 3, PORTAL_BOARD_FULL},
+        {"no area", 10, 2, 2, 0, PORTAL_BOARD_FULL},
     };
     for (size_t i = 0; i < sizeof cases / sizeof cases[0]; i++) {
         lend(cases[i].words, cases[i].levels, cases[i].values, cases[i].lines);
         ends(cases[i].what, start, 1, cases[i].ending, cases[i].ending == PORTAL_FINISHED);
     }
-    lend(8, 2, 2, 4);
+    lend(10, 2, 2, 4);
     ends("a start with no budget", start, 0, PORTAL_BAD_BUDGET, 0);
     ends("a start with a budget of 1,000,001", start, 1000001, PORTAL_BAD_BUDGET, 0);
     cut(&script, 7, 1);
@@ -306,7 +306,7 @@ static void refusals(void) {
     give(1);
     ends("no whole record, and no budget", follow, 0, PORTAL_BAD_FOLLOW_ON, 0);
     command(2);
-    command(18);
+    command(20);
     give(1);
     ends("no such command, an open block, and no budget", follow, 0, PORTAL_BAD_FIELD, 0);
     record(1, 2, 0, CONSTANT, 0, 0, 0);
@@ -322,8 +322,8 @@ static void refusals(void) {
     ends("513 places", follow, 1, PORTAL_BAD_BUFFERS, 0);
     cut(&table, 512 * PLACE, 1);
     ends("512 places", follow, 1, PORTAL_FINISHED, 0);
-    cut(&table, 7 * 4, 1);
-    ends("seven words", follow, 1, PORTAL_BAD_FOLLOW_ON, 0);
+    cut(&table, 9 * 4, 1);
+    ends("nine words", follow, 1, PORTAL_BAD_FOLLOW_ON, 0);
     cut(&table, 0, 1);
     ends("no table", follow, 1, PORTAL_BAD_FOLLOW_ON, 0);
 }
@@ -355,11 +355,11 @@ static void lent_variables(void) {
 /* A table, by hand. Place 3 is free. The tree: the root with north and, of the house, east; below north a hut. */
 enum { NORTH = 4, EAST = 1, HUT = 2, PLACES = 5 };
 static const uint32_t by_hand[PLACES][PORTAL_PLACE_WORDS] = {
-    [0] = {[FIRST] = NORTH, [RIGHT] = NONE, [PARENT] = NONE, [CHILDREN] = 2, [LIST] = 1, [VALUE] = 10},
-    [NORTH] = {[FIRST] = HUT, [RIGHT] = EAST, [PARENT] = 0, [CHILDREN] = 1},
-    [EAST] = {[FIRST] = NONE, [RIGHT] = NONE, [PARENT] = 0, [EXISTENCE] = 1, [CONTENT] = 1, [LIST] = 1},
-    [HUT] = {[FIRST] = NONE, [RIGHT] = NONE, [PARENT] = NORTH, [CONTENT] = 1, [VALUE] = 0xffffffff},
-    [3] = {77, 78, 79, 80, 81, 82, 83, 84},
+    [0] = {[FIRST] = NORTH, [RIGHT] = NONE, [PARENT] = NONE, [LEFT] = NONE, [LAST] = EAST, [CHILDREN] = 2, [LIST] = 1, [VALUE] = 10},
+    [NORTH] = {[FIRST] = HUT, [RIGHT] = EAST, [PARENT] = 0, [LEFT] = NONE, [LAST] = HUT, [CHILDREN] = 1},
+    [EAST] = {[FIRST] = NONE, [RIGHT] = NONE, [PARENT] = 0, [LEFT] = NORTH, [LAST] = NONE, [EXISTENCE] = 1, [CONTENT] = 1, [LIST] = 1},
+    [HUT] = {[FIRST] = NONE, [RIGHT] = NONE, [PARENT] = NORTH, [LEFT] = NONE, [LAST] = NONE, [CONTENT] = 1, [VALUE] = 0xffffffff},
+    [3] = {77, 78, 79, 80, 81, 82, 83, 84, 85, 86},
 };
 
 static void lent_tables(void) {
@@ -374,6 +374,21 @@ static void lent_tables(void) {
         {"the hut's value is public", HUT, CONTENT, 0, PORTAL_FINISHED},
         {"north's list is the house's, so that the script must stop", NORTH, LIST, 1, PORTAL_FLOW},
         {"the root is its own child", 0, FIRST, 0, PORTAL_BAD_FOLLOW_ON},
+        {"a free place that leads back to nowhere", 3, LEFT, 0xffffffff, PORTAL_FINISHED},
+        {"a free place with a last child", 3, LAST, EAST, PORTAL_FINISHED},
+        {"the root has a left sibling", 0, LEFT, 3, PORTAL_BAD_FOLLOW_ON},
+        {"the root's last child is the first", 0, LAST, NORTH, PORTAL_BAD_FOLLOW_ON},
+        {"the root has no last child", 0, LAST, NONE, PORTAL_BAD_FOLLOW_ON},
+        {"the root's last child is another's", 0, LAST, HUT, PORTAL_BAD_FOLLOW_ON},
+        {"the root's last child is no place", 0, LAST, 65536 + EAST, PORTAL_BAD_FOLLOW_ON},
+        {"a first child with a left sibling", NORTH, LEFT, EAST, PORTAL_BAD_FOLLOW_ON},
+        {"a first child left of itself", NORTH, LEFT, NORTH, PORTAL_BAD_FOLLOW_ON},
+        {"a second child with no left sibling", EAST, LEFT, NONE, PORTAL_BAD_FOLLOW_ON},
+        {"a second child left of itself", EAST, LEFT, EAST, PORTAL_BAD_FOLLOW_ON},
+        {"a left sibling that is the parent", EAST, LEFT, 0, PORTAL_BAD_FOLLOW_ON},
+        {"a left sibling that is no place", EAST, LEFT, 65536 + NORTH, PORTAL_BAD_FOLLOW_ON},
+        {"a leaf with a last child", HUT, LAST, HUT, PORTAL_BAD_FOLLOW_ON},
+        {"a last child of 2^32 - 1", HUT, LAST, 0xffffffff, PORTAL_BAD_FOLLOW_ON},
         {"the root has no child", 0, FIRST, NONE, PORTAL_BAD_FOLLOW_ON},
         {"the root's first child is the second", 0, FIRST, EAST, PORTAL_BAD_FOLLOW_ON},
         {"the root has a sibling", 0, RIGHT, 3, PORTAL_BAD_FOLLOW_ON},
@@ -437,12 +452,15 @@ static void lent_tables(void) {
             place(i)[FIRST] = i == 0 ? 1 : NONE;
             place(i)[RIGHT] = i == 0 || i + 1 == n ? NONE : (uint32_t)i + 1;
             place(i)[PARENT] = i == 0 ? NONE : 0;
+            place(i)[LEFT] = i < 2 ? NONE : (uint32_t)i - 1;
+            place(i)[LAST] = i == 0 ? (uint32_t)n - 1 : NONE;
         }
         place(0)[CHILDREN] = (uint32_t)n - 1;
         give(1);
         ends("a table that is full", follow, 10, n <= 512 ? PORTAL_FINISHED : PORTAL_BAD_FOLLOW_ON, 0);
         place(0)[FIRST] = (uint32_t)n - 1;
         place(0)[CHILDREN] = 1;
+        place(n - 1)[LEFT] = NONE;
         ends("the last place alone", follow, 10, n <= 512 ? PORTAL_FINISHED : PORTAL_BAD_BUFFERS, 0);
     }
 }
@@ -453,28 +471,30 @@ static int tree_stands(void) {
     static uint8_t seen[PORTAL_MAX_PLACES + 1];
     size_t places = table.length / PLACE, next = 0, found = 1;
     memset(seen, 0, sizeof seen);
-    if (places == 0 || place(0)[RIGHT] != NONE || place(0)[PARENT] != NONE || place(0)[EXISTENCE] != 0 || place(0)[CONTENT] > 1 || place(0)[LIST] > 1) {
+    if (places == 0 || place(0)[RIGHT] != NONE || place(0)[PARENT] != NONE || place(0)[LEFT] != NONE || place(0)[EXISTENCE] != 0 ||
+        place(0)[CONTENT] > 1 || place(0)[LIST] > 1) {
         return 0;
     }
     queue[0] = 0;
     seen[0] = 1;
     while (next < found) {
-        uint32_t up = queue[next++], least = place(up)[EXISTENCE], count = 0;
+        uint32_t up = queue[next++], least = place(up)[EXISTENCE], count = 0, last = NONE;
         for (uint32_t x = place(up)[FIRST]; x != NONE; x = place(x)[RIGHT]) {
             if (x >= places || seen[x] || found == PORTAL_MAX_PLACES) {
                 return 0;
             }
             const uint32_t *here = place(x);
-            if (here[PARENT] != up || here[EXISTENCE] < least || here[EXISTENCE] > place(up)[LIST] || here[CONTENT] < here[EXISTENCE] ||
-                here[LIST] < here[EXISTENCE] || here[CONTENT] > 1 || here[LIST] > 1) {
+            if (here[PARENT] != up || here[LEFT] != last || here[EXISTENCE] < least || here[EXISTENCE] > place(up)[LIST] ||
+                here[CONTENT] < here[EXISTENCE] || here[LIST] < here[EXISTENCE] || here[CONTENT] > 1 || here[LIST] > 1) {
                 return 0;
             }
             seen[x] = 1;
             least = here[EXISTENCE];
             queue[found++] = x;
             count++;
+            last = x;
         }
-        if (place(up)[CHILDREN] != count) {
+        if (place(up)[CHILDREN] != count || place(up)[LAST] != last) {
             return 0;
         }
     }
@@ -555,8 +575,8 @@ static void random_expression(int number, int target, int vars) {
 static void random_script(int vars) {
     int open = 0;
     for (uint32_t i = below(14); i > 0; i--) {
-        int number = (int)below(20);
-        number = number > 17 ? 6 : number;
+        int number = (int)below(22);
+        number = number > 19 ? 6 : number;
         if (number == 2 || number == 4 || number == 17) {
             open++;
         }
