@@ -100,6 +100,9 @@ class Bytes(unittest.TestCase):
         self.assertEqual([script[at:at + 16] for at in range(0, len(script), 16)],
                          [opening] + [bytes((command,)) + bytes(15) for command in (8, 3, 7, 5)])
 
+    def test_the_later_moves(self):
+        self.assertEqual(script_of(["left sibling", "last child"]), bytes((18,)) + bytes(15) + bytes((19,)) + bytes(15))
+
     def test_comments_blank_lines_and_indentation(self):
         plain = assembled(VARIABLES + TREE + "script\n  if a\n    up\n  root\n")
         loose = assembled("# a job\n\n" + "variables # two\n a=0\n\n h house=1\ntree\n      resort = 10\n            slope = 3 # snow\n"

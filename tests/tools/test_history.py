@@ -171,8 +171,8 @@ class Bytes(unittest.TestCase):
                 (b"\0", 11, "the section has 1 byte, which is no multiple of 16"),
                 (bytes(17), 11, "the section has 17 bytes, which is no multiple of 16"),
                 (section(*[b""] * 1025), 11, "the section has 1,025 records; it must have 0 to 1,024"),
-                (section(b"\x12", b"\x05") + b"\0", 11, "the section has 33 bytes"),
-                (section(b"\x05", b"\x12"), 7, "record 1, bytes 16 to 31: its command is 18"),
+                (section(b"\x14", b"\x05") + b"\0", 11, "the section has 33 bytes"),
+                (section(b"\x05", b"\x14"), 7, "record 1, bytes 16 to 31: its command is 20"),
                 (section(b"\x01\x02"), 7, "record 0, bytes 0 to 15: its target is variable 2, and there are 2 variables"),
                 (section(b"\x05"), 8, "record 0, bytes 0 to 15: it is an end, and no block is open"),
                 (section(b"\x02", b"\x09"), 8, "the script's end: the script ends with 1 block still open")):

@@ -55,7 +55,7 @@ DAMAGED = (
     (with_nodes((65535, 0, 0, 1), (0, 1, 1, 1), (1, 0, 0, 0)), 6, 2, "it is public under node 1, which is house"),
     (with_nodes(TOP, (0, 1, 1, 1)), 6, 1, "a house node under node 0, whose list level is public"),
     (with_nodes((65535, 0, 0, 1), (0, 1, 1, 1), (0, 0, 0, 0)), 6, 2, "it is public and stands right of node 1, which is house"),
-    (with_script(b"\0", b"\x12"), 7, 1, "record 1, bytes 28 to 43: its command is 18"),
+    (with_script(b"\0", b"\x14"), 7, 1, "record 1, bytes 28 to 43: its command is 20"),
     (with_script(b"\x01"), 7, 0, "its target is variable 0, and there are 0 variables"),
     (with_script(b"\x0b\x04"), 7, 0, "its mark is 4"),
     (with_script(b"\x06\0\x06"), 7, 0, "its operator is 6"),
@@ -77,8 +77,8 @@ DAMAGED = (
     (with_script(*[b"\x02"] * 17 + [b"\x05"] * 17), 8, 16, "it opens the 17th nested block"),
     # Each check goes over its whole section before the next number starts.
     (with_nodes((65535, 1, 1, 1), TOP), 5, 1, "it has no parent"),
-    (with_script(b"\x05", b"\x12"), 7, 1, "its command is 18"),
-    (with_script(b"\0\1", b"\x12"), 7, 1, "its command is 18"),
+    (with_script(b"\x05", b"\x14"), 7, 1, "its command is 20"),
+    (with_script(b"\0\1", b"\x14"), 7, 1, "its command is 20"),
     (with_script(b"\x05", b"\0\1"), 12, 1, "its byte 1, of the target, is 1"),
 )
 
@@ -169,7 +169,7 @@ class Bare(unittest.TestCase):
         for data, number, message in (
                 (bytes(15), 11, "the section has 15 bytes, which is no multiple of 16"),
                 (bytes(16 * 1025), 11, "the section has 1,025 records; it must have 0 to 1,024"),
-                (b"\x12" + bytes(15), 7, "record 0, bytes 0 to 15: its command is 18"),
+                (b"\x14" + bytes(15), 7, "record 0, bytes 0 to 15: its command is 20"),
                 (b"\x01\x40" + bytes(14), 7, "record 0, bytes 0 to 15: its target is variable 64, and there are 64 variables"),
                 (bytes(16) + b"\x08\0\0\0\0\1" + bytes(9) + b"\2", 12, "record 1, bytes 16 to 31: its byte 5 is 1; nobody reads it there, so it must be 0"),
                 (b"\x04" + bytes(14) + b"\7", 12, "record 0, bytes 0 to 15: its byte 15, of the right number, is 7"),
@@ -208,7 +208,7 @@ class RoundTrips(unittest.TestCase):
         texts = [self.back_and_forth(data) for data in jobs]
         # The jobs have everything that a source can say.
         records = [record for data in jobs for record in job.decode(data).records]
-        self.assertEqual({record.command for record in records}, set(range(18)))
+        self.assertEqual({record.command for record in records}, set(range(20)))
         self.assertEqual({r.target for r in records if r.command == job.NEW_FIRST_CHILD}, {0, 1, 2, 3})
         self.assertEqual({r.target for r in records if r.command == job.NEW_RIGHT_SIBLING}, {0, 1, 2, 3})
         self.assertEqual({r.operator for r in records if r.operands()}, set(range(6)))

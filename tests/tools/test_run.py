@@ -117,6 +117,18 @@ class Stopped(unittest.TestCase):
         self.stops(script("new right sibling: 1"), FIRST, 3, 22, "0 steps", "resort is the root")
         self.stops(script("first child", "remove first child"), FIRST + 1, 3, 22, "1 step", "slope has no child", "`if children`")
         self.stops(script("first child", "right sibling"), FIRST + 1, 3, 22, "1 step", "slope has no sibling to its right")
+        self.stops(script("last child", "left sibling"), FIRST + 1, 3, 22, "1 step", "slope has no sibling to its left", "go left one time less")
+        self.stops(script("first child", "last child"), FIRST + 1, 3, 22, "1 step", "slope has no child", "`if children`")
+        self.stops(script("left sibling"), FIRST, 3, 22, "0 steps", "resort is the root: it has no parent and no siblings")
+
+    def test_the_last_child_of_a_house_list(self):
+        """Where it stands is a house matter, though it is a public node itself; from the front it is not."""
+        tree = "  resort list house = 10\n    slope = 3\n    lake = 4\n"
+        lines = ["last child", "print value"]
+        self.stops(script(*lines, tree=tree), FIRST + 2, 3, 21, "1 step", "cursor level house since line 9 (last child)",
+                   "Write `root`, `first child`, `right sibling` before the print", "`value` will be that of lake, as now.")
+        done = run(script("first child", "right sibling", "print value", tree=tree))
+        self.assertEqual(done.status, 0, done.output)
 
     def test_an_end_that_cannot_come_back(self):
         lines = ["first child", "if 1 and come back", "  up", "  remove first child", "print value"]

@@ -6,8 +6,8 @@ from typing import NamedTuple
 
 from .checks import describe, plural
 from .commands import (
-    ASSIGN, CHILDREN, END, FIRST_CHILD, IF, IF_BACK, INSERTIONS, NAMED, NEW_FIRST_CHILD, PRINT, REMOVALS, REMOVE_FIRST_CHILD,
-    SET, SUM, VALUE, WHILE)
+    ASSIGN, CHILDREN, END, FIRST_CHILD, IF, IF_BACK, INSERTIONS, LAST_CHILD, LEFT_SIBLING, NAMED, NEW_FIRST_CHILD, PRINT, REMOVALS,
+    REMOVE_FIRST_CHILD, SET, SUM, VALUE, WHILE)
 from .endings import ABSENT, FINISHED, FLOW, FULL_BOARD, FULL_TABLE, OVERFLOW, USED_UP, ending_text
 from .errors import quoted
 from .limits import ASKED_LINES, HOUSE, LEVELS, MAX_BUDGET, MAX_NODES, PROGRAM, PUBLIC
@@ -235,15 +235,18 @@ class Account:
         if command == END:
             return self.not_back()
         name = node.name
-        if command in (FIRST_CHILD, REMOVE_FIRST_CHILD):
+        if command in (FIRST_CHILD, LAST_CHILD, REMOVE_FIRST_CHILD):
             missing = f"{name} has no child."
             self.advice.append("Ask first: `if children` runs its block only where there is a child.")
-            if node.list and not self.run.cursor_level and command == FIRST_CHILD:
+            if node.list and not self.run.cursor_level and command in (FIRST_CHILD, LAST_CHILD):
                 self.advice.append("The list is house, so that is a house guard: write `cover` before it, to move inside the block.")
         elif node.parent is None:
             missing = f"{name} is the root: it has no parent and no siblings."
             self.advice.append("Go down with `first child` before this line, or leave it out." if node.children
                                else "Leave it out: the root has no child to go down to.")
+        elif command == LEFT_SIBLING:
+            missing = f"{name} has no sibling to its left."
+            self.advice.append("Count on the way: put `children` of the parent into a variable, and go left one time less.")
         else:
             missing = f"{name} has no sibling to its right."
             self.advice.append("Count on the way: put `children` of the parent into a variable, and go right one time less.")

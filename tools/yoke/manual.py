@@ -29,7 +29,7 @@ statements:
                                 where it was, at the level that it had
   while EXPRESSION              again and again until it is 0
   empty                         the only line of a block that has none
-  root, up, first child, right sibling
+  root, up, first child, last child, left sibling, right sibling
                                 move the cursor, which starts at the root
   new first child: EXPRESSION   also: new right sibling; before the colon
                                 `content house`, `list house` or both, in

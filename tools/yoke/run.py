@@ -4,7 +4,7 @@ from typing import NamedTuple
 
 from .commands import (
     ALONE, ASSIGN, COMMANDS, CONSTANT, COVER, DIFFERENCE, ELSE, END, EQUAL, FIRST_CHILD, LESS, MARK_CONTENT, MARK_LIST, MEAN,
-    IF_BACK, MOVES, NAMED, NEW_FIRST_CHILD, PRINT, REMOVALS, REMOVE_FIRST_CHILD, ROOT, SET, SUM, UP, VALUE, WHILE)
+    IF_BACK, LAST_CHILD, LEFT_SIBLING, MOVES, NAMED, NEW_FIRST_CHILD, PRINT, REMOVALS, REMOVE_FIRST_CHILD, ROOT, SET, SUM, UP, VALUE, WHILE)
 from .encoding import Node, signed
 from .endings import ABSENT, BELOW, FINISHED, FLOW, FULL_BOARD, FULL_TABLE, OVERFLOW, USED_UP
 from .limits import HOUSE, PUBLIC, Limits
@@ -26,6 +26,12 @@ class Tree:
 
     def place(self):
         return self.parent.children.index(self)
+
+    def left(self):
+        """The sibling to the left, or None; the root has none."""
+        if self.parent is None or self.place() == 0:
+            return None
+        return self.parent.children[self.place() - 1]
 
     def right(self):
         """The sibling to the right, or None; the root has none."""
@@ -288,6 +294,10 @@ class Run:
             return self.cursor.parent
         if command in (FIRST_CHILD, REMOVE_FIRST_CHILD):
             return self.cursor.children[0] if self.cursor.children else None
+        if command == LAST_CHILD:
+            return self.cursor.children[-1] if self.cursor.children else None
+        if command == LEFT_SIBLING:
+            return self.cursor.left()
         return self.cursor.right()
 
     def move(self, command):
@@ -301,6 +311,8 @@ class Run:
             self.cursor_level = context
         elif command == COVER:
             self.cursor_level = HOUSE
+        elif command == LAST_CHILD:
+            self.cursor_level = max(before, self.cursor.list)
         else:
             self.cursor_level = max(before, node.existence)
         if not before and self.cursor_level:
