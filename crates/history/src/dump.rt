@@ -29,6 +29,8 @@ fn put_record(buf: &mut [u8; SIZE], out: Out, words: &[u32; WORDS], place: usize
         wide(d.existence),
         wide(d.content),
         wide(d.structure),
+        d.left,
+        d.last,
     ];
     print::row(buf, out, b"record", &numbers, 5)
 }

@@ -16,7 +16,7 @@ fn low(x: u32) -> u8 {
     (x % 256) as u8
 }
 
-// A record with another number in one of its eight fields.
+// A record with another number in one of its fields; 16 and 17 came with R-7.
 fn with(node: Node, field: usize, x: u32) -> Node {
     let mut r = node;
     match field {
@@ -27,9 +27,16 @@ fn with(node: Node, field: usize, x: u32) -> Node {
         4 => r.value = signed(x),
         5 => r.existence = low(x),
         6 => r.content = low(x),
-        _ => r.structure = low(x),
+        7 => r.structure = low(x),
+        16 => r.left = x,
+        _ => r.last = x,
     }
     r
+}
+
+// Whether an entry sets a field of a record.
+fn is_field(what: usize) -> bool {
+    (what < 8) | (what == 16) | (what == 17)
 }
 
 fn set_field(words: &mut [u32; WORDS], place: usize, field: usize, x: u32) {
@@ -60,7 +67,7 @@ pub fn set(words: &mut [u32; WORDS], v: Variables, entry: &[u8; 8]) -> Variables
     let what = half_at(entry, 0);
     let at = half_at(entry, 2);
     let x = full_at(entry, 4);
-    if what < 8 {
+    if is_field(what) {
         set_field(words, at, what, x);
         return v;
     }
