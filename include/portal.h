@@ -20,9 +20,9 @@
 #include <stdint.h>
 
 /* The version of this header and of the library beside it. The first number changes where a program must be changed. */
-#define PORTAL_VERSION "1.5.0"
+#define PORTAL_VERSION "1.6.0"
 #define PORTAL_VERSION_MAJOR 1
-#define PORTAL_VERSION_MINOR 5
+#define PORTAL_VERSION_MINOR 6
 #define PORTAL_VERSION_PATCH 0
 
 /* The largest job, in bytes. Read up to one byte more, so that a longer one is seen and turned back. */
@@ -38,7 +38,7 @@
 #define PORTAL_MAX_SCRIPT 16384
 
 /* A table of nodes has PORTAL_PLACE_WORDS words for each place, and at most PORTAL_MAX_PLACES places. */
-#define PORTAL_PLACE_WORDS 8
+#define PORTAL_PLACE_WORDS 10
 #define PORTAL_MAX_PLACES 512
 #define PORTAL_MAX_WORDS (PORTAL_PLACE_WORDS * PORTAL_MAX_PLACES)
 
@@ -63,7 +63,7 @@ enum {
     PORTAL_BAD_VARIABLE_LEVEL = 4,  /* a variable's level is above 1 */
     PORTAL_BAD_PARENT = 5,          /* a node's parent does not come before it, or record 0 is no root */
     PORTAL_BAD_TREE = 6,            /* a node's level is above 1, or a rule of the tree is broken */
-    PORTAL_BAD_FIELD = 7,           /* a command above 17, or a field that it reads is out of range */
+    PORTAL_BAD_FIELD = 7,           /* a command above 19, or a field that it reads is out of range */
     PORTAL_BAD_BLOCKS = 8,          /* if, else, while and end do not match, or more than 16 of them are nested */
     PORTAL_BAD_BUDGET = 9,          /* the budget is not 1 to 1,000,000 */
     PORTAL_BAD_BUFFERS = 10,        /* more than 512 places; to portal_start also too few places or variables. portal_run has room for every job */

@@ -49,7 +49,7 @@ class Dissected(unittest.TestCase):
 class Tables(unittest.TestCase):
     def test_commands(self):
         rows = re.findall(r"^\| (\d+) \| (`[^`]+`|the end of a block) \| (variable|mark|) ?\| (read|) ?\|$", TEXT, re.M)
-        self.assertEqual([int(row[0]) for row in rows], list(range(18)))
+        self.assertEqual([int(row[0]) for row in rows], list(range(20)))
         for (_, words, target, expression), row in zip(rows, job.COMMANDS):
             self.assertEqual((target, bool(expression)), (row.target, row.expression))
             self.assertTrue(row.words in words or row.words == "end")
@@ -73,21 +73,21 @@ class FollowOn(unittest.TestCase):
 
     def test_words(self):
         """The words of a place, in the order of the node table."""
-        names = ["first child", "right sibling", "parent", "existence", "value", "children", "content", "list"]
+        names = ["first child", "right sibling", "parent", "existence", "value", "children", "content", "list", "left sibling", "last child"]
         found = rows("word | what")
-        self.assertEqual([int(row[0]) for row in found], list(range(8)))
+        self.assertEqual([int(row[0]) for row in found], list(range(10)))
         for name, row in zip(names, found):
             self.assertIn(name, row[1])
         table = (HOME / "crates/table/src/lib.rt").read_text(encoding="utf-8") + (HOME / "crates/table/src/cells.rt").read_text(encoding="utf-8")
         constants = dict(re.findall(r"^pub const (\w+): usize = (\d+);$", table, re.M))
-        code = ["FIRST", "RIGHT", "PARENT", "EXISTENCE", "VALUE", "CHILDREN", "CONTENT", "STRUCTURE"]
-        self.assertEqual([int(constants[name]) for name in code], list(range(8)))
-        self.assertEqual((constants["CELL"], constants["NIL"]), ("8", "65535"))
-        self.assertEqual(TEXT.count("or 65535"), 3)
+        code = ["FIRST", "RIGHT", "PARENT", "EXISTENCE", "VALUE", "CHILDREN", "CONTENT", "STRUCTURE", "LEFT", "LAST"]
+        self.assertEqual([int(constants[name]) for name in code], list(range(10)))
+        self.assertEqual((constants["CELL"], constants["NIL"]), ("10", "65535"))
+        self.assertEqual(TEXT.count("or 65535"), 5)
 
     def test_the_words_are_checked(self):
         """Each rule of a place, broken by a poke of history, is 11; what stands in a free place is none's business."""
-        fields = {"first": 0, "right": 1, "parent": 2, "children": 3, "existence": 5, "content": 6, "list": 7}
+        fields = {"first": 0, "right": 1, "parent": 2, "children": 3, "existence": 5, "content": 6, "list": 7, "left": 16, "last": 17}
         first = assembled("variables\n  a = 0\ntree\n  resort = 10\n    slope = 3\n")
 
         def told(*events):
@@ -103,7 +103,8 @@ class FollowOn(unittest.TestCase):
         for name, place, value in (("first", root, 3), ("first", root, root), ("first", slope, slope), ("right", root, slope),
                                    ("right", slope, root), ("right", slope, 3), ("parent", root, root), ("parent", slope, slope), ("children", root, 2),
                                    ("children", slope, 1), ("existence", root, 1), ("existence", slope, 1), ("content", slope, 2),
-                                   ("list", root, 7)):
+                                   ("list", root, 7), ("left", root, slope), ("left", slope, root), ("left", slope, slope), ("last", root, 65535),
+                                   ("last", root, root), ("last", slope, slope), ("last", slope, 3)):
             with self.subTest(name, place=place, value=value):
                 self.assertEqual(ending(fields[name], place, value), ["11"])
                 self.assertEqual(ending(fields[name], free, value), ["0"])

@@ -76,7 +76,7 @@ class FollowOn(unittest.TestCase):
         events, expected = struct.pack("<IIIHH", 0, len(first), 1, 512, 0) + first, [0]
         for mended in range(len(said) + 1):
             faults = said[mended:]
-            section = (b"\x12" + bytes(15)) * (7 in faults) + (b"\0\1" + bytes(14)) * (12 in faults) + (b"\x02" + bytes(15)) * (8 in faults)
+            section = (b"\x14" + bytes(15)) * (7 in faults) + (b"\0\1" + bytes(14)) * (12 in faults) + (b"\x02" + bytes(15)) * (8 in faults)
             section += bytes(11 in faults)
             events += struct.pack("<IIIHH", 1, len(section), 0 if 9 in faults else 1, 513 if 10 in faults else 512, 0) + section
             expected.append(faults[0] if faults else 0)
