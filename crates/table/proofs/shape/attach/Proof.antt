@@ -16,7 +16,7 @@ count-up-requires c κs =
           omega
           (arith, s .pre .0 .long, c .before .before .before .before .before .before .before .before .before .before .before .before .before .before .before .before .before .before .before .clear .kept .0, c .before .before .before .before .before .before .before .before .before .before .before .before .before .fill .kept .0, c .before .before .before .before .before .before .before .before .store .kept .0, c .before .before .before .lead-back .kept .0);
       few = s .pre .0 .few;
-      inside = s .pre .1 .1 .0;
+      inside = omega (arith, s .pre .1 .1 .0, s .pre .1 .1 .1);
     }
 
 returns : tie.Need-returns

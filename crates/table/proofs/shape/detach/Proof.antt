@@ -15,7 +15,7 @@ count-down-requires c κs =
           omega
           (arith, s .pre .0 .long, c .before .before .before .before .before .before .before .before .before .before .before .before .before .before .before .before .before .store .kept .0, c .before .before .before .before .before .before .before .before .before .before .before .before .before .lead-back .kept .0, c .before .before .before .before .before .before .before .before .store2 .kept .0, c .before .before .before .store3 .kept .0);
       few = s .pre .0 .few;
-      inside = s .pre .1 .1 .0;
+      inside = omega (arith, s .pre .1 .1 .0, s .pre .1 .1 .1);
     }
 
 returns : tie.Need-returns
