@@ -202,7 +202,8 @@ module _ (m : Table) (n : ℕ) (le : n ≤ gone) (T mk : ℕ → ℕ) where
         },
   )
 
-  pub cover-up : (k : Trail) (v x c lo : ℕ) → m x .last ≡ v → Cover m n T mk (under x c k) v gone 0 lo ↔ Cover m n T mk k x (m x .right) c (m x .label .existence)
+  pub cover-up : (k : Trail) (v x c lo : ℕ) → m x .last ≡ v
+      → Cover m n T mk (under x c k) v gone 0 lo ↔ Cover m n T mk k x (m x .right) c (m x .label .existence)
   cover-up k v x c lo z = (
     λ h.
         let e = no-node (h .f) le (h .fills) in
