@@ -16,7 +16,7 @@ fn low(x: u32) -> u8 {
     (x % 256) as u8
 }
 
-// A record with another number in one of its fields; 16 and 17 came with R-7.
+// A record with another number in one of its ten fields.
 fn with(node: Node, field: usize, x: u32) -> Node {
     let mut r = node;
     match field {
@@ -34,7 +34,7 @@ fn with(node: Node, field: usize, x: u32) -> Node {
     r
 }
 
-// Whether an entry sets a field of a record.
+// The numbers of a record's fields: from 16 on those that were not there at first.
 fn is_field(what: usize) -> bool {
     (what < 8) | (what == 16) | (what == 17)
 }

@@ -83,7 +83,7 @@ fn follow(
     values: &mut [i32],
     lines: &mut [u8],
 ) -> Outcome
-    requires { ⌜ (4104 ≤ length (now words)) × (n ≤ length (now levels)) × (n ≤ length (now values)) ⌝ }
+    requires { ⌜ (5130 ≤ length (now words)) × (n ≤ length (now levels)) × (n ≤ length (now values)) ⌝ }
 {
     follow_own(
         section,

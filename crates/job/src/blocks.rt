@@ -1,5 +1,6 @@
 // The nesting of blocks: check 8, and in the same pass the plan of the script. A block has one part, or two with an else between them: an if, an
-// else and a while begin a part, an else and an end close one. An if that comes back counts as an if. Over the open parts "second else" and "innermost open block is no if" are one test.
+// else and a while begin a part, an else and an end close one; an if that comes back counts as an if. Over the open parts "second else" and
+// "innermost open block is no if" are one test.
 use crate::plan::END_BACK;
 use crate::plan::END_MARK;
 use crate::records::BACK;

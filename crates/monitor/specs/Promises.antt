@@ -79,7 +79,7 @@ pub record PromisesLines (b : List ℕ) (budget : ℕ) (area area′ : List ℕ)
   pub outcome : r ≡ told (runJob b budget (largest area))
   pub lines : area′ ≡ written (boardLines (runJob b budget (largest area))) area
 
--- a table of words has eight to a place
+-- a table of words has ten to a place
 abbrev pub placesIn : List ℕ → ℕ
 placesIn words = length words / cellSize
 

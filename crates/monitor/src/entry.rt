@@ -183,7 +183,7 @@ pub fn run_places(
     }
 }
 
-// The same with a table of words alone: it has as many places as there are eights of words.
+// The same with a table of words alone: it has as many places as there are tens of words.
 pub fn run_words(
     job: &[u8],
     budget: u64,

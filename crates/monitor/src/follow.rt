@@ -130,7 +130,7 @@ pub fn follow_places(
     }
 }
 
-// The same with a table of words alone: it has as many places as there are eights of words, of which links lead to no more than 65,535.
+// The same with a table of words alone: it has as many places as there are tens of words, of which links lead to no more than 65,535.
 pub fn follow_words(
     section: &[u8],
     budget: u64,

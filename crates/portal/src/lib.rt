@@ -43,7 +43,7 @@ pub extern "C" fn portal_run(job: &[u8], budget: u64, lines: &mut [u8]) -> u64
     number(run_lines(job, budget, lines))
 }
 
-// The job is run over what the portal keeps: a node table of eight words to a place, the variables' levels and values. Its tree and variables stay there.
+// The job is run over what the portal keeps: a node table of ten words to a place, the variables' levels and values. Its tree and variables stay there.
 #[no_mangle]
 pub extern "C" fn portal_start(
     job: &[u8],

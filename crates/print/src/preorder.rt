@@ -1,4 +1,4 @@
-// The tree in the words of a node table, eight to a place, node by node in preorder: the root, which stands at place 0, then each child with its
+// The tree in the words of a node table, ten to a place, node by node in preorder: the root, which stands at place 0, then each child with its
 // subtree, from left to right.
 ghost use mathlib.Core.Path.{_≡_};
 ghost use mathlib.Core.Bool.{true, false};

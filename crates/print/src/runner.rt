@@ -8,8 +8,7 @@ pub const BUDGET: u64 = 100000;
 
 pub const PLACES: usize = 512;
 
-// Eight words to a place.
-pub const WORDS: usize = 4096;
+pub const WORDS: usize = table::CELL * PLACES;
 
 pub const VARIABLES: usize = 64;
 

@@ -5,7 +5,7 @@ use Rattle.history.proofs.runs.keep.Statement.{statement}
 use Rattle.history.proofs.runs.keep.Tie as tie
 
 abbrev Inv-loop : tie.InvT-loop
-Inv-loop words₀ fresh places n i₀ words i = (i ≤ n) × (n ≤ 4104)
+Inv-loop words₀ fresh places n i₀ words i = (i ≤ n) × (n ≤ 5130)
 
 abbrev μ-loop : tie.MeasureT-loop
 μ-loop words₀ fresh places n i₀ words i = n - i
