@@ -13,7 +13,8 @@ pub fn dirty(seed: u64) -> Case {
     let mut random = Random::new(seed ^ 0x0064_6972_7479);
     let case = match random.below(5) {
         0 | 1 => damaged(seed),
-        _ => valid(seed),
+        2 => valid(seed),
+        _ => stored(&mut random),
     };
     // A damaged case may have no sections to write in.
     let Ok(mut job) = split(&case.bytes) else {
@@ -50,6 +51,15 @@ pub fn full_of_notes(seed: u64) -> Case {
             places: MAX_NODES,
             ..limits
         },
+    }
+}
+
+/// A valid case that the cleaner does not turn back.
+fn stored(random: &mut Random) -> Case {
+    let (job, limits) = stored_job(random);
+    Case {
+        bytes: job.encode(),
+        limits,
     }
 }
 
