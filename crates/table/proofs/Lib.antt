@@ -1,5 +1,6 @@
 -- The laws of the table: what its cells say of the tree that it holds, and what a change of them does to it. Those that callers cite come first.
 pub mod Behind
+pub mod Children
 pub mod Copies
 pub mod Moves
 pub mod Once
