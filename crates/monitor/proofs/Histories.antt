@@ -69,7 +69,7 @@ again x y s st h =
 module _ {T : Type 0} (places : T → ℕ) (HoldsTree : T → ℕ → Forest → Place → Type 0) (StandsIn : T → Forest → Type 0)
     (one : (w : T) (t u : Forest) → StandsIn w t → StandsIn w u → t ≡ u) (o : Level) where
   -- at most one store is held
-  one-store : (x : Lent T) (s t : Store) → HoldsStore StandsIn x s → HoldsStore StandsIn x t → s ≡ t
+  pub one-store : (x : Lent T) (s t : Store) → HoldsStore StandsIn x s → HoldsStore StandsIn x t → s ≡ t
   one-store x s t h k =
       let v = h .variables ∙ sym (k .variables) in
       let f = one (x .table) (s .tree) (t .tree) (h .tree) (k .tree) in

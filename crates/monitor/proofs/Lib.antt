@@ -10,4 +10,5 @@ pub mod Followed
 pub mod Taken
 pub mod Histories
 pub mod JobHistories
+pub mod Children
 pub mod Admitted

@@ -6,3 +6,4 @@ pub mod Secrecy
 pub mod FromRoot
 pub mod Follow
 pub mod Histories
+pub mod Children
