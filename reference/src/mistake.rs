@@ -86,6 +86,11 @@ pub enum Mistake {
     LastIsFirst,
     /// Command 18 goes up from a first child.
     LeftOfFirstIsUp,
+    // Counts of children.
+    /// A removal leaves the parent's count.
+    RemovalNotCounted,
+    /// A new node starts with the count of the node that was removed last.
+    ReusedCountKept,
     /// The rule of this command is not tested.
     NoRule(u8),
     // Checks of the bytes.
@@ -134,6 +139,10 @@ pub enum Mistake {
     LentLastUnchecked,
     /// A free place with a link to the left that is no place is 11.
     FreeLeftChecked,
+    /// A count above the number of children is accepted.
+    LentCountTooHigh,
+    /// A free place with a count and no child is 11.
+    FreeCountsChecked,
     /// The tree rules are not looked at.
     LentRulesUnchecked,
     /// A link that is no place is no link.
@@ -149,7 +158,7 @@ pub const RULED_COMMANDS: [u8; 14] = [1, 6, 7, 8, 9, 10, 11, 12, 13, 14, 15, 16,
 
 impl Mistake {
     /// Every mistake that a job shows, without `None` and `NoRule`.
-    pub const ALL: [Mistake; 45] = [
+    pub const ALL: [Mistake; 47] = [
         Mistake::MoveRaisesCursorLevel,
         Mistake::ChildrenLevelFromChildren,
         Mistake::RootResetsCursorLevel,
@@ -189,6 +198,8 @@ impl Mistake {
         Mistake::LastJoinsNothing,
         Mistake::LastIsFirst,
         Mistake::LeftOfFirstIsUp,
+        Mistake::RemovalNotCounted,
+        Mistake::ReusedCountKept,
         Mistake::LeftIsPreviousRecord,
         Mistake::RightSideAlwaysChecked,
         Mistake::SeventeenBlocksAccepted,
@@ -205,7 +216,7 @@ impl Mistake {
     ];
 
     /// The mistakes that only a follow-on script shows.
-    pub const FOLLOWING: [Mistake; 17] = [
+    pub const FOLLOWING: [Mistake; 19] = [
         Mistake::CursorStays,
         Mistake::StopTakenBack,
         Mistake::BudgetBeforeStanding,
@@ -219,6 +230,8 @@ impl Mistake {
         Mistake::LentLeftUnchecked,
         Mistake::LentLastUnchecked,
         Mistake::FreeLeftChecked,
+        Mistake::LentCountTooHigh,
+        Mistake::FreeCountsChecked,
         Mistake::LentRulesUnchecked,
         Mistake::LinkOutsideIsNone,
         Mistake::FreePlacesChecked,

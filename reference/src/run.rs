@@ -115,6 +115,8 @@ pub struct Remembered {
 #[derive(Clone, Debug)]
 struct Names {
     name: u64,
+    /// Children that are counted and are not there: only a wrong monitor has any.
+    surplus: usize,
     children: Vec<Names>,
 }
 
@@ -126,8 +128,13 @@ impl Names {
         let children = tree.children.iter();
         Names {
             name,
+            surplus: 0,
             children: children.map(|child| Names::of(child, next)).collect(),
         }
+    }
+
+    fn at(&self, path: &[usize]) -> &Names {
+        path.iter().fold(self, |node, &place| &node.children[place])
     }
 
     fn at_mut(&mut self, path: &[usize]) -> &mut Names {
@@ -229,6 +236,8 @@ pub struct Monitor<'a> {
     mistake: Mistake,
     names: Names,
     next_name: u64,
+    /// How many children the node had that was removed last, for a wrong monitor.
+    freed: usize,
     pub state: State,
 }
 
@@ -272,6 +281,7 @@ impl<'a> Monitor<'a> {
             mistake,
             names,
             next_name,
+            freed: 0,
             state,
         }
     }
@@ -421,7 +431,7 @@ impl<'a> Monitor<'a> {
     fn open_back(&mut self, record: &Record) -> Result<(), Ending> {
         let around = self.context();
         let remembered = Remembered {
-            node: self.names.at_mut(&self.state.cursor).name,
+            node: self.names.at(&self.state.cursor).name,
             cursor_level: self.state.cursor_level,
             place: self.state.cursor.clone(),
         };
@@ -638,7 +648,10 @@ impl<'a> Monitor<'a> {
 
     /// A new node, which has a name of its own.
     fn insert(&mut self, above: &Path, place: usize, node: Tree) {
-        let named = Names::of(&node, &mut self.next_name);
+        let mut named = Names::of(&node, &mut self.next_name);
+        if self.mistake == Mistake::ReusedCountKept {
+            named.surplus = self.freed;
+        }
         self.names.at_mut(above).children.insert(place, named);
         let parent = self.state.tree.at_mut(above);
         parent.children.insert(place, node);
@@ -646,7 +659,12 @@ impl<'a> Monitor<'a> {
 
     fn remove(&mut self, node: &Path) {
         let (&place, above) = node.split_last().expect("not the root");
-        self.names.at_mut(above).children.remove(place);
+        let parent = self.names.at_mut(above);
+        let removed = parent.children.remove(place);
+        self.freed = removed.children.len() + removed.surplus;
+        if self.mistake == Mistake::RemovalNotCounted {
+            parent.surplus += 1;
+        }
         self.state.tree.at_mut(above).children.remove(place);
     }
 
@@ -807,7 +825,7 @@ impl<'a> Monitor<'a> {
                 },
             },
             kind::CHILDREN => Evaluated {
-                result: node.children.len() as i64,
+                result: (node.children.len() + self.names.at(&self.state.cursor).surplus) as i64,
                 level: match self.mistake {
                     Mistake::ChildrenForgetCursorLevel => node.list,
                     _ => join(self.state.cursor_level, self.children_level(node)),

@@ -101,11 +101,8 @@ pub fn tree(table: &[Lent], mistake: Mistake) -> Result<Tree, Fault> {
         return Err(Fault::RootSibling);
     }
     let (tree, _) = reader.subtree(0, NO_LINK, NO_LINK)?;
-    if mistake == Mistake::FreePlacesChecked && reader.free_place_is_faulty(|record| record.first) {
+    if reader.free_place_is_faulty() {
         return Err(Fault::Link);
-    }
-    if mistake == Mistake::FreeLeftChecked && reader.free_place_is_faulty(|record| record.left) {
-        return Err(Fault::Left);
     }
     if tree.has_level_above_1() {
         return Err(Fault::Level);
@@ -166,8 +163,12 @@ impl Reader<'_> {
             return Err(Fault::Last);
         }
         self.found[place as usize] = Found::Whole;
-        let counted = record.children == children.len() as u32;
-        if !counted && self.mistake != Mistake::LentCountUnchecked {
+        let counted = match self.mistake {
+            Mistake::LentCountUnchecked => true,
+            Mistake::LentCountTooHigh => record.children >= children.len() as u32,
+            _ => record.children == children.len() as u32,
+        };
+        if !counted {
             return Err(Fault::Count);
         }
         let tree = Tree {
@@ -188,10 +189,16 @@ impl Reader<'_> {
         }
     }
 
-    /// Whether a free place has a link that is no place.
-    fn free_place_is_faulty(&self, link: fn(&Lent) -> u32) -> bool {
-        let links = self.table.iter().zip(&self.found);
-        let mut free = links.filter(|(_, found)| **found == Found::Not);
-        free.any(|(record, _)| link(record) != NO_LINK && link(record) as usize >= self.table.len())
+    /// Whether a wrong monitor minds what a free place holds.
+    fn free_place_is_faulty(&self) -> bool {
+        let outside = |link: u32| link != NO_LINK && link as usize >= self.table.len();
+        let records = self.table.iter().zip(&self.found);
+        let mut free = records.filter(|(_, found)| **found == Found::Not);
+        free.any(|(record, _)| match self.mistake {
+            Mistake::FreePlacesChecked => outside(record.first),
+            Mistake::FreeLeftChecked => outside(record.left),
+            Mistake::FreeCountsChecked => record.first == NO_LINK && record.children != 0,
+            _ => false,
+        })
     }
 }

@@ -64,6 +64,8 @@ pub fn table() -> Vec<Workload> {
         churn(20),
         sibling_churn(),
         children_read(500),
+        children_read(1),
+        children_read(511),
         subtrees(),
         guards(),
         below_chain(MAX_NODES - 1),
@@ -154,6 +156,16 @@ pub fn by_nodes() -> Vec<Growth> {
             |nodes| nested_back(nodes - 1),
         ),
     ]
+}
+
+/// From 1 to 511 children, which is all that a root can have.
+pub fn by_children() -> Vec<Growth> {
+    let sizes = [1, 64, 511];
+    vec![Growth::new(
+        "children read at the root",
+        sizes,
+        children_read,
+    )]
 }
 
 /// From 10 to 1,000 records, the loop's two included.
@@ -260,7 +272,10 @@ fn sibling_churn() -> Workload {
 
 fn children_read(count: usize) -> Workload {
     let body = [assign(0, children())].repeat(100);
-    let name = format!("children read, {count} children");
+    let name = match count {
+        1 => String::from("children read, 1 child"),
+        _ => format!("children read, {count} children"),
+    };
     long(
         &name,
         &[public_variable(0)],

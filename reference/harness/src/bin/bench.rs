@@ -70,6 +70,12 @@ fn main() {
         return;
     }
     growth(&mut bench, repetitions, "nodes", workloads::by_nodes());
+    growth(
+        &mut bench,
+        repetitions,
+        "children",
+        workloads::by_children(),
+    );
     growth(&mut bench, repetitions, "records", workloads::by_records());
     if let Some(path) = arguments.replay() {
         through_replay(&Replay { path }, repetitions);
