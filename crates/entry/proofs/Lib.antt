@@ -1,5 +1,6 @@
 -- The laws of the run over lent node records; those that callers cite come first.
 pub mod Secret
+pub mod Children
 mod Runs
 mod Following
 mod Owning
