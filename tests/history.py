@@ -236,6 +236,68 @@ for entries, left in [
 ]:
     history(f"a table that serves, {entries}", PUT, (poke(*entries), POKED), (script(places=6), came(0, left=left + TREE)))
 
+# R-8: each live node's count is the number of its live children, after the load and after every script, also where subtrees were removed and their places
+# serve again. Which places these are is the program's own affair, so what a dump shows is followed by its links. A wrong count at a live node is 11, and
+# nothing has changed; one at a free place is nothing.
+def told(*events):
+    """What comes for each event, without its head."""
+    lines, parts = output(b"".join(events)).splitlines(keepends=True), []
+    for line in lines:
+        if line.split()[0] in ("job", "script", "poke", "table"):
+            parts.append("")
+        else:
+            parts[-1] += line
+    return parts
+
+
+def links(text):
+    """Of each record first, right, parent and children."""
+    return [[int(word) for word in line.split()[2:6]] for line in text.splitlines() if line.startswith("record")]
+
+
+def row(records, link):
+    """The places from a link on, one right of the other."""
+    return [] if link == NONE else [link] + row(records, records[link][RIGHT])
+
+
+def live(records, place=0):
+    """The places of a node and of all below it."""
+    return [place] + [at for child in row(records, records[place][FIRST]) for at in live(records, child)]
+
+
+def of(records, places):
+    return "".join(f"{place}: {records[place]}\n" for place in places)
+
+
+LENT = 12
+GROW = (NEW_CHILD, record(9), NEW_CHILD, NEW_CHILD, record(9), NEW_CHILD, record(12, target=3, left=(0, 4)))
+KIDS = script(record(6, left=(3, 0)), places=LENT)
+SEASON = [start(job(TWO, ROOT + CHILD * 3), places=LENT)] + [script(*records, places=LENT) for records in [
+    GROW, (*GROW, record(7), record(9), record(13)), (record(13),), (record(9), NEW_CHILD, record(14), NEW_CHILD), (*GROW, record(8), record(8), record(13)),
+    (NEW_CHILD,) * 20, (record(13),) * 4, (record(9), *GROW, record(8), record(13)), (record(13),) * 20, GROW]]
+ENDINGS = ""
+for events in range(1, len(SEASON) + 1):
+    *_, ended, shown, kids = told(*SEASON[:events], dump(LENT), KIDS)
+    ENDINGS += ended.splitlines(keepends=True)[0]
+    stood = links(shown)
+    alive = live(stood)
+    line = f"line {len(row(stood, stood[0][FIRST]))}"
+    same(f"children after event {events}", line, kids.splitlines()[1])
+    for at in range(LENT):
+        count = stood[at][CHILDREN]
+        if at in alive:
+            same(f"the count at {at} after event {events}", str(len(row(stood, stood[at][FIRST]))), str(count))
+        for wrong in {count + 1, (count - 1) % 2**32, count + 65536, 2**32 - 1, 0} - {count}:
+            *_, said, held = told(*SEASON[:events], poke((CHILDREN, at, wrong)), KIDS, dump(LENT))
+            what = f"{wrong} children at {at} after event {events}"
+            if at in alive:
+                stands = [numbers[:CHILDREN] + [wrong] if place == at else numbers for place, numbers in enumerate(stood)]
+                same(what, answer(11) + of(stands, range(LENT)), said + of(links(held), range(LENT)))
+            else:
+                same(what, line + "\n" + of(stood, alive), said.splitlines()[1] + "\n" + of(links(held), alive))
+for number in [0, 22, 23]:
+    same(f"a script that ends with {number}", "True", str(f"ending {number} " in ENDINGS))
+
 # The most live nodes: 512. One more is too many for any job, with places enough.
 CHAIN = [entry for place in range(513)
          for below in [place + 1 if place < 512 else NONE]
