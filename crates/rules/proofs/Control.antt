@@ -22,9 +22,9 @@ use Rattle.rules.proofs.Parts.{Plain, is-if, is-back, if-opens, while-o
 use Rattle.rules.proofs.Nests.{no-length, nest-open, nest-plain}
 use Rattle.rules.proofs.Ends.{nest-not-empty}
 use Rattle.rules.proofs.Exits.{if-exit, while-exit, else-exit, end-exit, goes-within}
-use Rattle.rules.proofs.Results.{Good, good-given, good-map, good-leave, Stops, stops-given, stops-onward, stops-leave}
+use Rattle.rules.proofs.Results.{Good, good-given, good-map, good-leave}
 use Rattle.rules.proofs.Runs.{more}
-use Rattle.rules.proofs.Sound.{Sound, moved, effect-sound, expression-level, High, effect-high}
+use Rattle.rules.proofs.Sound.{Sound, moved, effect-sound, expression-level}
 use Rattle.rules.proofs.Places.{no-some}
 use Rattle.rules.proofs.Relocate.{Restorable, AllRestorable, remembers, remembers-on, blocks-skip, blocks-length, context-on, restorable-after}
 
@@ -263,22 +263,3 @@ module _ (lent : Buffers) (cs : List Command) (closed : Closed cs) (s : State) (
 
   pub step-valid : Good (Valid cs) (step lent cs s)
   step-valid = good-map Lands (Valid cs) landed (step lent cs s) step-lands
-
-  high-end : (bs : List Block) → Stops High (leaveBlock s jump bs)
-  unfolding leaveBlock
-  high-end [] = tt
-  high-end (b ∷ bs) = stops-onward High s _ _ _ (stops-leave High (s .memory) (b .saved) tt)
-
-  high : (c : Command) → Stops High (carried s lent jump c)
-  unfolding carried jump
-  high (act a) = stops-onward High s _ _ _ (effect-high (s .memory) (valid .memory) _ (valid .guards) lent a)
-  high (Command.if e) = stops-given High _ _ tt λ _. tt
-  high (Command.while e) = stops-given High _ _ tt λ _. tt
-  high (Command.ifBack e) = stops-given High _ _ tt λ _. tt
-  high Command.else = tt
-  high Command.end = high-end (s .blocks)
-
-  -- the step is not stopped by 26
-  pub step-high : Stops High (step lent cs s)
-  unfolding step jump
-  step-high = high (fetch cs (s .at))

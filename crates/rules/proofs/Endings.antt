@@ -1,16 +1,14 @@
--- How a job can end: it is turned back with a number of its own, finishes with 0, or is stopped, and not by 26. Assumes nothing.
+-- How a job can end: it is turned back with a number of its own, finishes with 0, or is stopped. Assumes nothing.
 use mathlib.Core.Path.{_≡_, refl}
 use Prim.Native.Nat.{ℕ}
 use native.Mathlib.Omega.{arith}
 use mathlib.Core.List.{List}
 use Rattle.rules.specs.Check.{Checked, accepted, refused}
-use Rattle.rules.specs.Run.{State, Buffers, Stop, flow, absent, tableFull, boardFull, spent, low, overflow, stopNumber, Ending, finished, stopped}
-use Rattle.rules.specs.Outcome.{checkJob, Outcome, rejected, ran, runJob, endingNumber, answer, LowNeverGiven}
+use Rattle.rules.specs.Run.{State, Buffers, Stop, flow, absent, tableFull, boardFull, spent, overflow, stopNumber, Ending, finished, stopped}
+use Rattle.rules.specs.Outcome.{checkJob, Outcome, rejected, ran, runJob, endingNumber, answer}
 use Rattle.rules.specs.Public.{Finishes}
 use Rattle.rules.proofs.Checks.{refuses-with, Numbered, job-numbered}
-use Rattle.rules.proofs.Sound.{High}
-use Rattle.rules.proofs.Noninterference.{bytes-accepted, turned-back, runs}
-use Rattle.rules.proofs.Invariants.{Ends, never-low}
+use Rattle.rules.proofs.Noninterference.{turned-back, runs}
 
 -- only a finished run has the number 0
 stop-number : (k : Stop) → stopNumber k ≡ 0 → ⊥
@@ -20,7 +18,6 @@ stop-number absent e = omega arith
 stop-number tableFull e = omega arith
 stop-number boardFull e = omega arith
 stop-number spent e = omega arith
-stop-number low e = omega arith
 stop-number overflow e = omega arith
 
 ends : (k : Ending) → endingNumber k ≡ 0 → k ≡ finished
@@ -28,21 +25,10 @@ unfolding endingNumber
 ends finished e = refl
 ends (stopped k) e = absurd (stop-number k e)
 
-high-number : (k : Ending) → Ends High k → endingNumber k ≡ stopNumber low → ⊥
-unfolding endingNumber stopNumber
-high-number finished h e = omega arith
-high-number (stopped flow) h e = omega arith
-high-number (stopped absent) h e = omega arith
-high-number (stopped tableFull) h e = omega arith
-high-number (stopped boardFull) h e = omega arith
-high-number (stopped spent) h e = omega arith
-high-number (stopped low) h e = h
-high-number (stopped overflow) h e = omega arith
-
--- an outcome is turned back with a number of its own, or is not stopped by 26
+-- an outcome is turned back with a number of its own, or the job was run
 abbrev pub Among : Outcome → Type 0
 Among (rejected k i) = Numbered k
-Among (ran e) = Ends High (e .ending)
+Among (ran e) = Unit {0}
 
 -- the ending 0 is that of a run that has finished
 pub finishes-among : (w : Outcome) → Among w → answer w .ending ≡ 0 → (s : State) × Finishes w s
@@ -50,22 +36,13 @@ unfolding answer
 finishes-among (rejected k i) h z = absurd (let g = h .0 in omega arith)
 finishes-among (ran e) h z = let f = ends (e .ending) z in (e .last, λ i. ran (record { ending = f i; last = e .last }))
 
-pub low-among : (w : Outcome) → Among w → answer w .ending ≡ stopNumber low → ⊥
-unfolding answer stopNumber
-low-among (rejected k i) h z = let g = h .1 in omega arith
-low-among (ran e) h z = high-number (e .ending) h z
-
 module _ (b : List ℕ) (budget : ℕ) (lent : Buffers) where
   job-among : Among (runJob b budget lent)
   job-among = pick (checkJob b budget lent) refl
     where
       pick : (c : Checked) → checkJob b budget lent ≡ c → Among (runJob b budget lent)
-      pick accepted e = rw (runs b budget lent e) (never-low lent b (bytes-accepted b budget lent e) budget)
+      pick accepted e = rw (runs b budget lent e) tt
       pick (refused k i) e = rw (turned-back b budget lent e) (refuses-with Numbered _ k i e (job-numbered b budget lent))
 
   pub finishes : answer (runJob b budget lent) .ending ≡ 0 → (s : State) × Finishes (runJob b budget lent) s
   finishes = finishes-among (runJob b budget lent) job-among
-
-pub low-never-given : LowNeverGiven
-unfolding LowNeverGiven
-low-never-given b budget lent = low-among (runJob b budget lent) (job-among b budget lent)

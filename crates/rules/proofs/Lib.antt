@@ -52,7 +52,7 @@ pub mod Reached
 pub mod Preserved
 pub mod Size
 pub mod Stores
-pub mod Dropped
+pub mod Covered
 pub mod Returns
 pub mod History
 pub mod HistoryTrials

@@ -37,7 +37,7 @@ module _ (pc : Level) (m : Memory) where
   insert-lines places p none mark e = tt
   insert-lines places p (some q) mark e =
       good-need (Longer m) _ _ _ λ _. good-need (Longer m) _ _ _ λ _. good-given (Longer m) _ _ λ _.
-      good-need (Longer m) _ _ _ λ _. good-need (Longer m) _ _ _ λ _. extends-refl refl
+      good-need (Longer m) _ _ _ λ _. extends-refl refl
 
   effect-lines : (lent : Buffers) (a : Action) → Good (Longer m) (effect lent pc m a)
   unfolding Longer effect assign output moveTo goTo goToLast removeAt write withVariables withTree withCursor withLine

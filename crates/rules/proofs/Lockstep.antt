@@ -201,7 +201,7 @@ module _ (o : Level) where
       insert-seen-at n₁ n₂ p q (some c) none mark e w a u l = good₂-stop SameView (insertAt pc m₁ n₁ p (some c) mark e) absent
       insert-seen-at n₁ n₂ p q (some c) (some d) mark e w a u l =
           good₂-need SameView _ _ _ _ _ _ λ _ _. good₂-need SameView _ _ _ _ _ _ λ _ _. good₂-given SameView _ _ _ _ λ y z f g.
-          good₂-need SameView _ _ _ _ _ _ λ _ _. good₂-need SameView _ _ _ _ _ _ λ _ _.
+          good₂-need SameView _ _ _ _ _ _ λ _ _.
           view-tree _ _
           (cut-eq p q _ _ _ _ w (ap Tree.insert (new-eq a u l mark e y z f g)) (insert-seen o _ _ (new-seen m₁ mark e y (position-seen a)))
           (insert-seen o _ _ (new-seen m₂ mark e z (rw (← position-eq l) (position-seen a)))))

@@ -54,7 +54,7 @@ pub commands-hold :
 unfolding computed
 commands-hold = refl
 
--- "given after 21 and before 26": 22 and 21 come first, 23 and 24 behind
+-- "22, 21, 27, then 23 or 24"
 pub order-holds :
     map (comes full)
     ((above 12 0 ∷ [])

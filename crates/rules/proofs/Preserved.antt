@@ -122,7 +122,7 @@ module _ (lent : Buffers) (places : lent .places ≤ maxNodes) (v : ℕ) (pc : L
   unfolding insertAt withTree
   insert-held d none mark e w = tt
   insert-held d (some q) mark e w =
-      good-need (Held v) _ _ _ λ _. good-need (Held v) _ _ _ λ _. good-given (Held v) _ _ λ z. good-need (Held v) _ _ _ λ _. good-need (Held v) _ _ _ λ u.
+      good-need (Held v) _ _ _ λ _. good-need (Held v) _ _ _ λ _. good-given (Held v) _ _ λ z. good-need (Held v) _ _ _ λ u.
       record {
         variables = h .variables;
         rooted = under-count (to d (m .cursor)) q _ (m .tree) w ∙ h .rooted;

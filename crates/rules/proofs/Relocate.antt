@@ -50,7 +50,7 @@ module _ (lent : Buffers) (pc : Level) (m : Memory) (sound : Sound m) where
     insert-follows places p none mark e = tt
     insert-follows places p (some c) mark e =
         let P : Memory → Type 0 = λ n. Follows (n .tree) (some (afterInsert p q)) in
-        good-need P _ _ _ λ _. good-need P _ _ _ λ h. good-given P _ _ λ _. good-need P _ _ _ λ _. good-need P _ _ _ λ _.
+        good-need P _ _ _ λ _. good-need P _ _ _ λ h. good-given P _ _ λ _. good-need P _ _ _ λ _.
         by-fate p _ _ h (fate-insert (m .tree) q stands public public (sound .rules) p _)
 
     go-follows : (l : Place → Level) (p : Option Place) → Good (λ n. Follows (n .tree) (some q)) (goJoining pc m l p)

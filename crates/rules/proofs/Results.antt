@@ -1,4 +1,4 @@
--- What holds of the results of steps: of one, wherever it goes on or stops, and of two, wherever both go on. Assumes nothing.
+-- What holds of the results of steps: of one, wherever it goes on, and of two, wherever both do. Assumes nothing.
 use mathlib.Core.Path.{_≡_, refl}
 use Prim.Native.Nat.{ℕ}
 use mathlib.Core.Bool.{Bool, true, false}
@@ -6,7 +6,7 @@ use mathlib.Core.Option.{Option, none, some}
 use mathlib.Core.List.{List}
 use lib.IntN.{ℤ}
 use Rattle.rules.specs.Tree.{Place}
-use Rattle.rules.specs.Run.{Memory, Saved, Block, State, Stop, overflow, absent, Result, next, stop, need, given, withCursor, restore, leave, stepped, onward}
+use Rattle.rules.specs.Run.{Memory, Saved, Block, State, Stop, Result, next, stop, need, given, withCursor, restore, leave, stepped, onward}
 
 module _ {A : Type 0} where
   -- P holds of what a result goes on with
@@ -30,24 +30,6 @@ module _ {A : Type 0} where
 
   pub good-next : (P : A → Type 0) (r : Result A) (a : A) → r ≡ next a → Good P r → P a
   good-next P r a e h = rw e at h
-
-  -- K holds of what a result stops with
-  abbrev pub Stops : (Stop → Type 0) → Result A → Type 0
-  Stops K (next a) = Unit {0}
-  Stops K (stop k) = K k
-
-  pub stops-need : (K : Stop → Type 0) (k : Stop) (b : Bool) (r : Result A) → (b ≡ false → K k) → Stops K r → Stops K (need k b r)
-  unfolding need
-  stops-need K k true r h g = g
-  stops-need K k false r h g = h refl
-
-  pub stops-given : (K : Stop → Type 0) (v : Option ℤ) (r : ℤ → Result A) → K overflow → ((z : ℤ) → Stops K (r z)) → Stops K (given v r)
-  unfolding given
-  stops-given K (some z) r h g = g z
-  stops-given K none r h g = h
-
-  pub stops-with : (K : Stop → Type 0) (r : Result A) (k : Stop) → r ≡ stop k → Stops K r → K k
-  stops-with K r k e h = rw e at h
 
   -- R holds of what two results go on with
   abbrev pub Good₂ : (A → A → Type 0) → Result A → Result A → Type 0
@@ -88,11 +70,6 @@ unfolding onward
 good-onward P Q s bs i f (next m) h = f m h
 good-onward P Q s bs i f (stop k) h = tt
 
-pub stops-onward : (K : Stop → Type 0) (s : State) (bs : List Block) (i : ℕ) (r : Result Memory) → Stops K r → Stops K (onward s bs i r)
-unfolding onward
-stops-onward K s bs i (next m) h = tt
-stops-onward K s bs i (stop k) h = h
-
 pub good₂-onward : (P : Memory → Memory → Type 0) (Q : State → State → Type 0) (s t : State) (bs cs : List Block) (i j : ℕ)
     → ((m n : Memory) → P m n → Q (stepped s m bs i) (stepped t n cs j)) → (r q : Result Memory) → Good₂ P r q → Good₂ Q (onward s bs i r) (onward t cs j q)
 unfolding onward
@@ -110,12 +87,3 @@ good-leave P m (some r) h f = go (r .place) refl
     go : (p : Option Place) → r .place ≡ p → Good P (restore m p (r .level))
     go none e = tt
     go (some p) e = f r refl p e
-
-pub stops-leave : (K : Stop → Type 0) (m : Memory) (r : Option Saved) → K absent → Stops K (leave m r)
-unfolding leave restore
-stops-leave K m none h = tt
-stops-leave K m (some r) h = go (r .place)
-  where
-    go : (p : Option Place) → Stops K (restore m p (r .level))
-    go none = h
-    go (some p) = tt

@@ -1,6 +1,6 @@
 -- The four laws of a run: its budget is used up, its script is over, it goes on, it stops. Nothing else opens `run`. From them by induction on the
 -- budget: a run with a larger budget goes on where one with a smaller budget was spent, and is the same otherwise; what every step keeps, a run
--- keeps; what every action keeps of the memory, a run keeps; and how a run ends. Assumes nothing.
+-- keeps; what every action keeps of the memory, a run keeps. Assumes nothing.
 use mathlib.Core.Path.{_≡_, refl, sym, _∙_, ap}
 use Prim.Native.Nat.{ℕ, zero, suc, _+_}
 use native.Mathlib.Nat.{zero-add, suc-add}
@@ -130,26 +130,3 @@ module _
     pub memory-keeps : (n : ℕ) (s : State) → P (s .memory) → P ((run lent cs n s) .last .memory)
     unfolding On
     memory-keeps n s h = run-keeps lent cs On step-keeps n s h
-
--- how a run ends: its script is over, its budget is used up, or the record that comes next stops it
-module _ (lent : Buffers) (cs : List Command) where
-  pub data EndedBy (e : Ended) : Type 0 where
-    by-script : e .ending ≡ finished → EndedBy e
-    by-budget : e .ending ≡ stopped spent → EndedBy e
-    by-record : (k : Stop) → more lent cs (e .last) ≡ true → step lent cs (e .last) ≡ stop k → e .ending ≡ stopped k → EndedBy e
-
-  ended-zero : (s : State) → Test (more lent cs s) → EndedBy (run lent cs zero s)
-  ended-zero s (holds e) = rw (run-spent lent cs s e) (by-budget refl)
-  ended-zero s (fails e) = rw (run-over lent cs zero s e) (by-script refl)
-
-  ended-suc : (n : ℕ) → ((s : State) → EndedBy (run lent cs n s)) → (s : State) → Test (more lent cs s) → EndedBy (run lent cs (suc n) s)
-  ended-suc n r s (fails e) = rw (run-over lent cs (suc n) s e) (by-script refl)
-  ended-suc n r s (holds e) = pick (step lent cs s) refl
-    where
-      pick : (x : Result State) → step lent cs s ≡ x → EndedBy (run lent cs (suc n) s)
-      pick (next s′) q = rw (run-next lent cs n s s′ e q) (r s′)
-      pick (stop k) q = rw (run-stop lent cs n s k e q) (by-record k e q refl)
-
-  pub ended-by : (n : ℕ) (s : State) → EndedBy (run lent cs n s)
-  ended-by zero s = ended-zero s (test _)
-  ended-by (suc n) s = ended-suc n (ended-by n) s (test _)

@@ -1,5 +1,5 @@
 -- What every action keeps, in a context that is a level: the tree rules, a cursor on a node whose existence is not above the cursor level,
--- and that all levels are levels. So stop 26 is never given. Assumes nothing.
+-- and that all levels are levels. So C is never below the working node's existence. Assumes nothing.
 use mathlib.Core.Path.{_≡_, refl, _∙_, ap}
 use Prim.Native.Nat.{ℕ, zero, suc}
 use mathlib.Core.Bool.{Bool, true, false}
@@ -13,21 +13,11 @@ use Rattle.rules.specs.Tree.{Forest, nil, tree, Side, child, Place, root
 use Rattle.rules.specs.Script.{Operand, Expression, alone, Action}
 use Rattle.rules.specs.Script as Script
 use Rattle.rules.specs.Job.{Variable, allLevels}
-use Rattle.rules.specs.Run.{Memory, Buffers, Stop, flow, absent, tableFull, boardFull, spent, low, overflow, noVariable, variableAt, current, operandLevel, levelOf, value, withVariables, withTree, withCursor, withLine, secretIf, position, flowOf, assign, output, moveTo, goJoining, goTo, goToLast, mayTouch, newLabel, insertAt, removeAt, write, effect}
-use Rattle.rules.proofs.Tests.{both, clash}
+use Rattle.rules.specs.Run.{Memory, Buffers, noVariable, variableAt, current, operandLevel, levelOf, value, withVariables, withTree, withCursor, withLine, secretIf, position, flowOf, assign, output, moveTo, goJoining, goTo, goToLast, mayTouch, newLabel, insertAt, removeAt, write, effect}
+use Rattle.rules.proofs.Tests.{both}
 use Rattle.rules.proofs.Lattice.{na-public, na-refl, na-trans, na-left, na-right, level-secret, level-public, secret-level, level-join}
 use Rattle.rules.proofs.Trees.{loAt, hiOf, hiAt, fits-sub, fits-change, fit-first, hi-parent, last-under, fits-remove, fits-value, sub-change, exists-sub, on-exists, on-label}
-use Rattle.rules.proofs.Results.{Good, good-need, good-given, Stops, stops-need, stops-given}
-
--- every stop but 26
-abbrev pub High : Stop → Type 0
-High flow = Unit {0}
-High absent = Unit {0}
-High tableFull = Unit {0}
-High boardFull = Unit {0}
-High spent = Unit {0}
-High low = ⊥
-High overflow = Unit {0}
+use Rattle.rules.proofs.Results.{Good, good-need, good-given}
 
 all-at : (vs : List Variable) (i : ℕ) → allLevels vs ≡ true → isLevel ((variableAt vs i) .level) ≡ true
 unfolding variableAt noVariable allLevels
@@ -157,18 +147,18 @@ module _ (m : Memory) (sound : Sound m) where
       behind lo hi x h k,
     )
 
-    -- the test of stop 26 never fails
-    pub never-low : notAbove ((label (current m)) .existence) (position pc m) ≡ true
+    -- C is not below the working node's existence: a test of it would never fail
+    pub position-covers : notAbove ((label (current m)) .existence) (position pc m) ≡ true
     unfolding position
-    never-low = na-trans _ _ _ (sound .covered) (na-right _ _)
+    position-covers = na-trans _ _ _ (sound .covered) (na-right _ _)
 
     insert-sound : (d : Side) (places mark : ℕ) (e : Expression) (q : Option Place) → up (to d (m .cursor)) ≡ q
         → Good Sound (insertAt pc m places (to d (m .cursor)) q mark e)
     unfolding insertAt
     insert-sound d places mark e none w = tt
     insert-sound d places mark e (some q) w =
-        good-need Sound _ _ _ λ u. good-need Sound _ _ _ λ h. good-given Sound _ _ λ z. good-need Sound _ _ _ λ _. good-need Sound _ _ _ λ _.
-        beside d _ (new-fits _ _ mark e z _ never-low (rw (hi-parent (to d (m .cursor)) q (m .tree) public w) u) h (fits-beside d))
+        good-need Sound _ _ _ λ u. good-need Sound _ _ _ λ h. good-given Sound _ _ λ z. good-need Sound _ _ _ λ _.
+        beside d _ (new-fits _ _ mark e z _ position-covers (rw (hi-parent (to d (m .cursor)) q (m .tree) public w) u) h (fits-beside d))
 
     remove-sound : (d : Side) → Good Sound (removeAt pc m (to d (m .cursor)))
     unfolding removeAt
@@ -246,31 +236,3 @@ module _ (m : Memory) (sound : Sound m) where
     effect-sound lent (Action.remove d) = remove-sound d
     effect-sound lent (Action.write e) = write-sound e
     effect-sound lent Action.raise = raise-sound
-
-    insert-high : (places : ℕ) (p : Place) (q : Option Place) (mark : ℕ) (e : Expression) → Stops High (insertAt pc m places p q mark e)
-    unfolding insertAt
-    insert-high places p none mark e = tt
-    insert-high places p (some q) mark e =
-        stops-need High _ _ _ (λ _. tt)
-        (stops-need High _ _ _ (λ _. tt)
-        (stops-given High _ _ tt λ z. stops-need High _ _ _ (λ f. clash never-low f) (stops-need High _ _ _ (λ _. tt) tt)))
-
-    go-high : (l : Place → Level) (q : Option Place) → Stops High (goJoining pc m l q)
-    unfolding goJoining moveTo
-    go-high l none = tt
-    go-high l (some p) = stops-need High _ _ _ (λ _. tt) (stops-need High _ _ _ (λ _. tt) tt)
-
-    pub effect-high : (lent : Buffers) (a : Action) → Stops High (effect lent pc m a)
-    unfolding effect assign output moveTo goTo goToLast removeAt write
-    effect-high lent Action.skip = tt
-    effect-high lent (Action.assign i e) = stops-need High _ _ _ (λ _. tt) (stops-given High _ _ tt λ _. tt)
-    effect-high lent (Action.output e) = stops-need High _ _ _ (λ _. tt) (stops-given High _ _ tt λ _. stops-need High _ _ _ (λ _. tt) tt)
-    effect-high lent Action.goRoot = stops-need High _ _ _ (λ _. tt) tt
-    effect-high lent Action.goParent = go-high _ _
-    effect-high lent (Action.go d) = go-high _ _
-    effect-high lent Action.goLeft = go-high _ _
-    effect-high lent Action.goLast = go-high _ _
-    effect-high lent (Action.insert d mark e) = insert-high _ _ _ mark e
-    effect-high lent (Action.remove d) = stops-need High _ _ _ (λ _. tt) (stops-need High _ _ _ (λ _. tt) tt)
-    effect-high lent (Action.write e) = stops-need High _ _ _ (λ _. tt) (stops-given High _ _ tt λ _. tt)
-    effect-high lent Action.raise = stops-need High _ _ _ (λ _. tt) tt

@@ -16,7 +16,7 @@ use Rattle.rules.specs.Job.{variables, jobTree, treeOf, allLevels, scrip
 use Rattle.rules.specs.Run.{Memory, State, Buffers, run, start}
 use Rattle.rules.specs.Outcome.{budgetRule, bufferRule, checkJobBy, checkJob, rejected, ran, answer, begin}
 use Rattle.rules.specs.Public.{Finishes}
-use Rattle.rules.specs.History.{Store, FollowOn, sectionCount, sectionScript, sectionRule, storeRule, checkFollowOn, follow, leaves, after, afterAll, jobStore, afterJob, StoreKept, LowNeverFollows}
+use Rattle.rules.specs.History.{Store, FollowOn, sectionCount, sectionScript, sectionRule, storeRule, checkFollowOn, follow, leaves, after, afterAll, jobStore, afterJob, StoreKept}
 use Rattle.rules.proofs.Tests.{both}
 use Rattle.rules.proofs.Sound.{Sound}
 use Rattle.rules.proofs.Checks.{counts, passed-one, Refuses, refuses-with, refuses-one, Numbered, script-numbered}
@@ -25,8 +25,8 @@ use Rattle.rules.proofs.Accepted.{right, ScriptRight, script-right}
 use Rattle.rules.proofs.Control.{Closed}
 use Rattle.rules.proofs.Starts.{closed-section, Kept, start-valid}
 use Rattle.rules.proofs.Noninterference.{loads, accepted-rest, turned-back, runs}
-use Rattle.rules.proofs.Invariants.{run-valid, run-high, reached-valid}
-use Rattle.rules.proofs.Endings.{Among, finishes-among, low-among}
+use Rattle.rules.proofs.Invariants.{run-valid, reached-valid}
+use Rattle.rules.proofs.Endings.{Among, finishes-among}
 use Rattle.rules.proofs.Size.{tree-size}
 use Rattle.rules.proofs.Preserved.{Held, run-held}
 
@@ -227,14 +227,7 @@ module _ (s : Store) (f : FollowOn) where
     where
       pick : (c : Checked) → checkFollowOn s f ≡ c → Among (follow s f)
       pick (refused k i) e = rw (turned-away s f e) (refuses-with Numbered _ k i e (follow-numbered s f))
-      pick accepted e =
-          let w = taken s f e in
-          rw (followed s f e)
-          (run-high (f .lent) (sectionScript (f .section)) (w .script) (f .budget) _ (start-valid _ _ (holdable-kept s (w .store)) _))
+      pick accepted e = rw (followed s f e) tt
 
   pub follow-finishes : answer (follow s f) .ending ≡ 0 → (g : State) × Finishes (follow s f) g
   follow-finishes = finishes-among (follow s f) follow-among
-
-pub low-never-follows : LowNeverFollows
-unfolding LowNeverFollows
-low-never-follows s f = low-among (follow s f) (follow-among s f)

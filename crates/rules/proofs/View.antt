@@ -100,8 +100,7 @@ module _ (o : Level) where
     unfolding insertAt
     kept-insert places p none mark e = tt
     kept-insert places p (some q) mark e =
-        good-need (Kept m) _ _ _ λ _. good-need (Kept m) _ _ _ λ h. good-given (Kept m) _ _ λ z.
-        good-need (Kept m) _ _ _ λ _. good-need (Kept m) _ _ _ λ _.
+        good-need (Kept m) _ _ _ λ _. good-need (Kept m) _ _ _ λ h. good-given (Kept m) _ _ λ z. good-need (Kept m) _ _ _ λ _.
         kept-tree m _ (cut-kept o p _ (m .tree) (insert-hidden o _ _ (new-hidden mark e z) (cut-touched _ h)))
 
     pub kept-remove : (p : Place) → Good (Kept m) (removeAt pc m p)

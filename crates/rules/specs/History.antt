@@ -11,8 +11,8 @@ use Rattle.rules.specs.Tree.{Forest, count, size, fits}
 use Rattle.rules.specs.Script.{Command}
 use Rattle.rules.specs.Check.{Checked, accepted, refused, require, today, checkScript, checkBytes}
 use Rattle.rules.specs.Job.{Variable, allLevels, variables, jobTree, scriptOf}
-use Rattle.rules.specs.Run.{State, Buffers, low, stopNumber, run, start}
-use Rattle.rules.specs.Outcome.{budgetRule, Outcome, rejected, ran, answer, runJob}
+use Rattle.rules.specs.Run.{State, Buffers, run, start}
+use Rattle.rules.specs.Outcome.{budgetRule, Outcome, rejected, ran, runJob}
 use Rattle.rules.specs.Public.{Agree, Alike, Finishes, Indistinguishable}
 
 -- "a standing tree and variables": the store that scripts share
@@ -90,10 +90,6 @@ afterJob b n lent = leaves (jobStore b) (runJob b n lent)
 pub record StoreKept : Type 0 where
   pub job : (b : List ℕ) (n : ℕ) (lent : Buffers) → checkBytes b ≡ accepted → storeRule (afterJob b n lent) ≡ true
   pub scripts : (s : Store) (fs : List FollowOn) → storeRule s ≡ true → storeRule (afterAll s fs) ≡ true
-
--- 26 is never given to a follow-on script either
-unfoldable pub LowNeverFollows : Type 0
-LowNeverFollows = (s : Store) (f : FollowOn) → answer (follow s f) .ending ≡ stopNumber low → ⊥
 
 -- "the same scripts": one by one alike in command and in every field that is read
 unfoldable pub SameScripts : List FollowOn → List FollowOn → Type 0

@@ -15,5 +15,6 @@ pub mod Public
 pub mod Board
 pub mod History
 pub mod Returns
+pub mod Covered
 pub mod Clean
 pub mod Trials

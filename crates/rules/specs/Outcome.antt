@@ -1,5 +1,4 @@
 -- The run over a job's bytes: the checks, then the run, and the answer. Assumes nothing.
-use mathlib.Core.Path.{_≡_}
 use Prim.Native.Nat.{ℕ}
 use mathlib.Core.Bool.{Bool, _&&_}
 use mathlib.Core.List.{List, []}
@@ -10,7 +9,7 @@ use Rattle.rules.specs.Limits.{maxNodes, maxBudget, badBudget, badBuffer
 use Rattle.rules.specs.Bytes.{variableCount, nodeCount}
 use Rattle.rules.specs.Check.{Checked, accepted, refused, require, Edition, today, checkBytesBy}
 use Rattle.rules.specs.Job.{variables, jobTree, script}
-use Rattle.rules.specs.Run.{State, Buffers, low, stopNumber, Ending, finished, stopped, Ended, run, start}
+use Rattle.rules.specs.Run.{State, Buffers, stopNumber, Ending, finished, stopped, Ended, run, start}
 
 -- 9: the budget is "1 to 1,000,000"
 unfoldable pub budgetRule : ℕ → Bool
@@ -89,7 +88,3 @@ answer (ran e) =
 unfoldable pub boardLines : Outcome → List ℤ
 boardLines (rejected k i) = []
 boardLines (ran e) = e .last .memory .lines
-
--- 26 is never given, whatever the job, the budget and the buffers: the cursor level is never below the working node's existence
-unfoldable pub LowNeverGiven : Type 0
-LowNeverGiven = (b : List ℕ) (budget : ℕ) (lent : Buffers) → answer (runJob b budget lent) .ending ≡ stopNumber low → ⊥

@@ -47,7 +47,7 @@ pub record Buffers : Type 0 where
 
 -- why a run stops
 pub data Stop : Type 0 where
-  flow absent tableFull boardFull spent low overflow : Stop
+  flow absent tableFull boardFull spent overflow : Stop
 
 -- "Ways a job can end": the number of a stop
 unfoldable pub stopNumber : Stop → ℕ
@@ -56,7 +56,6 @@ stopNumber absent = 22
 stopNumber tableFull = 23
 stopNumber boardFull = 24
 stopNumber spent = 25
-stopNumber low = 26
 stopNumber overflow = 27
 
 -- what a step gives: something to go on with, or a stop
@@ -194,15 +193,14 @@ module _ (pc : Level) (m : Memory) where
         structure = join position (secretIf (leb 2 mark));
       }
 
-  -- 11 and 12: a new node at the place p under the parent at q, in a table of places; 22 with no parent, 21, 27, 26, then 23
+  -- 11 and 12: a new node at the place p under the parent at q, in a table of places; 22 with no parent, 21, 27, then 23
   unfoldable pub insertAt : ℕ → Place → Option Place → ℕ → Expression → Result Memory
   insertAt places p none mark e = stop absent
   insertAt places p (some q) mark e =
       need flow (notAbove position ((label (sub q (m .tree))) .structure))
       (need flow (mayTouch (sub p (m .tree)))
       (given (value m e) λ z.
-      need low (notAbove ((label (current m)) .existence) position)
-      (need tableFull (ltb (size (m .tree)) places) (next (withTree m (change p (Tree.insert (newLabel mark e z)) (m .tree)))))))
+      need tableFull (ltb (size (m .tree)) places) (next (withTree m (change p (Tree.insert (newLabel mark e z)) (m .tree))))))
 
   -- 13 and 14: 22, then "C not above its existence"
   unfoldable pub removeAt : Place → Result Memory

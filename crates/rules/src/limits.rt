@@ -49,8 +49,8 @@ pub const BAD_SPARE: u8 = 12;
 
 pub const MAX_BUDGET: u64 = 1000000;
 
-// The numbers of the stops: a rule of information flow, no such node, a full table, a full board, a used-up budget, a level that is too low, a result
-// outside signed 32 bits.
+// The numbers of the stops: a rule of information flow, no such node, a full table, a full board, a used-up budget, a result outside signed
+// 32 bits.
 pub const FLOW: u8 = 21;
 
 pub const ABSENT: u8 = 22;
@@ -60,7 +60,5 @@ pub const TABLE_FULL: u8 = 23;
 pub const BOARD_FULL: u8 = 24;
 
 pub const SPENT: u8 = 25;
-
-pub const LOW: u8 = 26;
 
 pub const OVERFLOW: u8 = 27;
