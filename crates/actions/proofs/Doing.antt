@@ -13,7 +13,7 @@ use lib.IntN.{ℤ}
 use Rattle.rules.specs.Limits.{maxNodes}
 use Rattle.rules.specs.Tree.{Place}
 use Rattle.rules.specs.Run as Run
-use Rattle.rules.specs.Run.{State, Block, onBlock, Result, next, stop, Stop, flow, absent, tableFull, boardFull, low, overflow, stopNumber, need, given}
+use Rattle.rules.specs.Run.{State, Block, onBlock, Result, next, stop, Stop, flow, absent, tableFull, boardFull, overflow, stopNumber, need, given}
 use Rattle.rules.proofs.Relocate.{blocks-skip, context-on}
 use Rattle.table.specs.Cells.{cells}
 use Rattle.table.specs.Holds as Table
@@ -47,10 +47,6 @@ table-full-number = refl
 pub board-full-number : 24 ≡ stopNumber boardFull
 unfolding stopNumber
 board-full-number = refl
-
-pub low-number : 26 ≡ stopNumber low
-unfolding stopNumber
-low-number = refl
 
 pub overflow-number : 27 ≡ stopNumber overflow
 unfolding stopNumber
@@ -117,7 +113,6 @@ stop-number absent e = omega arith
 stop-number tableFull e = omega arith
 stop-number boardFull e = omega arith
 stop-number Run.spent e = omega arith
-stop-number low e = omega arith
 stop-number overflow e = omega arith
 
 -- the memory μ with the numbers m has become μ′ with m′, and each node has moved by f; what stands behind the places is as it was

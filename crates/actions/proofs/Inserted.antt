@@ -18,7 +18,7 @@ use Rattle.rules.specs.Tree as Tree
 use Rattle.rules.specs.Tree.{Label, Forest, Place, to, up, sub, label, size, change, setValue}
 use Rattle.rules.specs.Script.{Expression}
 use Rattle.rules.specs.Run as Run
-use Rattle.rules.specs.Run.{Result, flow, absent, tableFull, low, stopNumber, need, withTree, current, secretIf, position, flowOf, mayTouch, newLabel, insertAt, removeAt}
+use Rattle.rules.specs.Run.{Result, flow, absent, tableFull, stopNumber, need, withTree, current, secretIf, position, flowOf, mayTouch, newLabel, insertAt, removeAt}
 use Rattle.rules.proofs.Tests.{clash}
 use Rattle.rules.proofs.Number.{signed-bits}
 use Rattle.table.specs.Cells.{cells, sideOf, labelWith}
@@ -35,7 +35,7 @@ use Rattle.actions.specs.Shows.{slices, Shows, levelIn}
 use Rattle.actions.specs.Stands.{stepped, withMemory, went}
 use Rattle.actions.specs.Marks.{countAt}
 use Rattle.actions.specs.Acts.{Does, Kept, shifted, closedUp, Same, Becomes, Acting, Acts, MayFit, Evaluates, ParentOn, MayTouch, MayAdd}
-use Rattle.actions.proofs.Doing.{flow-number, absent-number, table-full-number, low-number, overflow-number, does-next, does-stop, passes, refuses, given-passes, given-stops, does-as, halts, moves-on, stays-by, stays}
+use Rattle.actions.proofs.Doing.{flow-number, absent-number, table-full-number, overflow-number, does-next, does-stop, passes, refuses, given-passes, given-stops, does-as, halts, moves-on, stays-by, stays}
 use Rattle.actions.proofs.Evaluation.{flow-shown}
 use Rattle.actions.proofs.Touched.{there, nowhere, Under, under, no-parent, position-is}
 
@@ -170,67 +170,48 @@ module _ (r : Running) (pc side mark : ℕ) (e : Expression) {places vars above 
           (λ μ s.
           does-as (as-under s) (both-passed _ _ _ (sym (gated s) ∙ may-go) (given-stops _ (x .value b μ s ∙ ap valueOf none) overflow-number s)))
 
-      module _ {u : ℤ} (has : y .value ≡ Number.Fits u) {n : ℕ}
-          (existing : Whenever (cells w) places (r .memory .cursor) (λ t p. label (sub p t) .existence ≡ n)) where
-        exists-test : {t : Bool} → notAbove n c ≡ t → {μ : Run.Memory} → Shows places vars (slices w l v b) (r .memory) μ
-            → notAbove ((label (current μ)) .existence) (position pc μ) ≡ t
-        unfolding current
-        exists-test h s = ap₂ notAbove (existing _ _ _ _ (s .tree)) (sym (position-is pc at s)) ∙ h
+      module _ {u : ℤ} (has : y .value ≡ Number.Fits u) (w′ : List ℕ) {z free used : ℕ} {new : Label}
+          (added : (t : Forest) (p : Place) → Holds (cells w) places (r .memory .used) (r .memory .free) (r .memory .cursor) t p
+          → Leads (cells w) places (r .memory .used) (r .memory .free) t (up (to (sideOf side) p)) above
+          → Added (sideOf side) new (cells w) (cells w′) places (r .memory .used) (r .memory .free) (r .memory .cursor) z free used t p)
+          (behind : Behind places (cells w) (cells w′)) where
+        result : {μ : Run.Memory} → Shows places vars (slices w l v b) (r .memory) μ
+            → Added (sideOf side) new (cells w) (cells w′) places (r .memory .used) (r .memory .free) (r .memory .cursor) z free used (μ .tree) (μ .cursor)
+        result s = added _ _ (s .tree) (on .leads _ _ (s .tree))
 
-        pub insert-low : {a : Stepped} → notAbove n c ≡ false → a ≡ stepped 26 r
-            → Acting (shifted side) Same places vars (slices w l v b) (slices w l v b) r a (Inserts pc side mark places e)
+        pub insert-full : {a : Stepped} → places ≤ z → a ≡ stepped 23 (withMemory r (withSpace (r .memory) free used))
+            → Acting (shifted side) Same places vars (slices w l v b) (slices w′ l v b) r a (Inserts pc side mark places e)
         unfolding insertAt
-        insert-low h is =
-            stays inside is (λ z. omega arith)
-            (λ μ s.
+        insert-full i is =
+            halts _ is (λ z. omega arith) inside (λ h. h) (words-only behind)
+            (λ k k′ q μ s.
             does-as (as-under s)
             (both-passed _ _ _ (sym (gated s) ∙ may-go)
-            (given-passes _ (x .value b μ s ∙ ap valueOf has) (refuses low _ (exists-test h s) low-number s))))
+            (given-passes _ (x .value b μ s ∙ ap valueOf has)
+            (refuses tableFull _ (sym (result s .when) ∙ le-ltb z places i) table-full-number
+            (record {
+              shows = with-space s (result s .kept i _ _ (s .tree));
+              moves = λ _. rw q (refused-relocates (result s) i);
+              behind = λ y h. rw q;
+            })))))
 
-        module _ (w′ : List ℕ) {z free used : ℕ} {new : Label} (high : notAbove n c ≡ true)
-            (added : (t : Forest) (p : Place) → Holds (cells w) places (r .memory .used) (r .memory .free) (r .memory .cursor) t p
-            → Leads (cells w) places (r .memory .used) (r .memory .free) t (up (to (sideOf side) p)) above
-            → Added (sideOf side) new (cells w) (cells w′) places (r .memory .used) (r .memory .free) (r .memory .cursor) z free used t p)
-            (behind : Behind places (cells w) (cells w′)) where
-          result : {μ : Run.Memory} → Shows places vars (slices w l v b) (r .memory) μ
-              → Added (sideOf side) new (cells w) (cells w′) places (r .memory .used) (r .memory .free) (r .memory .cursor) z free used (μ .tree) (μ .cursor)
-          result s = added _ _ (s .tree) (on .leads _ _ (s .tree))
-
-          pub insert-full : {a : Stepped} → places ≤ z → a ≡ stepped 23 (withMemory r (withSpace (r .memory) free used))
-              → Acting (shifted side) Same places vars (slices w l v b) (slices w′ l v b) r a (Inserts pc side mark places e)
-          unfolding insertAt
-          insert-full i is =
-              halts _ is (λ z. omega arith) inside (λ h. h) (words-only behind)
-              (λ k k′ q μ s.
-              does-as (as-under s)
-              (both-passed _ _ _ (sym (gated s) ∙ may-go)
-              (given-passes _ (x .value b μ s ∙ ap valueOf has)
-              (passes low (exists-test high s)
-              (refuses tableFull _ (sym (result s .when) ∙ le-ltb z places i) table-full-number
-              (record {
-                shows = with-space s (result s .kept i _ _ (s .tree));
-                moves = λ _. rw q (refused-relocates (result s) i);
-                behind = λ y h. rw q;
-              }))))))
-
-          pub inserted : {a : Stepped} → ((μ : Run.Memory) → Shows places vars (slices w l v b) (r .memory) μ → new ≡ newLabel pc μ mark e u) → z < places
-              → a ≡ went r (withSpace (r .memory) free used) → Acting (shifted side) Same places vars (slices w l v b) (slices w′ l v b) r a (Inserts pc side mark places e)
-          unfolding insertAt withTree
-          inserted labels i is =
-              moves-on _ is inside (λ h. h) (words-only behind)
-              (λ k k′ q μ s.
-              let done = subst (λ a. Added (sideOf side) a (cells w) (cells w′) places (r .memory .used) (r .memory .free) (r .memory .cursor) z free used (μ .tree) (μ .cursor)) (labels μ s) (result s) in
-              does-as (as-under s)
-              (both-passed _ _ _ (sym (gated s) ∙ may-go)
-              (given-passes _ (x .value b μ s ∙ ap valueOf has)
-              (passes low (exists-test high s)
-              (passes tableFull (sym (result s .when) ∙ lt-ltb z places i)
-              (does-next _ refl
-              (record {
-                shows = with-tree s (done .done i);
-                moves = λ _. rw q (added-relocates done i);
-                behind = λ y h. rw q;
-              })))))))
+        pub inserted : {a : Stepped} → ((μ : Run.Memory) → Shows places vars (slices w l v b) (r .memory) μ → new ≡ newLabel pc μ mark e u) → z < places
+            → a ≡ went r (withSpace (r .memory) free used) → Acting (shifted side) Same places vars (slices w l v b) (slices w′ l v b) r a (Inserts pc side mark places e)
+        unfolding insertAt withTree
+        inserted labels i is =
+            moves-on _ is inside (λ h. h) (words-only behind)
+            (λ k k′ q μ s.
+            let done = subst (λ a. Added (sideOf side) a (cells w) (cells w′) places (r .memory .used) (r .memory .free) (r .memory .cursor) z free used (μ .tree) (μ .cursor)) (labels μ s) (result s) in
+            does-as (as-under s)
+            (both-passed _ _ _ (sym (gated s) ∙ may-go)
+            (given-passes _ (x .value b μ s ∙ ap valueOf has)
+            (passes tableFull (sym (result s .when) ∙ lt-ltb z places i)
+            (does-next _ refl
+            (record {
+              shows = with-tree s (done .done i);
+              moves = λ _. rw q (added-relocates done i);
+              behind = λ y h. rw q;
+            }))))))
 
 -- y is the value and the level of the expression e, and k is L
 module _ {w l : List ℕ} {v : List ℤ} {places vars k : ℕ} (r : Running) {e : Expression} {y : Valued} (pc : ℕ)

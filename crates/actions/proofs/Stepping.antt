@@ -26,7 +26,6 @@ stop-below Run.absent e = omega arith
 stop-below Run.tableFull e = omega arith
 stop-below Run.boardFull e = omega arith
 stop-below Run.spent e = omega arith
-stop-below Run.low e = omega arith
 stop-below Run.overflow e = omega arith
 
 -- a step that does not stop is counted

@@ -13,7 +13,6 @@ use rules::levels::join;
 use rules::levels::not_above;
 use rules::limits::ABSENT;
 use rules::limits::FLOW;
-use rules::limits::LOW;
 use rules::limits::OVERFLOW;
 use rules::limits::TABLE_FULL;
 use rules::numbers;
@@ -110,9 +109,6 @@ pub fn insert_on(
     let Number::Fits(z) = v else {
         return halt(r, OVERFLOW);
     };
-    if !not_above(node::existence(words, places, m.cursor), c) {
-        return halt(r, LOW);
-    }
     let new = shape::NewNode {
         value: numbers::bits(z),
         existence: c,

@@ -5,7 +5,7 @@ use Rattle.rules.specs.Level.{join}
 use Rattle.actions.specs.Stands.{stepped}
 use Rattle.actions.proofs.Doing.{refused, allowed}
 use Rattle.actions.proofs.Evaluation.{fits-read}
-use Rattle.actions.proofs.Inserted.{insert-absent, insert-refused, insert-over, insert-low, insert-full, inserted, new-label}
+use Rattle.actions.proofs.Inserted.{insert-absent, insert-refused, insert-over, insert-full, inserted, new-label}
 use borrow.Author.Needs.{needs}
 use Rattle.actions.proofs.nodes.insert_on.Statement.{statement}
 use Rattle.actions.proofs.nodes.insert_on.Tie as tie
@@ -29,47 +29,37 @@ returns-3 c = λ l b v vars x e.
     insert-over _ (s .args .pc) (s .args .side) (s .args .mark) x (s .pre .1 .0 .inside) (g .before .before .before .before .before .before .parent-on .ensures) (g .before .before .beside .ensures) (g .before .before .before .before .position .ensures)
     (g .before .before .before .before .before .if1 .left) (g .may-add .ensures) (allowed refl (c .before .before .before .if2 .left)) e (c .before .enum-told .given .1) (c .halt3 .ensures)
 
-returns-4 : tie.Need-returns-4
-returns-4 c = λ l b v vars x e.
-    let g = c .before .before .before .before .before .before .before .before .before in
-    let s = g .before .before .before .before .before .before .before .before .before .before in
-    insert-low _ (s .args .pc) (s .args .side) (s .args .mark) x (s .pre .1 .0 .inside) (g .before .before .before .before .before .before .parent-on .ensures) (g .before .before .beside .ensures) (g .before .before .before .before .position .ensures)
-    (g .before .before .before .before .before .if1 .left) (g .may-add .ensures) (allowed refl (c .before .before .before .before .before .before .before .before .if2 .left)) e (c .before .before .before .before .before .before .v .given .1) (c .before .before .before .existence .ensures)
-    (refused (c .before .before .not-above .ensures) (c .before .if3 .taken)) (c .halt4 .ensures)
-
 add-requires : tie.Need-add-requires
 add-requires c κs =
-    let i = c .before .before .before .before .before .before .before .before .before .before .before .before .before .before .before .before .before .before .before .before in
+    let i = c .before .before .before .before .before .before .before .before .before .before .before .before .before .before .before .before in
     (i .before .before .before .before .before .pre .1 .0, (i .before .before .before .before .before .pre .1 .1, i .if1 .left))
+
+returns-4 : tie.Need-returns-4
+returns-4 c = λ l b v vars x e.
+    let g = c .before .before .before .before .before .before .before .before .before .before .before .before .before .before .before .before .before .before in
+    let s = g .before .before .before .before .before .before .before .before .before .before in
+    insert-full _ (s .args .pc) (s .args .side) (s .args .mark) x (s .pre .1 .0 .inside) (g .before .before .before .before .before .before .parent-on .ensures) (g .before .before .beside .ensures) (g .before .before .before .before .position .ensures)
+    (g .before .before .before .before .before .if1 .left) (g .may-add .ensures) (allowed refl (c .before .before .before .before .before .before .before .before .before .before .before .before .before .before .before .before .before .if2 .left)) e (c .before .before .before .before .before .before .before .before .before .before .before .before .before .before .before .v .given .1) _
+    (c .before .before .before .before .before .before .add .ensures .0) (c .before .before .before .before .before .before .add .ensures .1) (c .before .before .if3 .taken)
+    (c .halt4 .ensures ∙ ap (stepped _) (c .before .with-memory .ensures))
+
+onward-requires : tie.Need-onward-requires
+onward-requires c κs = c .before .before .before .before .before .before .before .before .before .before .before .before .before .before .before .before .before .before .before .before .before .before .before .before .before .before .pre .0
 
 returns-5 : tie.Need-returns-5
 returns-5 c = λ l b v vars x e.
-    let n = c .before .before .before .before .before .before .before .before .before .before .before .before .before .before .before in
-    let g = n .before .before .before .before .before .before .before in
+    let g = c .before .before .before .before .before .before .before .before .before .before .before .before .before .before .before .before .before in
     let s = g .before .before .before .before .before .before .before .before .before .before in
-    insert-full _ (s .args .pc) (s .args .side) (s .args .mark) x (s .pre .1 .0 .inside) (g .before .before .before .before .before .before .parent-on .ensures) (g .before .before .beside .ensures) (g .before .before .before .before .position .ensures)
-    (g .before .before .before .before .before .if1 .left) (g .may-add .ensures) (allowed refl (n .before .before .before .before .before .before .if2 .left)) e (n .before .before .before .before .v .given .1) (n .before .existence .ensures) _
-    (allowed (n .not-above .ensures) (c .before .before .before .before .before .before .before .before .before .before .before .before .before .before .if3 .left)) (c .before .before .before .before .before .before .add .ensures .0) (c .before .before .before .before .before .before .add .ensures .1) (c .before .before .if4 .taken)
-    (c .halt5 .ensures ∙ ap (stepped _) (c .before .with-memory .ensures))
-
-onward-requires : tie.Need-onward-requires
-onward-requires c κs = c .before .before .before .before .before .before .before .before .before .before .before .before .before .before .before .before .before .before .before .before .before .before .before .before .before .before .before .before .before .before .pre .0
-
-returns-6 : tie.Need-returns-6
-returns-6 c = λ l b v vars x e.
-    let n = c .before .before .before .before .before .before .before .before .before .before .before .before .before .before in
-    let g = n .before .before .before .before .before .before .before in
-    let s = g .before .before .before .before .before .before .before .before .before .before in
-    let has = fits-read e (n .before .before .before .before .v .given .1) in
+    let has = fits-read e (c .before .before .before .before .before .before .before .before .before .before .before .before .before .before .v .given .1) in
     inserted _ (s .args .pc) (s .args .side) (s .args .mark) x (s .pre .1 .0 .inside) (g .before .before .before .before .before .before .parent-on .ensures) (g .before .before .beside .ensures) (g .before .before .before .before .position .ensures)
-    (g .before .before .before .before .before .if1 .left) (g .may-add .ensures) (allowed refl (n .before .before .before .before .before .before .if2 .left)) e has (n .before .existence .ensures) _
-    (allowed (n .not-above .ensures) (c .before .before .before .before .before .before .before .before .before .before .before .before .before .if3 .left)) (c .before .before .before .before .before .add .ensures .0) (c .before .before .before .before .before .add .ensures .1)
+    (g .before .before .before .before .before .if1 .left) (g .may-add .ensures) (allowed refl (c .before .before .before .before .before .before .before .before .before .before .before .before .before .before .before .before .if2 .left)) e has _
+    (c .before .before .before .before .before .add .ensures .0) (c .before .before .before .before .before .add .ensures .1)
     (new-label (s .args .r) (s .args .pc) e (c .before .before .before .before .before .before .before .before .before .before .before .flow .ensures) b (s .args .mark) has (c .before .before .before .before .before .before .before .before .before .before .before .before .bits .ensures) (g .before .before .before .before .position .ensures)
     (c .before .before .before .before .before .before .before .before .before .join .ensures ∙ ap (join _) (c .before .before .before .before .before .before .before .before .before .before .secret-if .ensures)) (c .before .before .before .before .before .before .before .join2 .ensures ∙ ap (join _) (c .before .before .before .before .before .before .before .before .secret-if2 .ensures)))
-    (c .before .if4 .left) (c .onward .ensures)
+    (c .before .if3 .left) (c .onward .ensures)
 
 pub insert-on-spec : {M : Type 1} → statement M
 insert-on-spec =
     tie.close
-    (tie.spec (λ c κs. search needs) (λ c κs. search needs) (λ c. search needs) returns (λ c κs. search needs) (λ c κs. search needs) (λ c κs. search needs) (λ c κs. search needs) (λ c. search needs) returns-2 (λ c. search needs) (λ c. search needs) (λ c κs. search needs) (λ c. search needs) returns-3 (λ c κs. search needs) (λ c κs. search needs) (λ c κs. search needs) (λ c. search needs) returns-4
-    (λ c κs. search needs) (λ c κs. search needs) (λ c κs. search needs) (λ c κs. search needs) (λ c κs. search needs) (λ c κs. search needs) add-requires (λ c κs. search needs) (λ c κs. search needs) (λ c. search needs) returns-5 onward-requires (λ c. search needs) returns-6)
+    (tie.spec (λ c κs. search needs) (λ c κs. search needs) (λ c. search needs) returns (λ c κs. search needs) (λ c κs. search needs) (λ c κs. search needs) (λ c κs. search needs) (λ c. search needs) returns-2 (λ c. search needs) (λ c. search needs) (λ c κs. search needs) (λ c. search needs) returns-3
+    (λ c κs. search needs) (λ c κs. search needs) (λ c κs. search needs) (λ c κs. search needs) (λ c κs. search needs) (λ c κs. search needs) add-requires (λ c κs. search needs) (λ c κs. search needs) (λ c. search needs) returns-4 onward-requires (λ c. search needs) returns-5)
