@@ -26,7 +26,6 @@ pub fn name(buf: &mut [u8; SIZE], out: Out, ending: u8) -> Out
         23 => text(buf, out, b"table full"),
         24 => text(buf, out, b"board full"),
         25 => text(buf, out, b"budget used up"),
-        26 => text(buf, out, b"context below the node"),
         27 => text(buf, out, b"result out of range"),
         _ => text(buf, out, b"unknown"),
     }

@@ -4,16 +4,15 @@ use mathlib.Core.List.{List, [], _∷_}
 use Prim.Native.Nat.{ℕ, _≤_}
 use lib.ListN.{length}
 use Rattle.rules.specs.Level.{Level}
-use Rattle.rules.specs.Outcome.{boardLines, LowNeverGiven}
+use Rattle.rules.specs.Outcome.{boardLines}
 use Rattle.rules.specs.Public.{Comparable}
 use Rattle.rules.specs.Board.{Bounded, Family, outcome, board}
-use Rattle.rules.proofs.Endings.{low-never-given}
 use Rattle.rules.proofs.Boards.{comparable-equal, all-begin, few-boards, chained}
 use Rattle.actions.specs.Board.{spell}
-use Rattle.portal.specs.Portal.{buffersFor, Handed, portal}
+use Rattle.portal.specs.Portal.{buffersFor}
 use Rattle.portal.specs.Secrecy.{endingIn, countIn, linesIn, Unseen, SecretPortal}
-use Rattle.portal.specs.Bound.{Calls, PortalBound, LowNeverHanded}
-use Rattle.portal.proofs.Secret.{ending-is, count-is, lines-are, secret-portal}
+use Rattle.portal.specs.Bound.{Calls, PortalBound}
+use Rattle.portal.proofs.Secret.{count-is, lines-are, secret-portal}
 
 module _ {ℓ} (o : Level) {I : Type ℓ} (C : Calls o I) where
   -- the family of their jobs
@@ -50,7 +49,3 @@ module _ {ℓ} (o : Level) {I : Type ℓ} (C : Calls o I) where
 pub portal-bound {ℓ} : (o : Level) → PortalBound {ℓ} o
 unfolding PortalBound
 portal-bound o I C = bounded o C
-
-pub low-never-handed : LowNeverHanded
-unfolding LowNeverHanded LowNeverGiven
-low-never-handed b n area h is e = low-never-given b n (buffersFor area) (sym (ending-is b n area h is) ∙ e)

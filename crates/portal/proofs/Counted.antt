@@ -39,7 +39,7 @@ module _ (pc : Level) (m : Memory) where
   insert-lines places p none mark e = tt
   insert-lines places p (some q) mark e =
       good-need (OneMore m) _ _ _ λ _. good-need (OneMore m) _ _ _ λ _. good-given (OneMore m) _ _ λ _.
-      good-need (OneMore m) _ _ _ λ _. good-need (OneMore m) _ _ _ λ _. omega arith
+      good-need (OneMore m) _ _ _ λ _. omega arith
 
   effect-lines : (lent : Buffers) (a : Action) → Good (OneMore m) (effect lent pc m a)
   unfolding OneMore effect assign output moveTo goTo goToLast removeAt write withVariables withTree withCursor withLine

@@ -8,13 +8,11 @@ use lib.ListN.{take}
 use Rattle.rules.specs.Limits.{maxBudget, badFollowOn}
 use Rattle.rules.specs.Level.{Level}
 use Rattle.rules.specs.Number.{range}
-use Rattle.rules.specs.Run.{Stop, flow, absent, tableFull, boardFull, spent, low, overflow, stopNumber, Ending, finished, stopped}
+use Rattle.rules.specs.Run.{Stop, flow, absent, tableFull, boardFull, spent, overflow, stopNumber, Ending, finished, stopped}
 use Rattle.rules.specs.Outcome as Rules
-use Rattle.rules.specs.Outcome.{endingNumber, answer, LowNeverGiven}
+use Rattle.rules.specs.Outcome.{endingNumber, answer}
 use Rattle.rules.specs.Public.{Comparable}
-use Rattle.rules.specs.History.{sectionScript, LowNeverFollows}
-use Rattle.rules.proofs.Endings.{low-never-given}
-use Rattle.rules.proofs.Stores.{low-never-follows}
+use Rattle.rules.specs.History.{sectionScript}
 use Rattle.monitor.specs.declared.entry.Outcome.{Outcome}
 use Rattle.monitor.specs.Promises.{answerOf, placesIn, Tree, Leaves, Promises}
 use Rattle.monitor.specs.Secrecy.{boardOf, SecretCalls}
@@ -25,7 +23,7 @@ use Rattle.monitor.proofs.Histories.{secret-histories}
 use Rattle.monitor.proofs.JobHistories.{secret-job-histories}
 use Rattle.portal.specs.Portal.{numberOf}
 use Rattle.portal.specs.Secrecy.{endingIn, countIn, linesIn, Unseen}
-use Rattle.portal.specs.Standing.{Words, shown, TurnedBack, LowNeverLent, PortalCall, PortalHistory, SecretStart, UnseenPortalHistory, SecretPortalHistories, SecretPortalJobHistories}
+use Rattle.portal.specs.Standing.{Words, shown, TurnedBack, PortalCall, PortalHistory, SecretStart, UnseenPortalHistory, SecretPortalHistories, SecretPortalJobHistories}
 use Rattle.portal.proofs.Handed.{few-started, few-followed}
 use Rattle.portal.proofs.Secret.{upper, lower}
 
@@ -58,7 +56,6 @@ from-flow absent h = omega arith
 from-flow tableFull h = omega arith
 from-flow boardFull h = omega arith
 from-flow spent h = omega arith
-from-flow low h = omega arith
 from-flow overflow h = omega arith
 
 ended-back : (e : Ending) → 0 < endingNumber e → endingNumber e < stopNumber flow → ⊥
@@ -78,20 +75,13 @@ record Said (x x′ : Words) (o : Outcome) : Type 0 where
   told : answerOf o ≡ answer outcome
   variables : ℕ
   leaves : Leaves placesIn Tree variables x x′ outcome
-  high : answer outcome .ending ≡ stopNumber low → ⊥
 
 said-start : {b : List ℕ} {budget : ℕ} {x x′ : Words} {o : Outcome} → Promises placesIn Tree b budget x x′ o → Said x x′ o
-unfolding LowNeverGiven
-said-start p = record { outcome = _; told = p .answered; variables = _; leaves = p .leaves; high = low-never-given _ _ _ }
-
-back-high : (i : ℕ) → answer (Rules.rejected badFollowOn i) .ending ≡ stopNumber low → ⊥
-unfolding answer stopNumber
-back-high i e = omega arith
+said-start p = record { outcome = _; told = p .answered; variables = _; leaves = p .leaves }
 
 said-follow : {b : List ℕ} {budget : ℕ} {x x′ : Words} {o : Outcome} → Follows placesIn Tree StandsIn b budget x x′ o → Said x x′ o
-unfolding LowNeverFollows
-said-follow (over s h t k) = record { outcome = _; told = t .answered; variables = _; leaves = t .leaves; high = low-never-follows s _ }
-said-follow (none h t) = record { outcome = Rules.rejected badFollowOn 0; told = t .answered; variables = 0; leaves = t .leaves; high = back-high 0 }
+said-follow (over s h t k) = record { outcome = _; told = t .answered; variables = _; leaves = t .leaves }
+said-follow (none h t) = record { outcome = Rules.rejected badFollowOn 0; told = t .answered; variables = 0; leaves = t .leaves }
 
 module _ (x x′ : Words) (n : ℕ) (o : Outcome) (few : answerOf o .lines ≤ maxBudget) (is : n ≡ numberOf (answerOf o)) (s : Said x x′ o) where
   ending-said : endingIn (shown n x′) ≡ answer (s .outcome) .ending
@@ -101,23 +91,12 @@ module _ (x x′ : Words) (n : ℕ) (o : Outcome) (few : answerOf o .lines ≤ m
   said-back a b =
       back (s .outcome) (s .variables) x x′ (s .leaves) (subst (λ (k : ℕ). 0 < k) ending-said a) (subst (λ (k : ℕ). k < stopNumber flow) ending-said b)
 
-  said-high : endingIn (shown n x′) ≡ stopNumber low → ⊥
-  said-high e = s .high (sym ending-said ∙ e)
-
 pub turned-back : TurnedBack
 unfolding TurnedBack
 turned-back =
     record {
       start = λ b budget x x′ n g. said-back x x′ n (g .outcome) (few-started (g .promise)) (g .number) (said-start (g .promise));
       follow = λ b budget x x′ n g. said-back x x′ n (g .outcome) (few-followed (g .promise)) (g .number) (said-follow (g .promise));
-    }
-
-pub low-never-lent : LowNeverLent
-unfolding LowNeverLent
-low-never-lent =
-    record {
-      start = λ b budget x x′ n g. said-high x x′ n (g .outcome) (few-started (g .promise)) (g .number) (said-start (g .promise));
-      follow = λ b budget x x′ n g. said-high x x′ n (g .outcome) (few-followed (g .promise)) (g .number) (said-follow (g .promise));
     }
 
 -- two calls of portal_start

@@ -1,10 +1,9 @@
--- What calls of the portal can tell of what the house owns, in what C sees, and an ending that is never handed back. Assumes nothing.
+-- What calls of the portal can tell of what the house owns, in what C sees. Assumes nothing.
 use mathlib.Core.Path.{_≡_}
 use mathlib.Core.List.{List}
 use Prim.Native.Nat.{ℕ}
 use Rattle.rules.specs.Level.{Level}
 use Rattle.rules.specs.Check.{accepted, checkBytes}
-use Rattle.rules.specs.Run.{low, stopNumber}
 use Rattle.rules.specs.Public.{Alike}
 use Rattle.rules.specs.Board.{Bounded}
 use Rattle.portal.specs.Portal.{Handed, portal}
@@ -23,7 +22,3 @@ pub record Calls {ℓ} (o : Level) (I : Type ℓ) : Type ℓ where
 -- the lines that such calls hand back are bounded: "ending 0" is finished
 unfoldable pub PortalBound {ℓ} : Level → Type (ℓ + 1)
 PortalBound o = (I : Type ℓ) (C : Calls o I) → Bounded (λ i. linesIn (C .back i)) (λ i. countIn (C .back i)) (λ i. endingIn (C .back i) ≡ 0)
-
--- no call that keeps the contract has the ending 26
-unfoldable pub LowNeverHanded : Type 0
-LowNeverHanded = (b : List ℕ) (n : ℕ) (area : List ℕ) (h : Handed) → h ≡ portal b n area → endingIn h ≡ stopNumber low → ⊥

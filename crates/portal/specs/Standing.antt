@@ -6,7 +6,7 @@ use Rattle.rules.specs.Level.{Level}
 use Rattle.rules.specs.Tree.{Forest, Place}
 use Rattle.rules.specs.Bytes.{variableCount}
 use Rattle.rules.specs.Check.{accepted, checkBytes}
-use Rattle.rules.specs.Run.{flow, low, stopNumber}
+use Rattle.rules.specs.Run.{flow, stopNumber}
 use Rattle.rules.specs.Public.{seenVariable, AgreeTrees, Alike}
 use Rattle.rules.specs.History.{sectionScript}
 use Rattle.table.specs.Cells.{cells}
@@ -50,10 +50,6 @@ pub record OfBoth (So : Words → Words → ℕ → Type 0) : Type 0 where
 -- an ending below 21, but for 0, is that of a call that changed nothing
 unfoldable pub TurnedBack : Type 0
 TurnedBack = OfBoth (λ x x′ n. 0 < endingIn (shown n x′) → endingIn (shown n x′) < stopNumber flow → x′ ≡ x)
-
--- neither has the ending 26
-unfoldable pub LowNeverLent : Type 0
-LowNeverLent = OfBoth (λ x x′ n. endingIn (shown n x′) ≡ stopNumber low → ⊥)
 
 -- a call of portal_follow: script and budget, what it was lent, what it left there and the number that it handed back
 pub record PortalCall : Type 0 where
