@@ -451,11 +451,8 @@ fn follow_on_name(command: u8) -> String {
 /// a script can have, every reason for 11, and every command in a script.
 pub fn wanted_of_histories() -> Vec<String> {
     let mut names: Vec<String> = (0..=4).map(event_name).collect();
-    // A script has no checks 1 to 6, and 26 is out of reach.
-    let can_end = |ending: &Ending| {
-        let number = ending.number();
-        number != 26 && !(1..=6).contains(&number)
-    };
+    // A script has no checks 1 to 6.
+    let can_end = |ending: &Ending| !(1..=6).contains(&ending.number());
     names.extend(
         Ending::ALL
             .into_iter()
@@ -469,15 +466,15 @@ pub fn wanted_of_histories() -> Vec<String> {
 }
 
 /// Everything that a generator must reach: all commands at all levels that they
-/// can leave, all operators with all kinds, all endings of a job but 26, every stop at
+/// can leave, all operators with all kinds, all endings of a job, every stop at
 /// every command that can give it, every reason for 7, 8 and 12, long runs, sixteen
 /// open blocks, counting under cover, last children of a house list, ifs that come back inside others, inside
 /// loops and to where much has changed, and nodes of all five combinations of levels.
 pub fn wanted() -> Vec<String> {
     let mut names = Vec::new();
     names.extend((0..command::COUNT as u8).map(command_name));
-    // No job is turned back with 11, and 26 is out of reach.
-    let reachable = |ending: &Ending| ![Ending::Standing, Ending::BelowExistence].contains(ending);
+    // No job is turned back with 11.
+    let reachable = |ending: &Ending| *ending != Ending::Standing;
     names.extend(Ending::ALL.into_iter().filter(reachable).map(ending_name));
     names.extend(LONG_RUNS.map(length_name));
     let stops: [(Ending, &[u8]); 5] = [

@@ -1,6 +1,6 @@
 //! The ways a job can end, with the paper's numbers.
 
-/// Finished, a job or script turned back (1 to 12), or a run that stopped (21 to 27).
+/// Finished, a job or script turned back (1 to 12), or a run that stopped (21 to 25, 27).
 #[derive(Clone, Copy, Debug, PartialEq, Eq, PartialOrd, Ord)]
 pub enum Ending {
     Finished = 0,
@@ -40,14 +40,12 @@ pub enum Ending {
     LinesFull = 24,
     /// "steps equal budget"
     BudgetUsed = 25,
-    /// "C below the working node's existence"
-    BelowExistence = 26,
     /// "a result outside signed 32 bits"
     OutOfRange = 27,
 }
 
 impl Ending {
-    pub const ALL: [Ending; 20] = [
+    pub const ALL: [Ending; 19] = [
         Ending::Finished,
         Ending::Size,
         Ending::Layout,
@@ -66,7 +64,6 @@ impl Ending {
         Ending::TableFull,
         Ending::LinesFull,
         Ending::BudgetUsed,
-        Ending::BelowExistence,
         Ending::OutOfRange,
     ];
 

@@ -679,12 +679,8 @@ impl<'a> Monitor<'a> {
         }
     }
 
-    /// 26: "C below the working node's existence"; then 23: "every table place
-    /// holds a live node".
+    /// 23: "every table place holds a live node".
     fn insertion_room(&self) -> Result<(), Ending> {
-        if self.c() < self.working_node().existence {
-            return Err(Ending::BelowExistence);
-        }
         let places = match self.mistake {
             Mistake::TableFullAt512 => MAX_PLACES,
             _ => self.limits.places,
@@ -760,8 +756,8 @@ impl<'a> Monitor<'a> {
     }
 
     /// The value that a command goes on with, where its rule holds (21) and there
-    /// is room for what it makes (26, 23, 24). 27: "a result outside signed 32
-    /// bits, given after 21 and before 26".
+    /// is room for what it makes (23, 24). 27: "a result outside signed 32 bits";
+    /// "22, 21, 27, then 23 or 24" (R-9).
     fn value(
         &self,
         expression: &Evaluated,

@@ -42,7 +42,6 @@ pub mod ending {
     pub const TABLE_FULL: u8 = 23;
     pub const LINES_FULL: u8 = 24;
     pub const BUDGET_USED: u8 = 25;
-    pub const BELOW_EXISTENCE: u8 = 26;
     pub const OUT_OF_RANGE: u8 = 27;
 }
 

@@ -283,9 +283,6 @@ pub fn steps(buffers: &mut Buffers, budget: u32, places: usize, area: &mut [u8])
                 let Some(value) = value else {
                     break (ending::OUT_OF_RANGE, next);
                 };
-                if c < node.existence {
-                    break (ending::BELOW_EXISTENCE, next);
-                }
                 if !arena.insert_first(cursor, new_node(op.target, value, e, c), places) {
                     break (ending::TABLE_FULL, next);
                 }
@@ -304,9 +301,6 @@ pub fn steps(buffers: &mut Buffers, budget: u32, places: usize, area: &mut [u8])
                 let Some(value) = value else {
                     break (ending::OUT_OF_RANGE, next);
                 };
-                if c < node.existence {
-                    break (ending::BELOW_EXISTENCE, next);
-                }
                 if !arena.insert_right(cursor, new_node(op.target, value, e, c), places) {
                     break (ending::TABLE_FULL, next);
                 }

@@ -86,7 +86,6 @@ fn name(ending: Ending) -> &'static str {
         Ending::TableFull => "table full",
         Ending::LinesFull => "board full",
         Ending::BudgetUsed => "budget used up",
-        Ending::BelowExistence => "context below the node",
         Ending::OutOfRange => "result out of range",
     }
 }

@@ -2,9 +2,7 @@
 
 use super::*;
 use reference::job::{Variable, NO_PARENT};
-use reference::mistake::Mistake;
 use reference::portal::{board, portal};
-use reference::run::{Monitor, Standing};
 
 fn bytes_of(hexadecimal: &str) -> Vec<u8> {
     let digits: Vec<char> = hexadecimal.chars().filter(|c| !c.is_whitespace()).collect();
@@ -451,28 +449,6 @@ fn ending_25_budget_used() {
     }
 }
 
-/// 26: "none found so far". No accepted job is known to reach it, so the state
-/// is made by hand: a cursor of level 0 on a node of existence 1.
-#[test]
-fn ending_26_context_below_the_node() {
-    let nodes = [root_node([0, 0, 1], 0), node(0, [1, 1, 1], 0)];
-    for record in [new_first_child(0, 1), new_right_sibling(0, 1)] {
-        // Before 23, which two places would give.
-        for places in [2, 3] {
-            let job = job(&[], &nodes, &[record]);
-            let limits = Limits {
-                places,
-                ..Limits::ample(10)
-            };
-            let standing = Standing::of(&job);
-            let mut monitor = Monitor::new(&job.script, &standing, &limits, Mistake::None);
-            monitor.state.cursor = vec![0];
-            let (outcome, _) = monitor.run_to_end(&mut |_, _| {});
-            assert_eq!(answer(&outcome), (26, 0, 0, vec![]));
-        }
-    }
-}
-
 /// "a sum or difference that leaves the range ends the command, for every
 /// command that reads an expression"
 #[test]
@@ -524,7 +500,7 @@ fn reading(result: Expression) -> Vec<Vec<Record>> {
     alone.into_iter().chain(with_end).collect()
 }
 
-/// "given after 21 and before 26", and so before 23 and 24.
+/// "22, 21, 27, then 23 or 24" (R-9).
 #[test]
 fn order_of_27() {
     let over = sum(constant(i32::MAX), constant(1));
