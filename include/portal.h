@@ -74,7 +74,6 @@ enum {
     PORTAL_TABLE_FULL = 23,         /* a new node, where there are as many as places */
     PORTAL_BOARD_FULL = 24,         /* a board line, where the area is full */
     PORTAL_BUDGET_USED_UP = 25,     /* as many steps as the budget allows */
-    PORTAL_LOW_CONTEXT = 26,        /* a new node, less secret than the node worked at; it is proved that no call gives this */
     PORTAL_OUT_OF_RANGE = 27        /* a sum or a difference outside signed 32 bits */
 };
 
@@ -191,7 +190,6 @@ static inline const char *portal_ending_name(int ending) {
     case PORTAL_TABLE_FULL: return "table full";
     case PORTAL_BOARD_FULL: return "board full";
     case PORTAL_BUDGET_USED_UP: return "budget used up";
-    case PORTAL_LOW_CONTEXT: return "context below the node";
     case PORTAL_OUT_OF_RANGE: return "result out of range";
     default: return "unknown";
     }

@@ -95,7 +95,7 @@ static uint64_t run(uint64_t (*call)(uint64_t), uint64_t budget) {
     int ending = portal_ending(answer);
     int turned_back = 0 < ending && ending < PORTAL_FLOW;
     size_t put_out = portal_lines(answer), named = call == start ? portal_variables(script.at, script.length) : levels.length;
-    same("an ending that there is", 1, strcmp(portal_ending_name(ending), "unknown") != 0 && ending != PORTAL_LOW_CONTEXT);
+    same("an ending that there is", 1, strcmp(portal_ending_name(ending), "unknown") != 0);
     same("lines that there is room for", 1, turned_back ? put_out == 0 : put_out <= lines.length / 4);
     stays("the script", &script, 0);
     stays("the table", &table, turned_back ? 0 : table.length / PLACE * PLACE);

@@ -8,10 +8,9 @@ import unittest
 from support import HOME, assembled, job, program
 
 # "Ways a job can end" of paper 01, and those of paper 02. No job ends with 11: it is for follow-on scripts alone.
-NUMBERS = [*range(1, 13), *range(21, 28)]
+NUMBERS = [*range(1, 13), 21, 22, 23, 24, 25, 27]
 BY_REPLAY = (9, 10)
 BY_HISTORY = 11
-NEVER = 26
 
 
 def read(path):
@@ -101,7 +100,7 @@ class Lists(unittest.TestCase):
 class Jobs(unittest.TestCase):
     def test_inspect(self):
         for page in PAGES.values():
-            if page.number in (NEVER, BY_HISTORY, *BY_REPLAY):
+            if page.number in (BY_HISTORY, *BY_REPLAY):
                 continue
             with self.subTest(page.number):
                 said = page.block("text")
@@ -124,13 +123,6 @@ class Jobs(unittest.TestCase):
         page = PAGES[f"{BY_HISTORY}.md"]
         self.assertEqual(answer("history", page.events()), page.block("text"))
         self.assertIn(f"script 1\nending {page.number} ", page.block("text"))
-
-    def test_the_ending_that_no_run_gives(self):
-        page = PAGES[f"{NEVER}.md"]
-        self.assertIn("It is proved that no run gives it", page.text)
-        self.assertEqual([page.block(kind) for kind in ("yoke", "hex", "text")], [None] * 3)
-        theorem, proof = re.search(r"`([\w-]+)` in `(crates/\S+\.antt)`", page.text).groups()
-        self.assertRegex(read(proof), rf"(?m)^pub {theorem} :")
 
 
 if __name__ == "__main__":

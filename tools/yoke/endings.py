@@ -19,10 +19,9 @@ ENDINGS = {
     23: "table full",
     24: "board full",
     25: "budget used up",
-    26: "context below the node",
     27: "result out of range",
 }
-FINISHED, FLOW, ABSENT, FULL_TABLE, FULL_BOARD, USED_UP, BELOW, OVERFLOW = 0, 21, 22, 23, 24, 25, 26, 27
+FINISHED, FLOW, ABSENT, FULL_TABLE, FULL_BOARD, USED_UP, OVERFLOW = 0, 21, 22, 23, 24, 25, 27
 
 REFUSALS = [number for number in ENDINGS if 0 < number < FLOW]
 STOPS = [number for number in ENDINGS if number >= FLOW]

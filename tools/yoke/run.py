@@ -6,7 +6,7 @@ from .commands import (
     ALONE, ASSIGN, COMMANDS, CONSTANT, COVER, DIFFERENCE, ELSE, END, EQUAL, FIRST_CHILD, LESS, MARK_CONTENT, MARK_LIST, MEAN,
     IF_BACK, LAST_CHILD, LEFT_SIBLING, MOVES, NAMED, NEW_FIRST_CHILD, PRINT, REMOVALS, REMOVE_FIRST_CHILD, ROOT, SET, SUM, UP, VALUE, WHILE)
 from .encoding import Node, signed
-from .endings import ABSENT, BELOW, FINISHED, FLOW, FULL_BOARD, FULL_TABLE, OVERFLOW, USED_UP
+from .endings import ABSENT, FINISHED, FLOW, FULL_BOARD, FULL_TABLE, OVERFLOW, USED_UP
 from .limits import HOUSE, PUBLIC, Limits
 from .pictures import Picture, parents_of
 
@@ -274,8 +274,6 @@ class Run:
         here = self.position()
         self.rule(here <= parent.list and (neighbour is None or here <= neighbour.existence))
         self.fits(value)
-        if here < self.cursor.existence:
-            raise Stopped(BELOW)
         if self.live == self.limits.places:
             raise Stopped(FULL_TABLE)
         content = HOUSE if record.target & MARK_CONTENT else level
