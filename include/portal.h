@@ -20,9 +20,9 @@
 #include <stdint.h>
 
 /* The version of this header and of the library beside it. The first number changes where a program must be changed. */
-#define PORTAL_VERSION "1.6.0"
+#define PORTAL_VERSION "1.7.0"
 #define PORTAL_VERSION_MAJOR 1
-#define PORTAL_VERSION_MINOR 6
+#define PORTAL_VERSION_MINOR 7
 #define PORTAL_VERSION_PATCH 0
 
 /* The largest job, in bytes. Read up to one byte more, so that a longer one is seen and turned back. */
