@@ -8,15 +8,15 @@ use lib.IntN.{ℤ}
 use Rattle.rules.specs.Tree.{Label, noLabel, Forest, Side, sibling, count, change, insert, remove, withValue, setValue}
 use Rattle.table.specs.Cells.{Cell, cell, Table, ByteLevels, gone, leftOn}
 use Rattle.table.specs.Holds.{Placed, empty, node, erase, head, last, Spare, more, hit, times, spareTimes}
-use Rattle.table.specs.Steps.{Put, LedBack}
+use Rattle.table.specs.Steps.{Put, orphan, Reparented, LedBack}
 use Rattle.table.proofs.Counting.{hit-same, differ}
-use Rattle.table.proofs.Frames.{stored, linked, freed, still-linked}
+use Rattle.table.proofs.Frames.{stored, linked-by, freed, still-linked}
 use Rattle.table.proofs.Ways.{Way, step, pathOf, parentOf, wayTimes, Above, plug-change}
 use Rattle.table.proofs.Focus.{Focus}
 use Rattle.table.proofs.Links.{withLink, withCount, same-above, parent-there, relink, retally, led-stored, led-above, led-same}
 
 -- a cell with another parent word, or another value
-abbrev pub withParent : ℕ → Cell → Cell
+abbrev withParent : ℕ → Cell → Cell
 withParent v a = cell (a .first) (a .right) v (a .left) (a .last) (a .children) (a .label)
 
 abbrev pub withNumber : ℤ → Cell → Cell
@@ -76,15 +76,15 @@ module _ {n used free : ℕ} {t : Forest} {s : Spare} where
         is-tree = sym (plug-change K (insert l) f (node x l empty f) refl) ∙ ap (change (pathOf K) (insert l)) (h .is-tree);
       }
 
-  -- the first node q at the end of the way goes to the free places, with its children
-  pub prune : {m m₁ m₂ m₃ m₄ m₅ : Table} {d : Side} {c q : ℕ} {a b : Label} {o w e r : Placed} {k : Way}
-      → Focus m n used free t w (step d c a o k) (node q b e r) s → (parentOf (step d c a o k) ≡ gone → ⊥)
-      → Put m m₁ c (withLink d (head r) (m c)) → LedBack m₁ n (head r) (parentOf (step d c a o k)) (leftOn d c) m₂
+  -- the first node q at the end of the way goes to the free places, with its children, whose parent words may have changed before
+  pub prune : {m m₀ m₁ m₂ m₃ m₄ m₅ : Table} {d : Side} {c q : ℕ} {a b : Label} {o w e r : Placed} {k : Way}
+      → Focus m n used free t w (step d c a o k) (node q b e r) s → (parentOf (step d c a o k) ≡ gone → ⊥) → Reparented (λ y. times y e) m m₀
+      → Put m₀ m₁ c (withLink d (head r) (m₀ c)) → LedBack m₁ n (head r) (parentOf (step d c a o k)) (leftOn d c) m₂
       → Put m₂ m₃ q (withLink sibling gone (m₂ q)) → Put m₃ m₄ q (withParent free (m₃ q))
       → Put m₄ m₅ (parentOf (step d c a o k)) (withCount (m₄ (parentOf (step d c a o k)) .children - 1) (m₄ (parentOf (step d c a o k))))
       → Focus m₅ n used q (change (pathOf (step d c a o k)) remove t) w (step d c a o k) r (more q e empty s)
   unfolding count remove
-  prune {m} {m₁} {m₂} {m₃} {m₄} {m₅} {d} {c} {q} {a} {b} {o} {w} {e} {r} {k} h ne p₁ p₂ p₃ p₄ p₅ =
+  prune {m} {m₀} {m₁} {m₂} {m₃} {m₄} {m₅} {d} {c} {q} {a} {b} {o} {w} {e} {r} {k} h ne p₀ p₁ p₂ p₃ p₄ p₅ =
       let K = step d c a o k in
       let u = parentOf K in
       let v = leftOn d c in
@@ -98,17 +98,19 @@ module _ {n used free : ℕ} {t : Forest} {s : Spare} where
       λ y z. differ (λ y. times y e + times y r + wayTimes y K + spareTimes y s) (λ y. hit y q) (λ y. omega (arith, h .once y)) z qq in
       let notWay : (y z : ℕ) → 0 < hit y q + times y e + times y r + spareTimes y s → 0 < wayTimes z K → y ≡ z → ⊥ =
       λ y z. differ (λ y. hit y q + times y e + times y r + spareTimes y s) (λ y. wayTimes y K) (λ y. omega (arith, h .once y)) in
-      let s₁ = stored m m₁ (le-refl used) u q r (λ y z. p₁ .off y (notWay y c (omega arith) cK)) (h .stored .3) in
+      let ag₀ : (y : ℕ) → 0 < times y r + wayTimes y K + spareTimes y s → m₀ y ≡ m y = λ y z. p₀ .cells y (omega (arith, h .once y)) in
+      let s₁ = stored m m₁ (le-refl used) u q r (λ y z. p₁ .off y (notWay y c (omega arith) cK) ∙ ag₀ y (omega arith)) (h .stored .3) in
       let s₂ = led-stored q least (h .room) r (λ y. omega (arith, h .once y)) s₁ p₂ in
       let ag₄ : (y : ℕ) → 0 < times y e + times y r + wayTimes y K + spareTimes y s → m₄ y ≡ m₂ y =
       λ y z. p₄ .off y (notQ y z) ∙ p₃ .off y (notQ y z) in
-      let ag₂ : (y : ℕ) → 0 < hit y q + times y e + spareTimes y s → m₂ y ≡ m y =
+      let ag₂ : (y : ℕ) → 0 < hit y q + times y e + spareTimes y s → m₂ y ≡ m₀ y =
       λ y z. led-same q least (h .room) r s₁ p₂ y (omega (arith, h .once y)) (notWay y u (omega arith) uK) ∙ p₁ .off y (notWay y c (omega arith) cK) in
-      let ag : (y : ℕ) → 0 < times y e + spareTimes y s → m₅ y ≡ m y =
+      let ag : (y : ℕ) → 0 < times y e + spareTimes y s → m₅ y ≡ m₀ y =
       λ y z. p₅ .off y (notWay y u (omega arith) uK) ∙ ag₄ y (omega arith) ∙ ag₂ y (omega arith) in
-      let atQ : m₅ q ≡ withParent free (withLink sibling gone (m q)) =
+      let atQ : m₅ q ≡ withParent free (withLink sibling gone (m₀ q)) =
       p₅ .off q (notWay q u (omega arith) uK) ∙ p₄ .on ∙ ap (withParent free) (p₃ .on ∙ ap (withLink sibling gone) (ag₂ q (omega arith))) in
-      let a₁ = relink m m₁ used q (suc j) (last q r) d c a o k (head r) onWay p₁ (h .above) in
+      let a₀ = same-above m m₀ (le-refl used) q (suc j) (last q r) K (λ y z. ag₀ y (omega arith)) (h .above) in
+      let a₁ = relink m₀ m₁ used q (suc j) (last q r) d c a o k (head r) onWay p₁ a₀ in
       let a₂ = led-above q least (h .room) (head r) (suc j) r K refl ne (λ y. omega (arith, h .once y)) s₁ p₂ a₁ in
       let a₄ = same-above m₂ m₄ (le-refl used) (head r) (suc j) (last v r) K (λ y z. ag₄ y (omega arith)) a₂ in
       let a₅ = retally m₄ m₅ used u (λ i. i - 1) (λ i. i) p₅ ne (head r) (suc j) (last v r) K refl (λ i z. omega arith) onWay a₄ in
@@ -119,12 +121,12 @@ module _ {n used free : ℕ} {t : Forest} {s : Spare} where
         above = subst (λ i. Above m₅ used (head r) i (last v r) K) (omega arith) a₅;
         freed = (
           h .stored .0,
-          ap (λ z. z .first) atQ ∙ ap (λ z. z .first) (h .stored .1),
+          ap (λ z. z .first) atQ ∙ ap (λ z. z .first) (p₀ .rest q) ∙ ap (λ z. z .first) (h .stored .1),
           ap (λ z. z .right) atQ,
           ap (λ z. z .parent) atQ ∙ sym (h .leads),
-          linked m m₅ (le-refl used) e (λ y z. ag y (omega arith)) (still-linked m used q gone e (h .stored .2)),
+          linked-by m m₅ (le-refl used) e (λ y z. ap orphan (ag y (omega arith)) ∙ p₀ .rest y) (still-linked m used q gone e (h .stored .2)),
           tt,
-          freed m m₅ (le-refl used) s (λ y z. ag y (omega arith)) (h .freed),
+          freed m m₅ (le-refl used) s (λ y z. ag y (omega arith) ∙ ag₀ y (omega arith)) (h .freed),
         );
         leads = refl;
         once = λ y. omega (arith, h .once y);

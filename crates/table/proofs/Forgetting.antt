@@ -1,48 +1,37 @@
--- The walk that clears the places of removed nodes. What waits is a stack of forests: its first place is cleared, and makes way for what hangs from it,
--- so that each place is cleared once. Only parent words change; the forests hang together as they did, and the table holds what it held. Assumes nothing.
+-- The walk that clears the places of a subtree. What waits is a stack of forests: its first place is cleared, and makes way for what hangs from it,
+-- so that each place is cleared once. Only parent words change: the forests hang together as they did. Assumes nothing.
 use mathlib.Core.Path.{_≡_, refl, sym, ap, subst, _∙_}
 use mathlib.Core.Logic.{_⊎_, inl, inr}
 use mathlib.Core.Bool.{Bool, true, false, true≢false}
 use mathlib.Core.List.{List}
-use Prim.Native.Nat.{ℕ, zero, suc, _+_, _<_, _≤_}
+use Prim.Native.Nat.{ℕ, suc, _+_, _<_, _≤_}
 use native.Mathlib.Omega.{arith}
-use native.Mathlib.Nat.{le-refl}
 use native.Mathlib.Decide.{ℕ-discrete, decLt}
 use lib.ListN.{length, set}
 use lib.Seq.{getD-set-same, getD-set-other}
-use Rattle.rules.specs.Tree.{Forest, Side, Place, count}
+use Rattle.rules.specs.Tree.{Forest, Place}
 use Rattle.table.specs.Cells.{Table, gone, sideOf}
-use Rattle.table.specs.Holds.{Placed, empty, node, erase, head, last, Spare, end, more, top, Linked, Free, hit, times, spareTimes, Holds}
-use Rattle.table.specs.Promises.{Removed}
+use Rattle.table.specs.Holds.{Placed, head, Spare, end, more, top, Linked, Free, hit, times, spareTimes, Holds}
+use Rattle.table.specs.Promises.{Behind}
 use Rattle.table.specs.Since.{never, number, Forgotten, Clears, Clearing, Forgets}
-use Rattle.table.specs.Steps.{withWord, Put, Pushed, some, none, Popped}
-use Rattle.table.proofs.Counting.{hit-same, hit-other, sumTo, sum-ext, sum-add, sum-bound, sum-term, sum-hit, linked-beyond, free-beyond}
-use Rattle.table.proofs.Frames.{stored, linked-by, freed}
-use Rattle.table.proofs.Ways.{Way, parentOf, prevOf, wayTimes}
-use Rattle.table.proofs.Focus.{Focus}
-use Rattle.table.proofs.Links.{same-above}
-use Rattle.table.proofs.Spares.{onto, onto-times, push-free, push-same, unstack}
-use Rattle.table.proofs.Removing.{Gone, removed, gone-below, not-below}
+use Rattle.table.specs.Steps.{withWord, orphan, Reparented, Pushed, some, none, Popped}
+use Rattle.table.proofs.Behind.{same-behind}
+use Rattle.table.proofs.Counting.{hit-same, hit-other, sumTo, sum-ext, sum-add, sum-bound, sum-term, sum-hit, free-beyond}
+use Rattle.table.proofs.Frames.{still-linked}
+use Rattle.table.proofs.Links.{same-part}
+use Rattle.table.proofs.Sides.{forest-on}
+use Rattle.table.proofs.Spares.{onto, onto-times, push-free, push-same, unstack, none-new}
+use Rattle.table.proofs.Removing.{First, seen-first, gone-below, not-below}
 
 -- a push touches a parent word only
-module _ {m m′ : Table} {n x e r : ℕ} where
-  push-first : Pushed m n x e m′ r → (y : ℕ) → m′ y .first ≡ m y .first
-  unfolding withWord
-  push-first (some lt p i) y = go (ℕ-discrete y x)
-    where
-      go : Dec (y ≡ x) → m′ y .first ≡ m y .first
-      go (yes q) = rw q (ap (λ a. a .first) (p .on))
-      go (no q) = ap (λ a. a .first) (p .off y q)
-  push-first (none ge same i) y = ap (λ a. a .first) (same y)
+pushed-rest : {m m′ : Table} {n x e r : ℕ} → Pushed m n x e m′ r → (y : ℕ) → orphan (m′ y) ≡ orphan (m y)
+unfolding withWord
+pushed-rest (some lt p i) y = same-part orphan p refl y
+pushed-rest (none ge same i) y = ap orphan (same y)
 
-  push-right : Pushed m n x e m′ r → (y : ℕ) → m′ y .right ≡ m y .right
-  unfolding withWord
-  push-right (some lt p i) y = go (ℕ-discrete y x)
-    where
-      go : Dec (y ≡ x) → m′ y .right ≡ m y .right
-      go (yes q) = rw q (ap (λ a. a .right) (p .on))
-      go (no q) = ap (λ a. a .right) (p .off y q)
-  push-right (none ge same i) y = ap (λ a. a .right) (same y)
+-- nothing is touched
+untouched : {touched : ℕ → ℕ} {m : Table} → Reparented touched m m
+untouched = record { cells = λ y q. refl; rest = λ y. refl }
 
 -- how many places wait
 abbrev pub waiting : ℕ → Spare → ℕ
@@ -56,9 +45,7 @@ pub record Going (n used : ℕ) (s₀ : Spare) (m₀ m : Table) (since₀ since 
   pub part : (y : ℕ) → spareTimes y stack ≤ spareTimes y s₀
   pub each : (y : ℕ) → 0 < spareTimes y s₀ → spareTimes y stack ≡ 0 → number since y ≡ never
   pub other : (y : ℕ) → spareTimes y s₀ ≡ 0 → number since y ≡ number since₀ y
-  pub cells : (y : ℕ) → spareTimes y s₀ ≡ 0 → m y ≡ m₀ y
-  pub firsts : (y : ℕ) → m y .first ≡ m₀ y .first
-  pub rights : (y : ℕ) → m y .right ≡ m₀ y .right
+  pub links : Reparented (λ y. spareTimes y s₀) m₀ m
   pub few : waiting n stack ≤ left
 
 module _ {n used : ℕ} (least : n ≤ gone) (room : used ≤ n) (s₀ : Spare) (once : (y : ℕ) → spareTimes y s₀ ≤ 1) (m₀ : Table) (since₀ : List ℕ) where
@@ -71,9 +58,7 @@ module _ {n used : ℕ} (least : n ≤ gone) (room : used ≤ n) (s₀ : Spare) 
         part = λ y. omega arith;
         each = λ y p q. absurd (omega arith);
         other = λ y q. refl;
-        cells = λ y q. refl;
-        firsts = λ y. refl;
-        rights = λ y. refl;
+        links = untouched;
         few = sum-bound n (λ y. spareTimes y s₀) once;
       }
 
@@ -97,9 +82,10 @@ module _ {n used : ℕ} (least : n ≤ gone) (room : used ≤ n) (s₀ : Spare) 
               part = λ y. omega (arith, times-of y, onto-times y r s, onto-times y c (onto r s));
               each = λ y a b. each y a (omega (arith, b, onto-times y r s, onto-times y c (onto r s))) (ℕ-discrete y next);
               other = λ y q. getD-set-other since next y never 0 (λ z. omega (arith, times-of x, hit-same x, ap (λ v. spareTimes v s₀) (z ∙ sym i))) ∙ g .other y q;
-              cells = λ y q. u .same y (omega (arith, times-of y)) ∙ g .cells y q;
-              firsts = λ y. push-first (p .first) y ∙ push-first (p .right) y ∙ g .firsts y;
-              rights = λ y. push-right (p .first) y ∙ push-right (p .right) y ∙ g .rights y;
+              links = record {
+                cells = λ y q. u .same y (omega (arith, times-of y)) ∙ g .links .cells y q;
+                rest = λ y. pushed-rest (p .first) y ∙ pushed-rest (p .right) y ∙ g .links .rest y;
+              };
               few =
                   omega (
                     arith,
@@ -130,9 +116,7 @@ module _ {n used : ℕ} (least : n ≤ gone) (room : used ≤ n) (s₀ : Spare) 
       record {
         each = λ y a. g .each y a (none-left y (decLt y n) d);
         other = g .other;
-        cells = g .cells;
-        firsts = g .firsts;
-        rights = g .rights;
+        links = g .links;
       }
     where
       empty-stack : (s : Spare) → Free m used s → n ≤ top s → (y : ℕ) → spareTimes y s ≡ 0
@@ -157,9 +141,10 @@ forgotten {m} {m₁} {m′} {n} {used} {x} {below} {since} {since′} c least ro
       other = λ y z.
           w .other y (omega (arith, z, onto-times y c end))
           ∙ getD-set-other since x y never 0 (λ i. omega (arith, z, hit-same x, ap (λ v. hit v x) i));
-      cells = λ y z. w .cells y (omega (arith, z, onto-times y c end)) ∙ push-same least room c h q y z;
-      firsts = λ y. w .firsts y ∙ push-first q y;
-      rights = λ y. w .rights y ∙ push-right q y;
+      links = record {
+        cells = λ y z. w .links .cells y (omega (arith, z, onto-times y c end)) ∙ push-same least room c h q y z;
+        rest = λ y. w .links .rest y ∙ pushed-rest q y;
+      };
     }
   where
     each : Forgotten (λ y. spareTimes y (onto c end)) (λ y. spareTimes y (onto c end)) m₁ m′ (set since x never) since′ → (y : ℕ) → 0 < hit y x + times y c
@@ -169,59 +154,45 @@ forgotten {m} {m₁} {m′} {n} {used} {x} {below} {since} {since′} c least ro
         ∙ getD-set-same since x never 0 lx
     each w y z (no i) = w .each y (omega (arith, z, hit-other y x i, onto-times y c end))
 
--- the table holds what it held
-still-focus : {m m′ : Table} {n used free y : ℕ} {t : Forest} {w : Placed} {k : Way} {f c : Placed} {s : Spare} {cleared : ℕ → ℕ} {since since′ : List ℕ}
-    → Focus m n used free t w k f (more y c empty s) → Forgotten cleared (λ i. times i c) m m′ since since′ → Focus m′ n used free t w k f (more y c empty s)
-still-focus {m} {m′} {used = used} {y = y} {k = k} {f} {c} {s} h g =
-    let ag : (i : ℕ) → 0 < hit i y + times i f + wayTimes i k + spareTimes i s → m′ i ≡ m i = λ i z. g .cells i (omega (arith, h .once i)) in
-    record {
-      few = h .few;
-      room = h .room;
-      stored = stored m m′ (le-refl used) (parentOf k) (prevOf k) f (λ i z. ag i (omega arith)) (h .stored);
-      above = same-above m m′ (le-refl used) (head f) (count (erase f)) (last (prevOf k) f) k (λ i z. ag i (omega arith)) (h .above);
-      freed = (
-        h .freed .0,
-        g .firsts y ∙ h .freed .1,
-        g .rights y ∙ h .freed .2,
-        ap (λ a. a .parent) (ag y (omega (arith, hit-same y))) ∙ h .freed .3,
-        linked-by m m′ (le-refl used) c (λ i z. (g .firsts i, g .rights i)) (h .freed .4),
-        tt,
-        freed m m′ (le-refl used) s (λ i z. ag i (omega arith)) (h .freed .6),
-      );
-      leads = h .leads;
-      once = h .once;
-      each = h .each;
-      is-tree = h .is-tree;
-    }
+-- the node at y, the first on a side of the cursor's, and all below it are forgotten
+module _ {m m′ : Table} {n used free x y : ℕ} {t : Forest} {p : Place} {since since′ : List ℕ} (h : Holds m n used free x t p) (side : ℕ)
+    (o : First y (forest-on h (sideOf side))) where
+  subtree : Clearing n m m′ y since since′ → Forgotten (λ i. hit i y + times i (o .c)) (λ i. times i (o .c)) m m′ since since′
+  subtree w =
+      let v = seen-first h side o in
+      w .done used (o .c) (h .room) (ap (λ a. a .first) (v .stored .1)) (still-linked m used y gone (o .c) (v .stored .2)) (λ i. omega (arith, v .once i))
 
--- a node is removed, and each node of its subtree is forgotten
-module _ {m m₁ m′ : Table} {n used free x y : ℕ} {t : Forest} {p : Place} {since since′ : List ℕ} (h : Holds m n used free x t p) (side : ℕ) where
-  pub dropped : Gone h side y m₁ → Clearing n m₁ m′ y since since′ → {b : Bool}
-      → Removed (sideOf side) m m′ n used free y x t p × Forgets b (sideOf side) m n used free t p since since′
-  dropped g w =
-      let f = w .done used (g .c) (h .room) (g .focus .freed .1) (g .focus .freed .4) (λ i. omega (arith, g .focus .once i)) in
-      let g′ : Gone h side y m′ = record { l = g .l; c = g .c; r = g .r; was = g .was; focus = still-focus (g .focus) f } in (
-        removed h side g′,
-        record {
-          lost = λ _ i q k z. f .each i (gone-below h side g′ i q k z);
-          other = λ i q q′ k z. f .other i (not-below h side g′ i q q′ k z);
-          either = λ i. either f i (decLt 0 (hit i y + times i (g .c)));
-          behind = λ i ge.
-              f .other i
-              (omega (
-                arith,
-                hit-other i y (λ z. omega (arith, g .focus .freed .0, h .room)),
-                linked-beyond m₁ used (g .c) (g .focus .freed .4) i (omega (arith, h .room)),
-              ));
-        },
-      )
+  forgets : Forgotten (λ i. hit i y + times i (o .c)) (λ i. times i (o .c)) m m′ since since′ → {b : Bool} → Forgets b (sideOf side) m n used free t p since since′
+  forgets f =
+      record {
+        lost = λ _ i q k z. f .each i (gone-below h side o i q k z);
+        other = λ i q q′ k z. f .other i (not-below h side o i q q′ k z);
+        either = λ i. either i (decLt 0 (hit i y + times i (o .c)));
+        behind = λ i ge. f .other i (omega (arith, none-new (seen-first h side o) i (omega (arith, h .room))));
+      }
     where
-      either : Forgotten (λ i. hit i y + times i (g .c)) (λ i. times i (g .c)) m₁ m′ since since′ → (i : ℕ) → Dec (0 < hit i y + times i (g .c))
-          → (number since′ i ≡ number since i) ⊎ (number since′ i ≡ never)
-      either f i (yes z) = inr (f .each i z)
-      either f i (no z) = inl (f .other i (omega arith))
+      either : (i : ℕ) → Dec (0 < hit i y + times i (o .c)) → (number since′ i ≡ number since i) ⊎ (number since′ i ≡ never)
+      either i (yes z) = inr (f .each i z)
+      either i (no z) = inl (f .other i (omega arith))
 
--- where no block remembers a node there is nothing to forget
-pub none-kept : {d : Side} {m : Table} {n used free : ℕ} {t : Forest} {p : Place} {since : List ℕ} → Forgets false d m n used free t p since since
-none-kept =
-    record { lost = λ z. absurd (true≢false (sym z)); other = λ x q r h e. refl; either = λ y. inl refl; behind = λ y ge. refl }
+-- the node at y, the first on a side of the cursor's, may go: it is forgotten with all below it, if any block remembers a node, and of the table only parent
+-- words below it are touched
+pub record Ready (remembered : Bool) (side n x y : ℕ) (m m′ : Table) (since since′ : List ℕ) : Type 0 where
+  pub behind : Behind n m m′
+  pub done : {used free : ℕ} {t : Forest} {p : Place} (h : Holds m n used free x t p) (o : First y (forest-on h (sideOf side)))
+      → Reparented (λ i. times i (o .c)) m m′ × Forgets remembered (sideOf side) m n used free t p since since′
+
+module _ {side n x y : ℕ} {m : Table} {since : List ℕ} where
+  pub all-forgotten : {b : Bool} {m′ : Table} {since′ : List ℕ} → Clearing n m m′ y since since′ → Ready b side n x y m m′ since since′
+  all-forgotten w = record { behind = w .behind; done = λ h o. let f = subtree h side o w in (f .links, forgets h side o f) }
+
+  -- where no block remembers a node there is nothing to forget
+  pub none-kept : Ready false side n x y m m since since
+  none-kept =
+      record {
+        behind = same-behind (λ y. refl);
+        done = λ h o. (
+          untouched,
+          record { lost = λ z. absurd (true≢false (sym z)); other = λ x q r h e. refl; either = λ y. inl refl; behind = λ y ge. refl },
+        );
+      }

@@ -4,6 +4,7 @@ use Prim.Native.Nat.{ℕ, _<_, _≤_}
 use native.Mathlib.Omega.{arith}
 use Rattle.table.specs.Cells.{Table, gone}
 use Rattle.table.specs.Holds.{Placed, empty, node, Stored, Spare, end, more, Linked, Free, times, spareTimes}
+use Rattle.table.specs.Steps.{orphan}
 use Rattle.table.proofs.Counting.{hit-same}
 
 module _ (m m′ : Table) {b b′ : ℕ} (le : b ≤ b′) where
@@ -17,20 +18,20 @@ module _ (m m′ : Table) {b b′ : ℕ} (le : b ≤ b′) where
     h .4,
   )
 
-  -- of a removed forest only the links that lead through it count
-  pub linked-by : (f : Placed) → ((y : ℕ) → 0 < times y f → (m′ y .first ≡ m y .first) × (m′ y .right ≡ m y .right)) → Linked m b f → Linked m′ b′ f
+  -- of a removed forest the parent words do not count
+  pub linked-by : (f : Placed) → ((y : ℕ) → 0 < times y f → orphan (m′ y) ≡ orphan (m y)) → Linked m b f → Linked m′ b′ f
   linked-by empty ag h = tt
   linked-by (node x l c r) ag h =
       let e = ag x (omega (arith, hit-same x)) in (
         omega arith,
-        e .0 ∙ h .1,
-        e .1 ∙ h .2,
+        ap (λ a. a .first) e ∙ h .1,
+        ap (λ a. a .right) e ∙ h .2,
         linked-by c (λ y q. ag y (omega arith)) (h .3),
         linked-by r (λ y q. ag y (omega arith)) (h .4),
       )
 
   pub linked : (f : Placed) → ((y : ℕ) → 0 < times y f → m′ y ≡ m y) → Linked m b f → Linked m′ b′ f
-  linked f ag h = linked-by f (λ y q. (ap (λ a. a .first) (ag y q), ap (λ a. a .right) (ag y q))) h
+  linked f ag h = linked-by f (λ y q. ap orphan (ag y q)) h
 
   pub freed : (s : Spare) → ((y : ℕ) → 0 < spareTimes y s → m′ y ≡ m y) → Free m b s → Free m′ b′ s
   freed end ag h = tt

@@ -32,8 +32,8 @@ link-count child v a = refl
 link-count sibling v a = refl
 
 -- a part of a cell that a change of it leaves alone stays in every cell
-pub same-part : {m m′ : Table} {x : ℕ} {a : Cell} (g : Cell → ℕ) → Put m m′ x a → g a ≡ g (m x) → (y : ℕ) → g (m′ y) ≡ g (m y)
-same-part {m} {m′} {x} g p e y = go (ℕ-discrete y x)
+pub same-part : {A : Type 0} {m m′ : Table} {x : ℕ} {a : Cell} (g : Cell → A) → Put m m′ x a → g a ≡ g (m x) → (y : ℕ) → g (m′ y) ≡ g (m y)
+same-part {m = m} {m′} {x} g p e y = go (ℕ-discrete y x)
   where
     go : Dec (y ≡ x) → g (m′ y) ≡ g (m y)
     go (yes q) = rw q (ap g (p .on) ∙ e)

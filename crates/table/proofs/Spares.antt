@@ -113,7 +113,7 @@ module _ {m : Table} {n used free : ℕ} {t : Forest} {k : Way} {f : Placed} {s 
   tree-stored : Stored m used gone gone (plug k f)
   tree-stored = replug m used k f (h .stored) (h .above) .0
 
-  none-new : (y : ℕ) → used ≤ y → times y f + wayTimes y k + spareTimes y s ≡ 0
+  pub none-new : (y : ℕ) → used ≤ y → times y f + wayTimes y k + spareTimes y s ≡ 0
   none-new y le = omega (arith, none-beyond m used gone gone (plug k f) tree-stored y le, plug-times y k f, free-beyond m used s (h .freed) y le)
 
   -- a place that was never used

@@ -13,6 +13,7 @@ use Rattle.rules.specs.Tree.{Forest, Side, Place, to, afterRemove}
 use Rattle.table.specs.Cells.{Table}
 use Rattle.table.specs.Holds.{Placed, head, Spare, top, Linked, Free, hit, times, spareTimes, Holds}
 use Rattle.table.specs.Promises.{Behind}
+use Rattle.table.specs.Steps.{Reparented}
 
 -- a cleared number, above every block's
 abbrev pub never : ℕ
@@ -35,9 +36,7 @@ pub data Remembers (m : Table) (n used free : ℕ) (t : Forest) (since : List �
 pub record Forgotten (cleared touched : ℕ → ℕ) (m m′ : Table) (since since′ : List ℕ) : Type 0 where
   pub each : (y : ℕ) → 0 < cleared y → number since′ y ≡ never
   pub other : (y : ℕ) → cleared y ≡ 0 → number since′ y ≡ number since y
-  pub cells : (y : ℕ) → touched y ≡ 0 → m′ y ≡ m y
-  pub firsts : (y : ℕ) → m′ y .first ≡ m y .first
-  pub rights : (y : ℕ) → m′ y .right ≡ m y .right
+  pub links : Reparented touched m m′
 
 -- the places of the stack that x leads to are cleared
 pub record Clears (n : ℕ) (m m′ : Table) (x : ℕ) (since since′ : List ℕ) : Type 0 where
@@ -46,7 +45,7 @@ pub record Clears (n : ℕ) (m m′ : Table) (x : ℕ) (since since′ : List �
   pub done : (used : ℕ) (s : Spare) → used ≤ n → Free m used s → top s ≡ x → ((y : ℕ) → spareTimes y s ≤ 1)
       → Forgotten (λ y. spareTimes y s) (λ y. spareTimes y s) m m′ since since′
 
--- the place x of a removed node is cleared, and those of all below it
+-- the place x of a node that goes is cleared, and those of all below it
 pub record Clearing (n : ℕ) (m m′ : Table) (x : ℕ) (since since′ : List ℕ) : Type 0 where
   pub behind : Behind n m m′
   pub done : (used : ℕ) (c : Placed) → used ≤ n → m x .first ≡ head c → Linked m used c → ((y : ℕ) → hit y x + times y c ≤ 1)

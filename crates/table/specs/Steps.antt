@@ -31,6 +31,15 @@ pub record Put (m m′ : Table) (x : ℕ) (a : Cell) : Type 0 where
   pub on : m′ x ≡ a
   pub off : (y : ℕ) → (y ≡ x → ⊥) → m′ y ≡ m y
 
+-- a cell but for its parent word
+abbrev pub orphan : Cell → Cell
+orphan a = cell (a .first) (a .right) gone (a .left) (a .last) (a .children) (a .label)
+
+-- the parent words of some cells may have changed, and nothing else
+pub record Reparented (touched : ℕ → ℕ) (m m′ : Table) : Type 0 where
+  pub cells : (y : ℕ) → touched y ≡ 0 → m′ y ≡ m y
+  pub rest : (y : ℕ) → orphan (m′ y) ≡ orphan (m y)
+
 -- one child more, and one less, in 32 bits
 unfoldable pub oneMore : ℕ → ℕ
 oneMore j = wordOf (j + 1)

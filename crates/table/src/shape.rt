@@ -110,7 +110,7 @@ pub fn add(
 }
 
 // Removes the node at `old`, the first on a side of the one at `at`, with its subtree; returns what leads to the free places then. Where blocks remember nodes,
-// each node of the subtree is forgotten.
+// each node of the subtree is forgotten before. On the side of the children the parent is the cursor's node, whose place needs no test.
 pub fn remove(
     words: &mut [u32],
     places: usize,
@@ -129,11 +129,11 @@ pub fn remove(
     ensures { λ _. ⌜ Behind places (cells (now (words .entry))) (cells (now (words .exit))) ⌝ }
 {
     let u = parent_on(words, places, at, side);
-    if u < places {
-        detach(words, places, at, side, u, old, free);
+    if (side == super::FIRST) | (u < places) {
         if remembered {
             forget(words, places, old, since);
         }
+        detach(words, places, at, side, u, old, free);
         return old;
     }
     free

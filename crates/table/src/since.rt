@@ -34,8 +34,8 @@ pub fn stands(since: &[u16], x: usize, k: u16) -> bool
     since[x] <= k
 }
 
-// Clears the places of the stack of removed forests that x leads to: as many as there may be, whatever the links say. The stack is taken apart by parent
-// words, which nobody reads below a removed node.
+// Clears the places of the stack of forests that x leads to: as many as there may be, whatever the links say. The stack is taken apart by parent words,
+// which nobody reads below a node that goes.
 fn clear(words: &mut [u32], places: usize, x: usize, since: &mut [u16])
     requires { ⌜ (cellSize * places ≤ length (now words)) × ((places ≤ maxNodes) × (places ≤ length (now since))) ⌝ }
     ensures { λ _. ⌜ Clears places (cells (now (words .entry))) (cells (now (words .exit))) x (now (since .entry)) (now (since .exit)) ⌝ }
@@ -52,7 +52,7 @@ fn clear(words: &mut [u32], places: usize, x: usize, since: &mut [u16])
     }
 }
 
-// Clears the place x of a removed node, and those of all below it.
+// Clears the place x of a node that goes, and those of all below it.
 pub fn forget(words: &mut [u32], places: usize, x: usize, since: &mut [u16])
     requires { ⌜ Within (now words) places x × (places ≤ length (now since)) ⌝ }
     ensures { λ _. ⌜ Clearing places (cells (now (words .entry))) (cells (now (words .exit))) x (now (since .entry)) (now (since .exit)) ⌝ }

@@ -1,44 +1,83 @@
--- The node goes; it has a parent. Assumes nothing.
-use mathlib.Core.Path.{refl}
-use borrow.Author.Tests.{not-true}
+-- The subtree is forgotten, and then the node goes; it has a parent. Assumes nothing.
+use mathlib.Core.Path.{_≡_, refl, ap, _∙_}
+use mathlib.Core.Logic.{⊎-elim}
+use mathlib.Core.Bool.{Bool, true, false, true≢false, _||_}
+use Prim.Native.Nat.{ℕ, zero, suc, _<_, _≤_}
+use native.Mathlib.Omega.{arith}
+use lib.Dec.{eqb, ltb}
+use lib.ListN.{length}
+use borrow.Author.Tests.{ne-eqb, ltb-true, ltb-false}
+use denote.Ref.{now}
+use Rattle.table.specs.Cells.{Cell, cells, sideOf, parentOn}
 use Rattle.table.proofs.Behind.{then-behind}
-use Rattle.table.proofs.Removing.{removed, pruned, never-parentless}
+use Rattle.table.proofs.Removing.{found, removed, pruned, never-parentless}
 use Rattle.table.proofs.Effects.{detached-behind}
-use Rattle.table.proofs.Forgetting.{dropped, none-kept}
+use Rattle.table.proofs.Forgetting.{Ready, all-forgotten, none-kept}
 use borrow.Author.Needs.{needs}
 use Rattle.table.proofs.shape.remove.Statement.{statement}
 use Rattle.table.proofs.shape.remove.Tie as tie
 
+-- the test of the parent's place, which on the side of the children is the cursor's
+past : (j : ℕ) {b c : Bool} → (eqb (suc j) 0 || b) ≡ c → b ≡ c
+past j e = rw (ne-eqb (suc j) 0 (λ z. omega arith)) at e
+
+inside : (side : ℕ) {n x u : ℕ} (a : Cell) → x < n → u ≡ parentOn (sideOf side) x a → (eqb side 0 || ltb u n) ≡ true → u < n
+unfolding sideOf
+inside zero a lx e t = rw e lx
+inside (suc j) {n} {u = u} a lx e t = ltb-true u n (past j t)
+
+outside : (side : ℕ) {n u : ℕ} → (eqb side 0 || ltb u n) ≡ false → n ≤ u
+outside zero t = absurd (true≢false t)
+outside (suc j) {n} {u} t = ltb-false u n (past j t)
+
+placed : (c : tie.Then1) → c .before .parent-on .result < c .before .before .before .before .before .args .places
+placed c =
+    let s = c .before .before .before .before .before in
+    inside (s .args .side) (cells (now (s .args .words)) (s .args .at)) (s .pre .0 .inside) (c .before .parent-on .ensures) (c .if1 .taken)
+
+-- where both ways meet again
+ready : (c : tie.Joined2)
+    → let a = c .before .before .before .before .before .before .args in Ready (a .remembered) (a .side) (a .places) (a .at) (a .old) (cells (now (a .words))) (cells (c .if2 .words)) (now (a .since)) (c .if2 .since)
+ready c = ⊎-elim (λ w. rw (w .8, w .9) (all-forgotten (w .3 .ensures))) (λ w. rw (w .0 .left, w .1, w .2) none-kept) (c .if2 .came)
+
+lengths : (c : tie.Joined2)
+    → let a = c .before .before .before .before .before .before .args in (length (c .if2 .words) ≡ length (now (a .words))) × (length (c .if2 .since) ≡ length (now (a .since)))
+lengths c =
+    ⊎-elim (λ w. (ap length (w .8) ∙ w .3 .kept .0, ap length (w .9) ∙ w .3 .kept .1 .1 .1 .0)) (λ w. (ap length (w .1), ap length (w .2))) (c .if2 .came)
+
+detach-requires : tie.Need-detach-requires
+detach-requires c κs =
+    let l = lengths (c .before) .0 in
+    let lu = placed (c .before .before) in
+    search needs
+
+same-length : tie.Need-same-length
+same-length c = c .before .before .detach .kept .0 ∙ lengths (c .before .before .before .before) .0
+
+same-length-2 : tie.Need-same-length-2
+same-length-2 c = lengths (c .before .before .before .before) .1
+
 returns : tie.Need-returns
 returns c =
-    let s = c .before .before .before .before .before .before .before .before .before .before .before .before .before .before .before .before .before in
-    let lu = c .before .before .before .before .before .before .before .before .before .before .before .before .if1 .taken in
-    let d = c .before .before .before .before .before .before .before .before .before .before .detach .ensures in
-    let f = c .before .before .before .before .forget .ensures in (
-      λ used t p h e. dropped h (s .args .side) (pruned h (s .args .side) (s .pre .1 .0) (s .pre .1 .1 .0) e (c .before .before .before .before .before .before .before .before .before .before .before .before .before .parent-on .ensures) lu d) f,
-      then-behind (detached-behind (s .pre .0 .inside) lu (s .pre .1 .1 .0) d) (f .behind),
+    let s = c .before .before .before .before .before .before .before .before .before .before in
+    let r = ready (c .before .before .before .before) in
+    let lu = placed (c .before .before .before .before .before) in
+    let d = c .before .before .detach .ensures in (
+      λ used t p h e.
+          let o = found h (s .args .side) (s .pre .1 .1 .0) e in
+          let f = r .done h o in
+          (removed h (s .args .side) o (pruned h (s .args .side) o (s .pre .1 .0) (c .before .before .before .before .before .before .parent-on .ensures) lu (f .0) d), f .1),
+      then-behind (r .behind) (detached-behind (s .pre .0 .inside) lu (s .pre .1 .1 .0) d),
     )
 
 returns-2 : tie.Need-returns-2
 returns-2 c =
-    let s = c .before .before .before .before .before .before .before .before .before .before in
-    let lu = c .before .before .before .before .before .if1 .taken in
-    let d = c .before .before .before .detach .ensures in (
-      λ used t p h e. (
-        removed h (s .args .side) (pruned h (s .args .side) (s .pre .1 .0) (s .pre .1 .1 .0) e (c .before .before .before .before .before .before .parent-on .ensures) lu d),
-        rw (c .if2 .left) none-kept,
-      ),
-      detached-behind (s .pre .0 .inside) lu (s .pre .1 .1 .0) d,
-    )
-
-returns-3 : tie.Need-returns-3
-returns-3 c =
     let s = c .before .before .before .before .before in (
-      λ used t p h e. absurd (never-parentless h (s .args .side) (s .pre .1 .0) (s .pre .1 .1 .0) e (c .before .parent-on .ensures) (c .if1 .left)),
+      λ used t p h e. absurd (never-parentless h (s .args .side) (s .pre .1 .1 .0) e (c .before .parent-on .ensures) (outside (s .args .side) (c .if1 .left))),
       record { same = λ _ _. refl },
     )
 
 pub remove-spec : {M : Type 1} → statement M
 remove-spec =
     tie.close
-    (tie.spec (λ c κs. search needs) (λ c κs. search needs) (λ c κs. search needs) (λ c. search needs) (λ c. search needs) returns (λ c. search needs) returns-2 (λ c. search needs) returns-3)
+    (tie.spec (λ c κs. search needs) (λ c κs. search needs) detach-requires same-length same-length-2 returns (λ c. search needs) returns-2)
