@@ -7,11 +7,10 @@ use mathlib.Core.List.{List}
 use Prim.Native.Nat.{ℕ, _%_, _<_, _≤_}
 use native.Mathlib.Omega.{arith}
 use lib.IntN.{ℤ}
-use borrow.Author.Tests.{ne-eqb}
 use Rattle.rules.specs.Level.{Level, public, join, notAbove}
-use Rattle.rules.specs.Tree.{noLabel, Forest, nil, tree, Place, root, to, up, child, sibling, leftOf, sub, label, exists, count}
+use Rattle.rules.specs.Tree.{noLabel, Forest, nil, tree, Place, root, to, up, child, sibling, sub, label, exists, count}
 use Rattle.rules.specs.Run as Run
-use Rattle.rules.specs.Run.{Result, stop, flow, absent, need, moveTo, goJoining, goTo, goToLast}
+use Rattle.rules.specs.Run.{Result, stop, flow, absent, need, moveTo, goJoining, goTo}
 use Rattle.rules.proofs.Tests.{Test, holds, fails, test}
 use Rattle.table.specs.Cells.{Table, cell, cells, gone}
 use Rattle.table.specs.Holds.{node, empty, end, hit, Holds}
@@ -22,7 +21,7 @@ use Rattle.actions.specs.declared.control.Running.{Running}
 use Rattle.actions.specs.declared.control.Stepped.{Stepped}
 use Rattle.actions.specs.Shows.{Slices, slices, Shows, levelIn}
 use Rattle.actions.specs.Stands.{stepped}
-use Rattle.actions.specs.Acts.{Does, Acts, withCursor, movedTo, moveOf, backwardOf, Target}
+use Rattle.actions.specs.Acts.{Does, Acts, withCursor, movedTo, moveOf, Target}
 use Rattle.actions.proofs.Doing.{flow-number, absent-number, does-next, passes, refuses, does-as, kept-refl, goes, stays, stops}
 
 -- in a memory that is shown, the action is a move to the node at a place of the table, with a level
@@ -152,11 +151,3 @@ module _ {places vars : ℕ} {x x′ : Slices} {r : Running} {a : Stepped} (pc :
   pub is-sibling : k ≡ 10 → Acts places vars x x′ r a (λ μ. goTo pc μ (some (to sibling (μ .cursor)))) → Acts places vars x x′ r a (λ μ. moveOf k pc μ)
   unfolding moveOf
   is-sibling e h = rw e h
-
-  pub is-left : k ≡ 18 → Acts places vars x x′ r a (λ μ. goTo pc μ (leftOf (μ .cursor))) → Acts places vars x x′ r a (λ μ. backwardOf k pc μ)
-  unfolding backwardOf
-  is-left e h = rw e h
-
-  pub is-last : (k ≡ 18 → ⊥) → Acts places vars x x′ r a (λ μ. goToLast pc μ) → Acts places vars x x′ r a (λ μ. backwardOf k pc μ)
-  unfolding backwardOf
-  is-last n h = rw (ne-eqb k 18 n) h

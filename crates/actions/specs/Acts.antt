@@ -10,11 +10,11 @@ use Rattle.rules.specs.Number.{Fits, fitting}
 use Rattle.rules.specs.Answers.{valueOf}
 use Rattle.rules.specs.declared.numbers.Number.{Number}
 use Rattle.rules.specs.Level.{notAbove}
-use Rattle.rules.specs.Tree.{Forest, Place, root, to, up, leftOf, sub, label, child, sibling, afterInsert, afterRemove}
+use Rattle.rules.specs.Tree.{Forest, Place, root, to, up, sub, label, child, sibling, afterInsert, afterRemove}
 use Rattle.rules.specs.Script.{Operand, Expression}
 use Rattle.rules.specs.Run as Run
 use Rattle.rules.specs.Job.{expression}
-use Rattle.rules.specs.Run.{State, Result, next, onBlock, onward, stop, stopNumber, operandValue, operandLevel, value, levelOf, position, mayTouch, moveTo, goTo, goToLast}
+use Rattle.rules.specs.Run.{State, Result, next, onBlock, onward, stop, stopNumber, operandValue, operandLevel, value, levelOf, position, mayTouch, moveTo, goTo}
 use Rattle.table.specs.Cells.{cells, sideOf}
 use Rattle.table.specs.Holds.{Holds}
 use Rattle.table.specs.Promises.{Leads, Behind}
@@ -111,10 +111,6 @@ moveOf k pc μ =
     cond (lib.Dec.eqb k 7) (moveTo pc μ root pc)
     (cond (lib.Dec.eqb k 8) (goTo pc μ (up (μ .cursor)))
     (cond (lib.Dec.eqb k 9) (goTo pc μ (some (to child (μ .cursor)))) (goTo pc μ (some (to sibling (μ .cursor))))))
-
--- 18 left sibling, 19 last child
-unfoldable pub backwardOf : ℕ → ℕ → Run.Memory → Result Run.Memory
-backwardOf k pc μ = cond (lib.Dec.eqb k 18) (goTo pc μ (leftOf (μ .cursor))) (goToLast pc μ)
 
 -- a place of the table where a move from the cursor leads
 pub record Target (words : List ℕ) (places : ℕ) (m : Memory) (place : ℕ) (o : Forest → Place → Option Place) : Type 0 where

@@ -17,13 +17,13 @@ ghost use mathlib.Core.List.{List};
 ghost use mathlib.Core.Option.{Option};
 ghost use Prim.Native.Nat.{ℕ, _≤_, _<_};
 ghost use lib.IntN.{ℤ};
-ghost use Rattle.rules.specs.Tree.{Forest, Place};
+ghost use Rattle.rules.specs.Tree.{Forest, Place, leftOf};
 ghost use Rattle.rules.specs.Level.{secret};
 ghost use Rattle.rules.specs.Run.{moveTo, goTo, goToLast};
 ghost use Rattle.table.specs.Cells.{Within};
 ghost use Rattle.actions.specs.Shows.{slices};
 ghost use Rattle.actions.specs.Stands.{Timely};
-ghost use Rattle.actions.specs.Acts.{movedTo, Acts, Target, moveOf, backwardOf};
+ghost use Rattle.actions.specs.Acts.{movedTo, Acts, Target, moveOf};
 
 // The cursor at another place or level, where the context is not above its level.
 fn move_to(pc: u8, r: Running, place: usize, level: u8) -> Stepped
@@ -94,8 +94,23 @@ pub fn go(command: u8, words: &[u32], places: usize, pc: u8, r: Running) -> Step
     }
 }
 
+// Command 18: to the left sibling.
+pub fn go_left(words: &[u32], places: usize, pc: u8, r: Running) -> Stepped
+    requires { ⌜ Timely r × Within (now words) places (r .memory .cursor) ⌝ }
+    ensures { λ a. ⌜ ((l : List ℕ) (v : List ℤ) (b : List ℕ) (vars : ℕ)
+        → Acts places vars (slices (now (words .entry)) l v b) (slices (now (words .entry)) l v b) r a (λ μ. goTo pc μ (leftOf (μ .cursor)))) ⌝ }
+{
+    go_to(
+        words,
+        places,
+        pc,
+        r,
+        walk::left(words, places, r.memory.cursor),
+    )
+}
+
 // Command 19: to the last child, with the level of the list that it ends.
-fn go_last(words: &[u32], places: usize, pc: u8, r: Running) -> Stepped
+pub fn go_last(words: &[u32], places: usize, pc: u8, r: Running) -> Stepped
     requires { ⌜ Timely r × Within (now words) places (r .memory .cursor) ⌝ }
     ensures { λ a. ⌜ ((l : List ℕ) (v : List ℤ) (b : List ℕ) (vars : ℕ)
         → Acts places vars (slices (now (words .entry)) l v b) (slices (now (words .entry)) l v b) r a (λ μ. goToLast pc μ)) ⌝ }
@@ -111,17 +126,4 @@ fn go_last(words: &[u32], places: usize, pc: u8, r: Running) -> Stepped
         place,
         join(level_of(m), node::structure(words, places, m.cursor)),
     )
-}
-
-// Commands 18 and 19, a walk from right to left: left sibling, last child.
-pub fn go_backward(command: u8, words: &[u32], places: usize, pc: u8, r: Running) -> Stepped
-    requires { ⌜ Timely r × Within (now words) places (r .memory .cursor) ⌝ }
-    ensures { λ a. ⌜ ((l : List ℕ) (v : List ℤ) (b : List ℕ) (vars : ℕ)
-        → Acts places vars (slices (now (words .entry)) l v b) (slices (now (words .entry)) l v b) r a (λ μ. backwardOf command pc μ)) ⌝ }
-{
-    let at = r.memory.cursor;
-    match command {
-        18 => go_to(words, places, pc, r, walk::left(words, places, at)),
-        _ => go_last(words, places, pc, r),
-    }
 }

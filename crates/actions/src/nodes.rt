@@ -125,8 +125,8 @@ pub fn insert_on(
     onward(r, next)
 }
 
-// The first node on a side goes, with its subtree.
-fn remove_on(
+// Commands 13 and 14: the first node on a side goes, with its subtree.
+pub fn remove(
     side: usize,
     words: &mut [u32],
     places: usize,
@@ -159,25 +159,6 @@ fn remove_on(
         remembered,
     );
     onward(r, next)
-}
-
-// Commands 13 and 14, by the side. In each call the side is a constant: there is code for each side, which asks for none.
-pub fn remove(
-    side: usize,
-    words: &mut [u32],
-    places: usize,
-    pc: u8,
-    r: Running,
-    marks: &mut [u16],
-) -> Stepped
-    requires { ⌜ Timely r × (Within (now words) places (r .memory .cursor) × ((side < 2) × (marksSize ≤ length (now marks)))) ⌝ }
-    ensures { λ a. ⌜ ((l : List ℕ) (v : List ℤ) (b : List ℕ) (vars : ℕ) → Acting (closedUp side) (Becomes (now (marks .entry)) (now (marks .exit))) places vars
-        (slices (now (words .entry)) l v b) (slices (now (words .exit)) l v b) r a (λ μ. Run.removeAt pc μ (to (sideOf side) (μ .cursor)))) ⌝ }
-{
-    if side == table::FIRST {
-        return remove_on(table::FIRST, words, places, pc, r, marks);
-    }
-    remove_on(table::RIGHT, words, places, pc, r, marks)
 }
 
 // Command 15: the value of the cursor's node becomes the expression, whose value and level are e.
