@@ -82,9 +82,9 @@ fn secret_if(t: bool) -> u8
 
 // Commands 11 and 12: a new node on a side, in front of what stands there, with the expression whose value and level are e.
 pub fn insert_on(
-    side: usize,
-    mark: u8,
     e: Valued,
+    mark: u8,
+    side: usize,
     words: &mut [u32],
     places: usize,
     pc: u8,

@@ -32,8 +32,8 @@ fn index(x: u8) -> usize
 
 // Command 1: the target becomes the expression, whose value and level are e.
 pub fn assign(
-    target: u8,
     e: Valued,
+    target: u8,
     levels: &[u8],
     values: &mut [i32],
     pc: u8,

@@ -13,7 +13,7 @@ use lib.Dec.{eqb, ltb}
 use borrow.Author.Tests.{eq-eqb, eqb-true, ltb-true, ltb-false}
 use Rattle.rules.specs.Limits.{maxDepth, maxNodes, maxRecords, recordSize, commandCount}
 use Rattle.rules.specs.Level.{secret}
-use Rattle.rules.specs.Tree.{Place, child, sibling, root, to, up}
+use Rattle.rules.specs.Tree.{Place, child, sibling, root, to, up, leftOf}
 use Rattle.rules.specs.Bytes.{byte, recordPlace}
 use Rattle.rules.specs.Blocks.{branches, opens, closes, goesTo, nest}
 use Rattle.rules.specs.Check.{recordRule}
@@ -40,7 +40,7 @@ use Rattle.actions.specs.declared.control.Stepped.{Stepped}
 use Rattle.actions.specs.Guards.{Holds}
 use Rattle.actions.specs.Board.{capacity}
 use Rattle.actions.specs.Shows.{Slices, Reads, Readable}
-use Rattle.actions.specs.Acts.{Does, Kept, shifted, closedUp, Same, Becomes, Acting, Acts, Evaluates, moveOf, backwardOf}
+use Rattle.actions.specs.Acts.{Does, Kept, shifted, closedUp, Same, Becomes, Acting, Acts, Evaluates, moveOf}
 use Rattle.actions.specs.Stands.{Stands, Timely, stepped as answered, ended}
 use Rattle.actions.specs.Control.{Keeps, Jumps, Leaves, Enters, Stays, Saves, Restores}
 use Rattle.monitor.specs.Steps.{Held, scriptIn, fieldsAt, Script, Safe, Lent, Steps, Carries}
@@ -329,16 +329,15 @@ module _ (h : Held) (sc : Script h) where
               pick (third e) = by-number k 9 (Action.go child) _ e refl (λ lent μ l. rw e) refl refl acts
               pick (fourth e) = by-number k 10 (Action.go sibling) _ e refl (λ lent μ l. rw e) refl refl acts
 
-          -- 18 and 19
-          pub goes-backward : 18 ≤ c → c < commandCount
-              → Acts (h .places) (h .vars) x x′ r a (λ μ. backwardOf c pc μ) → Steps h x x′ k k r a
-          unfolding commands effect relocate backwardOf
-          goes-backward l m acts = pick (c - 18) refl
-            where
-              pick : (d : ℕ) → c - 18 ≡ d → Steps h x x′ k k r a
-              pick zero e = let i : c ≡ 18 = omega arith in by-number k 18 Action.goLeft _ i refl (λ lent μ l. rw i) refl refl acts
-              pick (suc zero) e = let i : c ≡ 19 = omega arith in by-number k 19 Action.goLast _ i refl (λ lent μ l. rw i) refl refl acts
-              pick (suc (suc d)) e = absurd (omega arith)
+          pub goes-left : c ≡ 18
+              → Acts (h .places) (h .vars) x x′ r a (λ μ. Run.goTo pc μ (leftOf (μ .cursor))) → Steps h x x′ k k r a
+          unfolding commands effect relocate
+          goes-left key = by-number k 18 Action.goLeft _ key refl (λ lent μ l. refl) refl refl
+
+          pub goes-last : c ≡ 19
+              → Acts (h .places) (h .vars) x x′ r a (λ μ. Run.goToLast pc μ) → Steps h x x′ k k r a
+          unfolding commands effect relocate
+          goes-last key = by-number k 19 Action.goLast _ key refl (λ lent μ l. refl) refl refl
 
           -- 11 and 12
           pub inserts : (m side : ℕ) → m ≡ f .target → c ≡ side + 11 → side < 2
@@ -368,8 +367,8 @@ pub from-seven : (k : ℕ) → (k ≡ 0 → ⊥) → (k ≡ 1 → ⊥) → (k �
 from-seven k a b c d e f g =
     above 6 k (above 5 k (above 4 k (above 3 k (above 2 k (above 1 k (above 0 k (omega arith) a) b) c) d) e) f) g
 
-pub from-eighteen : (k : ℕ) → 15 ≤ k → (k ≡ 15 → ⊥) → (k ≡ 16 → ⊥) → (k ≡ 17 → ⊥) → 18 ≤ k
-from-eighteen k l a b c = above 17 k (above 16 k (above 15 k l a) b) c
+pub from-twenty : (k : ℕ) → 15 ≤ k → (k ≡ 15 → ⊥) → (k ≡ 16 → ⊥) → (k ≡ 17 → ⊥) → (k ≡ 18 → ⊥) → (k ≡ 19 → ⊥) → 20 ≤ k
+from-twenty k l a b c d e = above 19 k (above 18 k (above 17 k (above 16 k (above 15 k l a) b) c) d) e
 
 -- 11 and 12 have an expression
 pub insert-row : (k : ℕ) → 11 ≤ k → k < 13 → rowOf k .expression ≡ true

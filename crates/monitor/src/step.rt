@@ -83,7 +83,6 @@ pub fn carry_out(
     match command {
         0 => onward(r, m),
         1 => variables::assign(
-            target(job, base, at),
             evaluate(
                 fields_at(job, base, at),
                 levels,
@@ -93,6 +92,7 @@ pub fn carry_out(
                 places,
                 m,
             ),
+            target(job, base, at),
             levels,
             values,
             pc,
@@ -142,8 +142,6 @@ pub fn carry_out(
         ),
         7..=10 => moves::go(command, words, places, pc, r),
         11..=12 => nodes::insert_on(
-            side(command, 11),
-            target(job, base, at),
             evaluate(
                 fields_at(job, base, at),
                 levels,
@@ -153,6 +151,8 @@ pub fn carry_out(
                 places,
                 m,
             ),
+            target(job, base, at),
+            side(command, 11),
             words,
             places,
             pc,
@@ -190,7 +190,8 @@ pub fn carry_out(
             places,
             marks,
         ),
-        18..=19 => moves::go_backward(command, words, places, pc, r),
+        18 => moves::go_left(words, places, pc, r),
+        19 => moves::go_last(words, places, pc, r),
         END_BACK => come_back(r, next(word), places, marks),
         _ => halt(r, FINISHED),
     }

@@ -4,7 +4,7 @@ use Prim.Native.Nat.{ℕ}
 use native.Mathlib.Omega.{arith}
 use Rattle.rules.specs.Script.{rows, rowOf}
 use Rattle.actions.proofs.Doing.{passes-on}
-use Rattle.monitor.proofs.Commands.{timely, at-cursor, record-there, known-by, outside-by, plain-end, known-back, inner-back, goal-by, as-step, as-end, expressed, evaluated, target-by, insert-row, from-seven, from-eighteen, skips, assigns, ifs, elses, whiles, ends, backs, comes-back, outputs, goes, goes-backward, inserts, removes, writes, raises}
+use Rattle.monitor.proofs.Commands.{timely, at-cursor, record-there, known-by, outside-by, plain-end, known-back, inner-back, goal-by, as-step, as-end, expressed, evaluated, target-by, insert-row, from-seven, from-twenty, skips, assigns, ifs, elses, whiles, ends, backs, comes-back, outputs, goes, goes-left, goes-last, inserts, removes, writes, raises}
 use borrow.Author.Needs.{needs}
 use Rattle.monitor.proofs.step.carry_out.Statement.{statement}
 use Rattle.monitor.proofs.step.carry_out.Tie as tie
@@ -20,31 +20,31 @@ onward-requires c κs =
     let i = known-by _ (p .0) _ _ _ (p .1 .0) _ (c .before .code .ensures) (omega (arith, c .match .keys1)) in
     timely _ (p .0) _ _ _ (p .1 .0) (i .inside) (p .1 .1)
 
-target-requires : tie.Need-target-requires
-target-requires c κs =
-    let p = c .before .before .before .before .before .before .before .before .before .before .before .pre in
-    let i = known-by _ (p .0) _ _ _ (p .1 .0) _ (c .before .code .ensures) (omega (arith, c .match .keys2)) in
-    record-there _ (p .0) _ _ _ (p .1 .0) (i .inside)
-
 fields-at-requires : tie.Need-fields-at-requires
 fields-at-requires c κs =
-    let p = c .before .before .before .before .before .before .before .before .before .before .before .before .pre in
-    let i = known-by _ (p .0) _ _ _ (p .1 .0) _ (c .before .before .code .ensures) (omega (arith, c .before .match .keys2)) in
+    let p = c .before .before .before .before .before .before .before .before .before .before .before .pre in
+    let i = known-by _ (p .0) _ _ _ (p .1 .0) _ (c .before .code .ensures) (omega (arith, c .match .keys2)) in
     record-there _ (p .0) _ _ _ (p .1 .0) (i .inside)
 
 evaluate-requires : tie.Need-evaluate-requires
 unfolding rows
 evaluate-requires c κs =
+    let p = c .before .before .before .before .before .before .before .before .before .before .before .before .before .before .pre in
+    let i = known-by _ (p .0) _ _ _ (p .1 .0) _ (c .before .before .before .before .code .ensures) (omega (arith, c .before .before .before .match .keys2)) in
+    expressed _ (p .0) _ _ _ (p .1 .0) (i .inside) _ (i .coded) _ (c .before .before .fields-at .ensures) (ap (λ (n : ℕ). rowOf n .expression) (c .before .before .before .match .keys2))
+
+target-requires : tie.Need-target-requires
+target-requires c κs =
     let p = c .before .before .before .before .before .before .before .before .before .before .before .before .before .before .before .pre in
     let i = known-by _ (p .0) _ _ _ (p .1 .0) _ (c .before .before .before .before .before .code .ensures) (omega (arith, c .before .before .before .before .match .keys2)) in
-    expressed _ (p .0) _ _ _ (p .1 .0) (i .inside) _ (i .coded) _ (c .before .before .fields-at .ensures) (ap (λ (n : ℕ). rowOf n .expression) (c .before .before .before .before .match .keys2))
+    record-there _ (p .0) _ _ _ (p .1 .0) (i .inside)
 
 assign-requires : tie.Need-assign-requires
 assign-requires c κs =
     let p = c .before .before .before .before .before .before .before .before .before .before .before .before .before .before .before .before .before .pre in
     let i = known-by _ (p .0) _ _ _ (p .1 .0) _ (c .before .before .before .before .before .before .before .code .ensures) (omega (arith, c .before .before .before .before .before .before .match .keys2)) in
     let l = target-by _ (p .0) _ _ _ (p .1 .0) (i .inside) _ (i .coded) (c .before .before .before .before .before .before .match .keys2) in
-    (timely _ (p .0) _ _ _ (p .1 .0) (i .inside) (p .1 .1), (omega (arith, l, c .before .before .before .before .before .target .ensures, p .1 .0 .levelled), omega (arith, l, c .before .before .before .before .before .target .ensures, p .1 .0 .valued)))
+    (timely _ (p .0) _ _ _ (p .1 .0) (i .inside) (p .1 .1), (omega (arith, l, c .before .target .ensures, p .1 .0 .levelled), omega (arith, l, c .before .target .ensures, p .1 .0 .valued)))
 
 fields-at-requires-2 : tie.Need-fields-at-requires-2
 fields-at-requires-2 c κs =
@@ -159,10 +159,22 @@ enter-back-requires c κs =
     let i = known-by _ (p .0) _ _ _ (p .1 .0) _ (c .before .before .before .before .before .before .before .code .ensures) (omega (arith, c .before .before .before .before .before .before .match .keys10)) in
     (timely _ (p .0) _ _ _ (p .1 .0) (i .inside) (p .1 .1), (p .1 .0 .marks, (p .1 .0 .cursor, p .1 .0 .few)))
 
+go-left-requires : tie.Need-go-left-requires
+go-left-requires c κs =
+    let p = c .before .before .before .before .before .before .before .before .before .before .before .before .pre in
+    let i = known-by _ (p .0) _ _ _ (p .1 .0) _ (c .before .before .code .ensures) (omega (arith, c .before .match .keys11)) in
+    (timely _ (p .0) _ _ _ (p .1 .0) (i .inside) (p .1 .1), at-cursor _ (p .0) _ _ _ (p .1 .0) (i .inside))
+
+go-last-requires : tie.Need-go-last-requires
+go-last-requires c κs =
+    let p = c .before .before .before .before .before .before .before .before .before .before .before .before .pre in
+    let i = known-by _ (p .0) _ _ _ (p .1 .0) _ (c .before .before .code .ensures) (omega (arith, c .before .match .keys12)) in
+    (timely _ (p .0) _ _ _ (p .1 .0) (i .inside) (p .1 .1), at-cursor _ (p .0) _ _ _ (p .1 .0) (i .inside))
+
 come-back-requires : tie.Need-come-back-requires
 come-back-requires c κs =
     let p = c .before .before .before .before .before .before .before .before .before .before .before .before .before .pre in
-    let i = known-back _ (p .0) _ _ _ (p .1 .0) _ (c .before .before .before .code .ensures) (c .before .before .match .keys11) in
+    let i = known-back _ (p .0) _ _ _ (p .1 .0) _ (c .before .before .before .code .ensures) (c .before .before .match .keys13) in
     (timely _ (p .0) _ _ _ (p .1 .0) (i .inside) (p .1 .1), (p .1 .0 .marks, p .1 .0 .few))
 
 go-requires : tie.Need-go-requires
@@ -170,43 +182,37 @@ go-requires c κs =
     let p = c .before .before .before .before .before .before .before .before .before .before .before .before .before .pre in
     let i = known-by _ (p .0) _ _ _ (p .1 .0) _ (c .before .before .before .code .ensures) (omega (arith, c .before .if1 .taken)) in
     let m = c .before .before .match .rest in
-    (timely _ (p .0) _ _ _ (p .1 .0) (i .inside) (p .1 .1), (at-cursor _ (p .0) _ _ _ (p .1 .0) (i .inside), (from-seven _ (m .0 .0 .0 .0 .0 .0 .0 .0 .0 .0 .1) (m .0 .0 .0 .0 .0 .0 .0 .0 .0 .1) (m .0 .0 .0 .0 .0 .0 .0 .0 .1) (m .0 .0 .0 .0 .0 .0 .0 .1) (m .0 .0 .0 .0 .0 .0 .1) (m .0 .0 .0 .0 .0 .1) (m .0 .0 .0 .0 .1), omega (arith, c .before .if1 .taken))))
-
-target-requires-2 : tie.Need-target-requires-2
-target-requires-2 c κs =
-    let p = c .before .before .before .before .before .before .before .before .before .before .before .before .before .before .pre in
-    let i = known-by _ (p .0) _ _ _ (p .1 .0) _ (c .before .before .before .before .code .ensures) (omega (arith, c .before .if2 .taken)) in
-    record-there _ (p .0) _ _ _ (p .1 .0) (i .inside)
+    (timely _ (p .0) _ _ _ (p .1 .0) (i .inside) (p .1 .1), (at-cursor _ (p .0) _ _ _ (p .1 .0) (i .inside), (from-seven _ (m .0 .0 .0 .0 .0 .0 .0 .0 .0 .0 .0 .0 .1) (m .0 .0 .0 .0 .0 .0 .0 .0 .0 .0 .0 .1) (m .0 .0 .0 .0 .0 .0 .0 .0 .0 .0 .1) (m .0 .0 .0 .0 .0 .0 .0 .0 .0 .1) (m .0 .0 .0 .0 .0 .0 .0 .0 .1) (m .0 .0 .0 .0 .0 .0 .0 .1) (m .0 .0 .0 .0 .0 .0 .1), omega (arith, c .before .if1 .taken))))
 
 fields-at-requires-7 : tie.Need-fields-at-requires-7
 fields-at-requires-7 c κs =
-    let p = c .before .before .before .before .before .before .before .before .before .before .before .before .before .before .before .pre in
-    let i = known-by _ (p .0) _ _ _ (p .1 .0) _ (c .before .before .before .before .before .code .ensures) (omega (arith, c .before .before .if2 .taken)) in
+    let p = c .before .before .before .before .before .before .before .before .before .before .before .before .before .pre in
+    let i = known-by _ (p .0) _ _ _ (p .1 .0) _ (c .before .before .before .code .ensures) (omega (arith, c .if2 .taken)) in
     record-there _ (p .0) _ _ _ (p .1 .0) (i .inside)
 
 evaluate-requires-7 : tie.Need-evaluate-requires-7
 evaluate-requires-7 c κs =
-    let p = c .before .before .before .before .before .before .before .before .before .before .before .before .before .before .before .before .before .before .pre in
-    let i = known-by _ (p .0) _ _ _ (p .1 .0) _ (c .before .before .before .before .before .before .before .before .code .ensures) (omega (arith, c .before .before .before .before .before .if2 .taken)) in
-    expressed _ (p .0) _ _ _ (p .1 .0) (i .inside) _ (i .coded) _ (c .before .before .fields-at7 .ensures) (insert-row _ (c .before .before .before .before .before .before .if1 .left) (c .before .before .before .before .before .if2 .taken))
+    let p = c .before .before .before .before .before .before .before .before .before .before .before .before .before .before .before .before .pre in
+    let i = known-by _ (p .0) _ _ _ (p .1 .0) _ (c .before .before .before .before .before .before .code .ensures) (omega (arith, c .before .before .before .if2 .taken)) in
+    expressed _ (p .0) _ _ _ (p .1 .0) (i .inside) _ (i .coded) _ (c .before .before .fields-at7 .ensures) (insert-row _ (c .before .before .before .before .if1 .left) (c .before .before .before .if2 .taken))
+
+target-requires-2 : tie.Need-target-requires-2
+target-requires-2 c κs =
+    let p = c .before .before .before .before .before .before .before .before .before .before .before .before .before .before .before .before .before .pre in
+    let i = known-by _ (p .0) _ _ _ (p .1 .0) _ (c .before .before .before .before .before .before .before .code .ensures) (omega (arith, c .before .before .before .before .if2 .taken)) in
+    record-there _ (p .0) _ _ _ (p .1 .0) (i .inside)
 
 insert-on-requires : tie.Need-insert-on-requires
 insert-on-requires c κs =
     let p = c .before .before .before .before .before .before .before .before .before .before .before .before .before .before .before .before .before .before .before .before .pre in
     let i = known-by _ (p .0) _ _ _ (p .1 .0) _ (c .before .before .before .before .before .before .before .before .before .before .code .ensures) (omega (arith, c .before .before .before .before .before .before .before .if2 .taken)) in
-    (timely _ (p .0) _ _ _ (p .1 .0) (i .inside) (p .1 .1), (at-cursor _ (p .0) _ _ _ (p .1 .0) (i .inside), omega (arith, c .before .before .before .before .before .before .side .ensures, c .before .before .before .before .before .before .before .before .if1 .left, c .before .before .before .before .before .before .before .if2 .taken)))
+    (timely _ (p .0) _ _ _ (p .1 .0) (i .inside) (p .1 .1), (at-cursor _ (p .0) _ _ _ (p .1 .0) (i .inside), omega (arith, c .before .side .ensures, c .before .before .before .before .before .before .before .before .if1 .left, c .before .before .before .before .before .before .before .if2 .taken)))
 
 remove-requires : tie.Need-remove-requires
 remove-requires c κs =
     let p = c .before .before .before .before .before .before .before .before .before .before .before .before .before .before .before .before .before .pre in
     let i = known-by _ (p .0) _ _ _ (p .1 .0) _ (c .before .before .before .before .before .before .before .code .ensures) (omega (arith, c .before .before .before .if3 .taken)) in
     (timely _ (p .0) _ _ _ (p .1 .0) (i .inside) (p .1 .1), (at-cursor _ (p .0) _ _ _ (p .1 .0) (i .inside), (omega (arith, c .before .before .side2 .ensures, c .before .before .before .before .if2 .left, c .before .before .before .if3 .taken), p .1 .0 .marks)))
-
-go-backward-requires : tie.Need-go-backward-requires
-go-backward-requires c κs =
-    let p = c .before .before .before .before .before .before .before .before .before .before .before .before .before .before .before .before .pre in
-    let i = known-by _ (p .0) _ _ _ (p .1 .0) _ (c .before .before .before .before .before .before .code .ensures) (c .before .if4 .taken) in
-    (timely _ (p .0) _ _ _ (p .1 .0) (i .inside) (p .1 .1), at-cursor _ (p .0) _ _ _ (p .1 .0) (i .inside))
 
 returns : tie.Need-returns
 returns c =
@@ -221,8 +227,8 @@ returns-2 c =
     let i = known-by _ (p .0) _ _ _ (p .1 .0) _ (c .before .before .before .before .before .before .before .before .before .code .ensures) (omega (arith, c .before .before .before .before .before .before .before .before .match .keys2)) in
     let k = i .coded in
     let l = target-by _ (p .0) _ _ _ (p .1 .0) (i .inside) _ k (c .before .before .before .before .before .before .before .before .match .keys2) in
-    as-step _ _ _ _ _ _ _ (i .inside) (assigns _ (p .0) _ _ _ (p .1 .0) (i .inside) _ k _ refl _ _ _ (c .before .before .before .before .before .before .before .before .before .before .before .top .ensures) (record { words = refl; levels = refl; values = c .values .given; board = refl }) _ (c .before .before .before .before .before .before .before .target .ensures) (c .before .before .before .before .before .before .before .before .match .keys2)
-    (c .before .assign .ensures _ _ _ _ _ (p .1 .0 .cursor) (omega (arith, l, c .before .before .before .before .before .before .before .target .ensures)) (p .1 .0 .valued) (evaluated _ (p .0) _ _ _ (p .1 .0) (i .inside) _ (i .coded) _ (c .before .before .before .before .before .before .fields-at .ensures) (c .before .before .before .evaluate .ensures))))
+    as-step _ _ _ _ _ _ _ (i .inside) (assigns _ (p .0) _ _ _ (p .1 .0) (i .inside) _ k _ refl _ _ _ (c .before .before .before .before .before .before .before .before .before .before .before .top .ensures) (record { words = refl; levels = refl; values = c .values .given; board = refl }) _ (c .before .before .before .target .ensures) (c .before .before .before .before .before .before .before .before .match .keys2)
+    (c .before .assign .ensures _ _ _ _ _ (p .1 .0 .cursor) (omega (arith, l, c .before .before .before .target .ensures)) (p .1 .0 .valued) (evaluated _ (p .0) _ _ _ (p .1 .0) (i .inside) _ (i .coded) _ (c .before .before .before .before .before .before .before .fields-at .ensures) (c .before .before .before .before .evaluate .ensures))))
 
 returns-3 : tie.Need-returns-3
 returns-3 c =
@@ -277,45 +283,50 @@ returns-10 c =
 
 returns-11 : tie.Need-returns-11
 returns-11 c =
-    let p = c .before .before .before .before .before .before .before .before .before .before .before .before .before .before .before .before .pre in
-    let i = known-back _ (p .0) _ _ _ (p .1 .0) _ (c .before .before .before .before .before .before .code .ensures) (c .before .before .before .before .before .match .keys11) in
-    as-step _ _ _ _ _ _ _ (i .inside) (comes-back _ (p .0) _ _ _ (p .1 .0) (i .inside) _ (i .coded) _ (goal-by _ (p .0) _ _ _ (p .1 .0) _ (c .before .before .before .before .before .before .code .ensures) (i .inside) _ (c .before .before .before .before .next6 .ensures)) _ _ refl
-    (inner-back _ (p .0) _ _ _ (p .1 .0) _ (c .before .before .before .before .before .before .code .ensures) (c .before .before .before .before .before .match .keys11)) (c .before .before .come-back .ensures))
+    let p = c .before .before .before .before .before .before .before .before .before .before .before .before .before .pre in
+    let i = known-by _ (p .0) _ _ _ (p .1 .0) _ (c .before .before .before .code .ensures) (omega (arith, c .before .before .match .keys11)) in
+    as-step _ _ _ _ _ _ _ (i .inside) (goes-left _ (p .0) _ _ _ (p .1 .0) (i .inside) _ (i .coded) _ refl _ _ _ (c .before .before .before .before .before .top .ensures) (record { words = refl; levels = refl; values = refl; board = refl }) (c .before .before .match .keys11) (c .go-left .ensures _ _ _ _))
 
 returns-12 : tie.Need-returns-12
 returns-12 c =
+    let p = c .before .before .before .before .before .before .before .before .before .before .before .before .before .pre in
+    let i = known-by _ (p .0) _ _ _ (p .1 .0) _ (c .before .before .before .code .ensures) (omega (arith, c .before .before .match .keys12)) in
+    as-step _ _ _ _ _ _ _ (i .inside) (goes-last _ (p .0) _ _ _ (p .1 .0) (i .inside) _ (i .coded) _ refl _ _ _ (c .before .before .before .before .before .top .ensures) (record { words = refl; levels = refl; values = refl; board = refl }) (c .before .before .match .keys12) (c .go-last .ensures _ _ _ _))
+
+returns-13 : tie.Need-returns-13
+returns-13 c =
+    let p = c .before .before .before .before .before .before .before .before .before .before .before .before .before .before .before .before .pre in
+    let i = known-back _ (p .0) _ _ _ (p .1 .0) _ (c .before .before .before .before .before .before .code .ensures) (c .before .before .before .before .before .match .keys13) in
+    as-step _ _ _ _ _ _ _ (i .inside) (comes-back _ (p .0) _ _ _ (p .1 .0) (i .inside) _ (i .coded) _ (goal-by _ (p .0) _ _ _ (p .1 .0) _ (c .before .before .before .before .before .before .code .ensures) (i .inside) _ (c .before .before .before .before .next6 .ensures)) _ _ refl
+    (inner-back _ (p .0) _ _ _ (p .1 .0) _ (c .before .before .before .before .before .before .code .ensures) (c .before .before .before .before .before .match .keys13)) (c .before .before .come-back .ensures))
+
+returns-14 : tie.Need-returns-14
+returns-14 c =
     let p = c .before .before .before .before .before .before .before .before .before .before .before .before .before .before .pre in
     let i = known-by _ (p .0) _ _ _ (p .1 .0) _ (c .before .before .before .before .code .ensures) (omega (arith, c .before .before .if1 .taken)) in
     let m = c .before .before .before .match .rest in
     as-step _ _ _ _ _ _ _ (i .inside) (goes _ (p .0) _ _ _ (p .1 .0) (i .inside) _ (i .coded) _ refl _ _ _ (c .before .before .before .before .before .before .top .ensures) (record { words = refl; levels = refl; values = refl; board = refl })
-    (from-seven _ (m .0 .0 .0 .0 .0 .0 .0 .0 .0 .0 .1) (m .0 .0 .0 .0 .0 .0 .0 .0 .0 .1) (m .0 .0 .0 .0 .0 .0 .0 .0 .1) (m .0 .0 .0 .0 .0 .0 .0 .1) (m .0 .0 .0 .0 .0 .0 .1) (m .0 .0 .0 .0 .0 .1) (m .0 .0 .0 .0 .1)) (omega (arith, c .before .before .if1 .taken)) (c .go .ensures _ _ _ _))
+    (from-seven _ (m .0 .0 .0 .0 .0 .0 .0 .0 .0 .0 .0 .0 .1) (m .0 .0 .0 .0 .0 .0 .0 .0 .0 .0 .0 .1) (m .0 .0 .0 .0 .0 .0 .0 .0 .0 .0 .1) (m .0 .0 .0 .0 .0 .0 .0 .0 .0 .1) (m .0 .0 .0 .0 .0 .0 .0 .0 .1) (m .0 .0 .0 .0 .0 .0 .0 .1) (m .0 .0 .0 .0 .0 .0 .1)) (omega (arith, c .before .before .if1 .taken)) (c .go .ensures _ _ _ _))
 
-returns-13 : tie.Need-returns-13
-returns-13 c =
+returns-15 : tie.Need-returns-15
+returns-15 c =
     let p = c .before .before .before .before .before .before .before .before .before .before .before .before .before .before .before .before .before .before .before .before .before .before .before .pre in
     let i = known-by _ (p .0) _ _ _ (p .1 .0) _ (c .before .before .before .before .before .before .before .before .before .before .before .before .before .code .ensures) (omega (arith, c .before .before .before .before .before .before .before .before .before .before .if2 .taken)) in
-    as-step _ _ _ _ _ _ _ (i .inside) (inserts _ (p .0) _ _ _ (p .1 .0) (i .inside) _ (i .coded) _ refl _ _ _ (c .before .before .before .before .before .before .before .before .before .before .before .before .before .before .before .top .ensures) (record { words = c .before .words2 .given; levels = refl; values = refl; board = refl }) _ _ (c .before .before .before .before .before .before .before .before .target2 .ensures)
-    (omega (arith, c .before .before .before .before .before .before .before .before .before .side .ensures, c .before .before .before .before .before .before .before .before .before .before .before .if1 .left)) (omega (arith, c .before .before .before .before .before .before .before .before .before .side .ensures, c .before .before .before .before .before .before .before .before .before .before .before .if1 .left, c .before .before .before .before .before .before .before .before .before .before .if2 .taken)) (c .before .before .insert-on .ensures _ _ _ _ _ (evaluated _ (p .0) _ _ _ (p .1 .0) (i .inside) _ (i .coded) _ (c .before .before .before .before .before .before .before .fields-at7 .ensures) (c .before .before .before .before .evaluate7 .ensures))))
+    as-step _ _ _ _ _ _ _ (i .inside) (inserts _ (p .0) _ _ _ (p .1 .0) (i .inside) _ (i .coded) _ refl _ _ _ (c .before .before .before .before .before .before .before .before .before .before .before .before .before .before .before .top .ensures) (record { words = c .before .words2 .given; levels = refl; values = refl; board = refl }) _ _ (c .before .before .before .before .before .target2 .ensures)
+    (omega (arith, c .before .before .before .before .side .ensures, c .before .before .before .before .before .before .before .before .before .before .before .if1 .left)) (omega (arith, c .before .before .before .before .side .ensures, c .before .before .before .before .before .before .before .before .before .before .before .if1 .left, c .before .before .before .before .before .before .before .before .before .before .if2 .taken)) (c .before .before .insert-on .ensures _ _ _ _ _ (evaluated _ (p .0) _ _ _ (p .1 .0) (i .inside) _ (i .coded) _ (c .before .before .before .before .before .before .before .before .before .fields-at7 .ensures) (c .before .before .before .before .before .before .evaluate7 .ensures))))
 
-returns-14 : tie.Need-returns-14
-returns-14 c =
+returns-16 : tie.Need-returns-16
+returns-16 c =
     let p = c .before .before .before .before .before .before .before .before .before .before .before .before .before .before .before .before .before .before .before .before .before .before .pre in
     let i = known-by _ (p .0) _ _ _ (p .1 .0) _ (c .before .before .before .before .before .before .before .before .before .before .before .before .code .ensures) (omega (arith, c .before .before .before .before .before .before .before .before .if3 .taken)) in
     as-step _ _ _ _ _ _ _ (i .inside) (removes _ (p .0) _ _ _ (p .1 .0) (i .inside) _ (i .coded) _ refl _ _ _ (c .before .before .before .before .before .before .before .before .before .before .before .before .before .before .top .ensures) (record { words = c .before .before .before .words3 .given; levels = refl; values = refl; board = refl }) _ _
     (omega (arith, c .before .before .before .before .before .before .before .side2 .ensures, c .before .before .before .before .before .before .before .before .before .if2 .left)) (omega (arith, c .before .before .before .before .before .before .before .side2 .ensures, c .before .before .before .before .before .before .before .before .before .if2 .left, c .before .before .before .before .before .before .before .before .if3 .taken)) (c .before .marks3 .given) (c .before .before .before .before .remove .ensures _ _ _ _))
 
-returns-15 : tie.Need-returns-15
-returns-15 c =
-    let p = c .before .before .before .before .before .before .before .before .before .before .before .before .before .before .before .before .before .pre in
-    let i = known-by _ (p .0) _ _ _ (p .1 .0) _ (c .before .before .before .before .before .before .before .code .ensures) (c .before .before .if4 .taken) in
-    let m = c .before .before .before .before .before .before .match .rest in
-    as-step _ _ _ _ _ _ _ (i .inside) (goes-backward _ (p .0) _ _ _ (p .1 .0) (i .inside) _ (i .coded) _ refl _ _ _ (c .before .before .before .before .before .before .before .before .before .top .ensures) (record { words = refl; levels = refl; values = refl; board = refl })
-    (from-eighteen _ (c .before .before .before .if3 .left) (m .0 .0 .0 .1) (m .0 .0 .1) (m .0 .1)) (c .before .before .if4 .taken) (c .go-backward .ensures _ _ _ _))
-
-returns-16 : tie.Need-returns-16
-returns-16 c =
-    let p = c .before .before .before .before .before .before .before .before .before .before .before .before .before .before .before .before .pre in
-    as-end _ _ _ _ _ (outside-by _ (p .0) _ _ _ (p .1 .0) _ (c .before .before .before .before .before .before .code .ensures) (c .before .if4 .left) (c .before .before .before .before .before .match .rest .1)) (c .halt .ensures)
+returns-17 : tie.Need-returns-17
+returns-17 c =
+    let p = c .before .before .before .before .before .before .before .before .before .before .before .before .before .before .before .pre in
+    let m = c .before .before .before .before .match .rest in
+    as-end _ _ _ _ _ (outside-by _ (p .0) _ _ _ (p .1 .0) _ (c .before .before .before .before .before .code .ensures) (from-twenty _ (c .before .if3 .left) (m .0 .0 .0 .0 .0 .1) (m .0 .0 .0 .0 .1) (m .0 .0 .0 .1) (m .0 .0 .1) (m .0 .1)) (m .1)) (c .halt .ensures)
 
 pub carry-out-spec : {M : Type 1} → statement M
-carry-out-spec = tie.close (tie.spec (λ c κs. search needs) (λ c. search needs) shared-slice-read-word (λ c κs. search needs) onward-requires target-requires fields-at-requires evaluate-requires assign-requires fields-at-requires-2 evaluate-requires-2 (λ c κs. search needs) enter-if-requires (λ c κs. search needs) jump-requires fields-at-requires-3 evaluate-requires-3 (λ c κs. search needs) enter-while-requires (λ c κs. search needs) leave-requires fields-at-requires-4 evaluate-requires-4 output-requires fields-at-requires-5 evaluate-requires-5 write-requires raise-requires fields-at-requires-6 evaluate-requires-6 (λ c κs. search needs) enter-back-requires (λ c κs. search needs) come-back-requires go-requires (λ c κs. search needs) target-requires-2 fields-at-requires-7 evaluate-requires-7 insert-on-requires (λ c κs. search needs) remove-requires go-backward-requires (λ c κs. search needs) returns (λ c. search needs) (λ c. search needs) returns-2 (λ c. search needs) (λ c. search needs) returns-3 returns-4 (λ c. search needs) (λ c. search needs) returns-5 returns-6 (λ c. search needs) (λ c. search needs) (λ c. search needs) returns-7 (λ c. search needs) (λ c. search needs) returns-8 returns-9 (λ c. search needs) (λ c. search needs) (λ c. search needs) returns-10 (λ c. search needs) returns-11 (λ c. search needs) returns-12 (λ c. search needs) (λ c. search needs) returns-13 (λ c. search needs) (λ c. search needs) returns-14 (λ c. search needs) returns-15 returns-16)
+carry-out-spec = tie.close (tie.spec (λ c κs. search needs) (λ c. search needs) shared-slice-read-word (λ c κs. search needs) onward-requires fields-at-requires evaluate-requires target-requires assign-requires fields-at-requires-2 evaluate-requires-2 (λ c κs. search needs) enter-if-requires (λ c κs. search needs) jump-requires fields-at-requires-3 evaluate-requires-3 (λ c κs. search needs) enter-while-requires (λ c κs. search needs) leave-requires fields-at-requires-4 evaluate-requires-4 output-requires fields-at-requires-5 evaluate-requires-5 write-requires raise-requires fields-at-requires-6 evaluate-requires-6 (λ c κs. search needs) enter-back-requires go-left-requires go-last-requires (λ c κs. search needs) come-back-requires go-requires fields-at-requires-7 evaluate-requires-7 target-requires-2 (λ c κs. search needs) insert-on-requires (λ c κs. search needs) remove-requires (λ c κs. search needs) returns (λ c. search needs) (λ c. search needs) returns-2 (λ c. search needs) (λ c. search needs) returns-3 returns-4 (λ c. search needs) (λ c. search needs) returns-5 returns-6 (λ c. search needs) (λ c. search needs) (λ c. search needs) returns-7 (λ c. search needs) (λ c. search needs) returns-8 returns-9 (λ c. search needs) (λ c. search needs) (λ c. search needs) returns-10 (λ c. search needs) returns-11 (λ c. search needs) returns-12 (λ c. search needs) returns-13 (λ c. search needs) returns-14 (λ c. search needs) (λ c. search needs) returns-15 (λ c. search needs) (λ c. search needs) returns-16 returns-17)
