@@ -100,13 +100,8 @@ pub fn go_left(words: &[u32], places: usize, pc: u8, r: Running) -> Stepped
     ensures { λ a. ⌜ ((l : List ℕ) (v : List ℤ) (b : List ℕ) (vars : ℕ)
         → Acts places vars (slices (now (words .entry)) l v b) (slices (now (words .entry)) l v b) r a (λ μ. goTo pc μ (leftOf (μ .cursor)))) ⌝ }
 {
-    go_to(
-        words,
-        places,
-        pc,
-        r,
-        walk::left(words, places, r.memory.cursor),
-    )
+    let place = walk::left(words, places, r.memory.cursor);
+    go_to(words, places, pc, r, place)
 }
 
 // Command 19: to the last child, with the level of the list that it ends.
