@@ -4,7 +4,7 @@ use mathlib.Core.Path.{_≡_, refl, sym, ap, ap₂, subst, _∙_}
 use mathlib.Core.Bool.{Bool, true, false, _&&_}
 use mathlib.Core.Option.{some}
 use mathlib.Core.List.{List}
-use Prim.Native.Nat.{ℕ, zero, suc, _%_, _<_, _≤_}
+use Prim.Native.Nat.{ℕ, zero, suc, _%_, _/_, _<_, _≤_}
 use native.Mathlib.Omega.{arith}
 use lib.IntN.{ℤ}
 use lib.Dec.{leb, ltb, eqb}
@@ -13,7 +13,7 @@ use Rattle.rules.specs.Limits.{maxNodes}
 use Rattle.rules.specs.Number.{bits, signed}
 use Rattle.rules.specs.Answers.{valueOf}
 use Rattle.rules.specs.declared.numbers.Number.{Number}
-use Rattle.rules.specs.Level.{join, notAbove}
+use Rattle.rules.specs.Level.{public, secret, join, notAbove}
 use Rattle.rules.specs.Tree as Tree
 use Rattle.rules.specs.Tree.{Label, Forest, Place, to, up, sub, label, size, change, setValue}
 use Rattle.rules.specs.Script.{Expression}
@@ -38,6 +38,24 @@ use Rattle.actions.specs.Acts.{Does, Kept, shifted, closedUp, Same, Beco
 use Rattle.actions.proofs.Doing.{flow-number, absent-number, table-full-number, overflow-number, does-next, does-stop, passes, refuses, given-passes, given-stops, does-as, halts, moves-on, stays-by, stays}
 use Rattle.actions.proofs.Evaluation.{flow-shown}
 use Rattle.actions.proofs.Touched.{there, nowhere, Under, under, no-parent, position-is}
+
+-- a mark's levels are its two binary digits
+pub odd-level : (m : ℕ) → m % 2 ≡ secretIf (eqb (m % 2) 1)
+unfolding secretIf secret public
+odd-level m = pick (m % 2) (omega arith)
+  where
+    pick : (d : ℕ) → d < 2 → d ≡ secretIf (eqb d 1)
+    pick zero l = refl
+    pick (suc zero) l = refl
+    pick (suc (suc d)) l = absurd (omega arith)
+
+pub half-level : (m : ℕ) → m ≤ 3 → m / 2 ≡ secretIf (leb 2 m)
+unfolding secretIf secret public
+half-level zero l = refl
+half-level (suc zero) l = refl
+half-level (suc (suc zero)) l = refl
+half-level (suc (suc (suc zero))) l = refl
+half-level (suc (suc (suc (suc m)))) l = absurd (omega arith)
 
 -- the memory with other places that lead to the free ones
 abbrev pub withSpace : Memory → ℕ → ℕ → Memory

@@ -96,6 +96,10 @@ module _ (h : Held) (sc : Script h) where
     pub target-in : (rowOf (byte (h .bytes) (recordPlace (h .base) i))) .target ≡ true → byte (h .bytes) (recordPlace (h .base) i + 1) < h .vars
     target-in e = record-in _ _ _ (sc .fields i inside) .fields .target e
 
+    -- its mark, if it has one
+    pub mark-in : (rowOf (byte (h .bytes) (recordPlace (h .base) i))) .mark ≡ true → byte (h .bytes) (recordPlace (h .base) i + 1) ≤ 3
+    mark-in e = record-in _ _ _ (sc .fields i inside) .fields .mark e
+
     pub command-in : byte (h .bytes) (recordPlace (h .base) i) < commandCount
     command-in = record-in _ _ _ (sc .fields i inside) .command
 
@@ -370,14 +374,14 @@ from-seven k a b c d e f g =
 pub from-twenty : (k : ℕ) → 15 ≤ k → (k ≡ 15 → ⊥) → (k ≡ 16 → ⊥) → (k ≡ 17 → ⊥) → (k ≡ 18 → ⊥) → (k ≡ 19 → ⊥) → 20 ≤ k
 from-twenty k l a b c d e = above 19 k (above 18 k (above 17 k (above 16 k (above 15 k l a) b) c) d) e
 
--- 11 and 12 have an expression
-pub insert-row : (k : ℕ) → 11 ≤ k → k < 13 → rowOf k .expression ≡ true
+-- 11 and 12 have a mark and an expression
+pub insert-row : (k : ℕ) → 11 ≤ k → k < 13 → (rowOf k .mark ≡ true) × (rowOf k .expression ≡ true)
 unfolding rows
 insert-row k l m = pick (k - 11) refl
   where
-    pick : (d : ℕ) → k - 11 ≡ d → rowOf k .expression ≡ true
-    pick zero e = ap (λ (n : ℕ). rowOf n .expression) {x = k} {y = 11} (omega arith)
-    pick (suc zero) e = ap (λ (n : ℕ). rowOf n .expression) {x = k} {y = 12} (omega arith)
+    pick : (d : ℕ) → k - 11 ≡ d → (rowOf k .mark ≡ true) × (rowOf k .expression ≡ true)
+    pick zero e = let i : k ≡ 11 = omega arith in (ap (λ (n : ℕ). rowOf n .mark) i, ap (λ (n : ℕ). rowOf n .expression) i)
+    pick (suc zero) e = let i : k ≡ 12 = omega arith in (ap (λ (n : ℕ). rowOf n .mark) i, ap (λ (n : ℕ). rowOf n .expression) i)
     pick (suc (suc d)) e = absurd (omega arith)
 
 -- the first of a list that is mapped as another
@@ -568,3 +572,7 @@ module _ (h : Held) (sc : Script h) (x : Slices) (k : List ℕ) (r : Running) (s
     pub target-by : c ≡ 1 → fieldsAt h (r .at) .target < h .vars
     unfolding rows fieldsOf
     target-by key = target-in h sc (r .at) inside (ap (λ (n : ℕ). (rowOf n) .target) (command-is ∙ key))
+
+    pub mark-by : (rowOf c) .mark ≡ true → fieldsAt h (r .at) .target ≤ 3
+    unfolding fieldsOf
+    mark-by e = mark-in h sc (r .at) inside (ap (λ (n : ℕ). (rowOf n) .mark) command-is ∙ e)

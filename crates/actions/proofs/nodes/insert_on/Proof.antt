@@ -32,7 +32,7 @@ returns-3 c = λ l b v vars x e.
 add-requires : tie.Need-add-requires
 add-requires c κs =
     let i = c .before .before .before .before .before .before .before .before .before .before .before .before .before .before .before .before in
-    (i .before .before .before .before .before .pre .1 .0, (i .before .before .before .before .before .pre .1 .1, i .if1 .left))
+    (i .before .before .before .before .before .pre .1 .0, (i .before .before .before .before .before .pre .1 .1 .0, i .if1 .left))
 
 returns-4 : tie.Need-returns-4
 returns-4 c = λ l b v vars x e.
@@ -55,7 +55,7 @@ returns-5 c = λ l b v vars x e.
     (g .before .before .before .before .before .if1 .left) (g .may-add .ensures) (allowed refl (c .before .before .before .before .before .before .before .before .before .before .before .before .before .before .before .before .if2 .left)) e has _
     (c .before .before .before .before .before .add .ensures .0) (c .before .before .before .before .before .add .ensures .1)
     (new-label (s .args .r) (s .args .pc) e (c .before .before .before .before .before .before .before .before .before .before .before .flow .ensures) b (s .args .mark) has (c .before .before .before .before .before .before .before .before .before .before .before .before .bits .ensures) (g .before .before .before .before .position .ensures)
-    (c .before .before .before .before .before .before .before .before .before .join .ensures ∙ ap (join _) (c .before .before .before .before .before .before .before .before .before .before .secret-if .ensures)) (c .before .before .before .before .before .before .before .join2 .ensures ∙ ap (join _) (c .before .before .before .before .before .before .before .before .secret-if2 .ensures)))
+    (c .before .before .before .before .before .before .before .before .before .join .ensures ∙ ap (join _) (c .before .before .before .before .before .before .before .before .before .before .content-mark .ensures)) (c .before .before .before .before .before .before .before .join2 .ensures ∙ ap (join _) (c .before .before .before .before .before .before .before .before .structure-mark .ensures)))
     (c .before .if3 .left) (c .onward .ensures)
 
 pub insert-on-spec : {M : Type 1} → statement M

@@ -4,7 +4,7 @@ use Prim.Native.Nat.{ℕ}
 use native.Mathlib.Omega.{arith}
 use Rattle.rules.specs.Script.{rows, rowOf}
 use Rattle.actions.proofs.Doing.{passes-on}
-use Rattle.monitor.proofs.Commands.{timely, at-cursor, record-there, known-by, outside-by, plain-end, known-back, inner-back, goal-by, as-step, as-end, expressed, evaluated, target-by, insert-row, from-seven, from-twenty, skips, assigns, ifs, elses, whiles, ends, backs, comes-back, outputs, goes, goes-left, goes-last, inserts, removes, writes, raises}
+use Rattle.monitor.proofs.Commands.{timely, at-cursor, record-there, known-by, outside-by, plain-end, known-back, inner-back, goal-by, as-step, as-end, expressed, evaluated, target-by, mark-by, insert-row, from-seven, from-twenty, skips, assigns, ifs, elses, whiles, ends, backs, comes-back, outputs, goes, goes-left, goes-last, inserts, removes, writes, raises}
 use borrow.Author.Needs.{needs}
 use Rattle.monitor.proofs.step.carry_out.Statement.{statement}
 use Rattle.monitor.proofs.step.carry_out.Tie as tie
@@ -194,7 +194,7 @@ evaluate-requires-7 : tie.Need-evaluate-requires-7
 evaluate-requires-7 c κs =
     let p = c .before .before .before .before .before .before .before .before .before .before .before .before .before .before .before .before .pre in
     let i = known-by _ (p .0) _ _ _ (p .1 .0) _ (c .before .before .before .before .before .before .code .ensures) (omega (arith, c .before .before .before .if2 .taken)) in
-    expressed _ (p .0) _ _ _ (p .1 .0) (i .inside) _ (i .coded) _ (c .before .before .fields-at7 .ensures) (insert-row _ (c .before .before .before .before .if1 .left) (c .before .before .before .if2 .taken))
+    expressed _ (p .0) _ _ _ (p .1 .0) (i .inside) _ (i .coded) _ (c .before .before .fields-at7 .ensures) (insert-row _ (c .before .before .before .before .if1 .left) (c .before .before .before .if2 .taken) .1)
 
 target-requires-2 : tie.Need-target-requires-2
 target-requires-2 c κs =
@@ -206,7 +206,8 @@ insert-on-requires : tie.Need-insert-on-requires
 insert-on-requires c κs =
     let p = c .before .before .before .before .before .before .before .before .before .before .before .before .before .before .before .before .before .before .before .before .pre in
     let i = known-by _ (p .0) _ _ _ (p .1 .0) _ (c .before .before .before .before .before .before .before .before .before .before .code .ensures) (omega (arith, c .before .before .before .before .before .before .before .if2 .taken)) in
-    (timely _ (p .0) _ _ _ (p .1 .0) (i .inside) (p .1 .1), (at-cursor _ (p .0) _ _ _ (p .1 .0) (i .inside), omega (arith, c .before .side .ensures, c .before .before .before .before .before .before .before .before .if1 .left, c .before .before .before .before .before .before .before .if2 .taken)))
+    let l = mark-by _ (p .0) _ _ _ (p .1 .0) (i .inside) _ (i .coded) (insert-row _ (c .before .before .before .before .before .before .before .before .if1 .left) (c .before .before .before .before .before .before .before .if2 .taken) .0) in
+    (timely _ (p .0) _ _ _ (p .1 .0) (i .inside) (p .1 .1), (at-cursor _ (p .0) _ _ _ (p .1 .0) (i .inside), (omega (arith, c .before .side .ensures, c .before .before .before .before .before .before .before .before .if1 .left, c .before .before .before .before .before .before .before .if2 .taken), omega (arith, l, c .before .before .target2 .ensures))))
 
 remove-requires : tie.Need-remove-requires
 remove-requires c κs =
