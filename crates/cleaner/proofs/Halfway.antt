@@ -7,7 +7,7 @@ use lib.ListN.{length, set}
 use Rattle.rules.specs.Check.{accepted, first, checkBytesBy}
 use Rattle.rules.specs.Clean.{cleanByte}
 use Rattle.rules.proofs.Accepted.{Right, right-by}
-use Rattle.rules.proofs.SameReads.{same-nodes-at, same-script-at, same-variable-count, same-node-count, same-record-count, same-right, same-read}
+use Rattle.rules.proofs.SameReads.{around, same-nodes-at, same-script-at, same-variable-count, same-node-count, same-record-count, same-right, same-read}
 use Rattle.rules.proofs.Cleaned.{Partly, partly-agreed, partly-next}
 use Rattle.job.specs.declared.sections.Layout.{Layout}
 use Rattle.job.specs.Layout.{layoutOf}
@@ -20,7 +20,7 @@ module _ (b : List ℕ) (l : Layout) (e : checkBytesBy first b ≡ accepted) (h 
   same-layout : layoutOf c ≡ layoutOf b
   unfolding layoutOf
   same-layout =
-      let a = partly-agreed b n c p in
+      let a = around (partly-agreed b n c p) in
       rw (same-variable-count b c right a, same-nodes-at b c right a, same-node-count b c right a, same-script-at b c right a, same-record-count b c right a)
 
   pub halfway-laid : Laid c l

@@ -8,11 +8,11 @@ use native.Mathlib.Omega.{arith}
 use lib.ListN.{length}
 use lib.Dec.{ltb}
 use borrow.Author.Tests.{ne-eqb, ltb-true}
-use Rattle.rules.specs.Limits.{badLength, badOffsets, badCount, badVariable, badParent, badNode, badRecord, badBlock, badSpare}
+use Rattle.rules.specs.Limits.{badLength, badOffsets, badCount, badVariable, badParent, badNode, badRecord, badBlock, badSpare, badOrder}
 use Rattle.rules.specs.Bytes.{byte, nodesAt, scriptAt, variableCount, nodeCount, recordCount, recordPlace}
 use Rattle.rules.specs.Script.{number, numberAt}
 use Rattle.rules.specs.Blocks.{blockRule, goesTo}
-use Rattle.rules.specs.Check.{Checked, accepted, lengthRule, offsetRule, countRule, variableRule, parent, parentRule, nodeRule, recordRule, code}
+use Rattle.rules.specs.Check.{Checked, accepted, lengthRule, offsetRule, countRule, variableRule, parent, parentRule, orderRule, nodeRule, recordRule, code}
 use Rattle.rules.specs.Check.{variableClean, nodeClean, recordClean, Edition, today, recordRuleIn, checkScript, checkRecords, checkBytesBy, checkBytes}
 use Rattle.rules.specs.Job.{script, scriptOf}
 use Rattle.rules.proofs.Tests.{both, joined}
@@ -79,6 +79,7 @@ JobScript rules b = ScriptRight rules b (variableCount b) (variableCount b) (nod
 -- the rules of an edition
 pub record RightBy (rules : Edition) (b : List ℕ) : Type 0 where
   pub right : Right b
+  pub order : rules .order ≡ true → (i : ℕ) → i < nodeCount b → orderRule b (nodesAt b) i ≡ true
   pub script : JobScript rules b
 
 module _ (rules : Edition) (b : List ℕ) where
@@ -90,7 +91,8 @@ module _ (rules : Edition) (b : List ℕ) where
       let x3 = passed-one badCount _ _ (x2 .1) in
       let x4 = passed-each badVariable _ _ _ (x3 .1) in
       let x5 = passed-each badParent _ _ _ (x4 .1) in
-      let x6 = passed-each badNode _ _ _ (x5 .1) in
+      let x13 = passed-if (rules .order) badOrder _ _ _ (x5 .1) in
+      let x6 = passed-each badNode _ _ _ (x13 .1) in
       let s = script-right rules b _ _ _ _ _ _ _ (x6 .1) .0 in
       record {
         right =
@@ -104,14 +106,17 @@ module _ (rules : Edition) (b : List ℕ) where
               records = s .records;
               blocks = s .blocks;
             };
+        order = x13 .0;
         script = s;
       }
 
-  pub accept-by : Right b → JobScript rules b → checkBytesBy rules b ≡ accepted
+  pub accept-by : RightBy rules b → checkBytesBy rules b ≡ accepted
   unfolding checkBytesBy checkRecords
-  accept-by r s =
+  accept-by s =
+      let r = s .right in
       met badLength _ (r .lengths) ∙ met badOffsets _ (r .offsets) ∙ met badCount _ (r .counts) ∙ all-met badVariable _ _ _ (r .variables)
-      ∙ all-met badParent _ _ _ (r .parents) ∙ all-met badNode _ _ _ (r .nodes) ∙ script-met rules b _ _ _ _ _ _ _ s
+      ∙ all-met badParent _ _ _ (r .parents) ∙ met-if (rules .order) badOrder _ _ _ (s .order) ∙ all-met badNode _ _ _ (r .nodes)
+      ∙ script-met rules b _ _ _ _ _ _ _ (s .script)
 
 pub right : (b : List ℕ) → checkBytes b ≡ accepted → Right b
 right b e = right-by today b e .right

@@ -168,5 +168,6 @@ job-numbered b budget lent =
     (refuses-one Numbered _ (omega arith, omega arith) _ _
     (refuses-each Numbered _ (omega arith, omega arith) _ _ _
     (refuses-each Numbered _ (omega arith, omega arith) _ _ _
-    (refuses-each Numbered _ (omega arith, omega arith) _ _ _ (script-numbered _ b _ _ _ _ _ _ accepted tt)))))))
+    (refuses-if Numbered _ (omega arith, omega arith) _ _ _ _
+    (refuses-each Numbered _ (omega arith, omega arith) _ _ _ (script-numbered _ b _ _ _ _ _ _ accepted tt))))))))
     (refuses-one Numbered _ (omega arith, omega arith) _ _ (refuses-one Numbered _ (omega arith, omega arith) _ _ tt))

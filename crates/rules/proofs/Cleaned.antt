@@ -11,18 +11,18 @@ use lib.Seq.{ext-getD, getD-set-same, getD-set-other}
 use lib.Dec.{ltb, eqb}
 use borrow.Author.Tests.{ltb-true, ltb-false, eq-eqb}
 use Rattle.rules.specs.Bytes.{byte, nodesAt, scriptAt, variableCount, nodeCount, recordCount, variablePlace, nodePlace, recordPlace}
-use Rattle.rules.specs.Check.{Checked, accepted, refused, code, variableReads, nodeReads, recordReads, spareRule, variableClean, nodeClean, recordClean}
-use Rattle.rules.specs.Check.{Edition, first, clean, checkBytesBy}
+use Rattle.rules.specs.Check.{accepted, variableReads, nodeReads, recordReads, spareRule, variableClean, nodeClean, recordClean}
+use Rattle.rules.specs.Check.{first, clean, checkBytesBy}
 use Rattle.rules.specs.Job.{listed}
-use Rattle.rules.specs.Run.{Buffers, run, start}
-use Rattle.rules.specs.Outcome.{bufferRule, checkJobBy, rejected, ran, begin, runJobBy}
+use Rattle.rules.specs.Run.{Buffers}
+use Rattle.rules.specs.Outcome.{runJobBy}
 use Rattle.rules.specs.Clean.{isRead, cleanByte, cleaned}
-use Rattle.rules.proofs.Tests.{Test, holds, fails, test}
+use Rattle.rules.proofs.Tests.{Test, holds, fails, test, clash}
 use Rattle.rules.proofs.Decode.{listed-length, listed-from-zero}
 use Rattle.rules.proofs.ReadBytes.{spare-all, spare-zero, records-16, variables-8, nodes-12}
-use Rattle.rules.proofs.Accepted.{Clean, Right, JobScript, RightBy, right-by, accept-by}
+use Rattle.rules.proofs.Accepted.{Clean, Right, RightBy, right-by, accept-by}
 use Rattle.rules.proofs.SameReads.{Laid, laid, Lies, in-variable, in-node, in-record, in-trailer, lies, read-variable, read-node, read-record, read-trailer, Agreed}
-use Rattle.rules.proofs.SameReads.{same-nodes-at, same-script-at, same-variable-count, same-node-count, same-record-count, same-variables, same-tree, same-script, same-right, code-same, record-reads}
+use Rattle.rules.proofs.SameReads.{around, around-script, around-runs, record-reads, same-tree, same-right}
 
 -- the bytes of a job that is cleaned as far as byte n
 pub record Partly (b : List ℕ) (n : ℕ) (c : List ℕ) : Type 0 where
@@ -104,49 +104,32 @@ module _ (b : List ℕ) (r : Right b) where
             λ i h. spare-all nodeReads new (nodePlace (nodesAt b) i)
             (λ j l e. let z = nodes-12 in cleaned-spare b _ (omega arith) (read-node b r i j _ h (omega arith) refl ∙ e));
         records =
-            λ i h. rw (record-reads b new r (cleaned-agreed b) i h)
+            λ i h. rw (record-reads b new r (around (cleaned-agreed b)) i h)
             (spare-all (recordReads b (recordPlace (scriptAt b) i)) new (recordPlace (scriptAt b) i)
             (λ j l e. let z = records-16 b (recordPlace (scriptAt b) i) in cleaned-spare b _ (omega arith) (read-record b r i j _ h (omega arith) refl ∙ e)));
       }
 
-  new-script : JobScript first b → JobScript clean new
-  unfolding first clean code
-  new-script s =
-      let a = cleaned-agreed b in
-      let q = same-right b new r a in
-      rw (same-variable-count b new r a, same-nodes-at b new r a, same-node-count b new r a, same-script-at b new r a, same-record-count b new r a)
-      (record {
-        known = λ i h. rw (code-same b new r a i h) (s .known i h);
-        records = rw (same-variable-count b new r a, same-script-at b new r a, same-record-count b new r a) at (q .records);
-        clean = λ e. new-clean;
-        blocks = rw (same-script-at b new r a, same-record-count b new r a) at (q .blocks);
-      })
-
 -- "A job with such a byte not zero is refused from now on.", and the cleaned one is not
 pub cleaned-taken : (b : List ℕ) → checkBytesBy first b ≡ accepted → checkBytesBy clean (cleaned b) ≡ accepted
+unfolding first clean
 cleaned-taken b e =
     let s = right-by first b e in
-    accept-by clean (cleaned b) (same-right b (cleaned b) (s .right) (cleaned-agreed b)) (new-script b (s .right) (s .script))
+    let r = s .right in
+    let a = cleaned-agreed b in
+    accept-by clean (cleaned b)
+    (record {
+      right = same-right b (cleaned b) r a;
+      order = λ q. clash q refl;
+      script = around-script b (cleaned b) r (around a) first clean refl (s .script) (λ q. new-clean b r);
+    })
 
 -- "The cleaned job runs exactly as the old one did."
-module _ (b : List ℕ) (e : checkBytesBy first b ≡ accepted) (budget : ℕ) (lent : Buffers) where
-  checks-same : checkJobBy clean (cleaned b) budget lent ≡ checkJobBy first b budget lent
-  unfolding checkJobBy bufferRule
-  checks-same =
-      let r = right-by first b e .right in
-      let a = cleaned-agreed b in
-      rw (cleaned-taken b e, e, same-variable-count b (cleaned b) r a, same-node-count b (cleaned b) r a)
-
-  pub cleaned-runs : runJobBy clean (cleaned b) budget lent ≡ runJobBy first b budget lent
-  unfolding runJobBy begin
-  cleaned-runs =
-      let r = right-by first b e .right in
-      let a = cleaned-agreed b in
-      λ i. elim (checks-same i) [
-        | refused k j ↦ rejected k j
-        | accepted ↦
-            ran (run lent (same-script b (cleaned b) r a i) budget (start (same-variables b (cleaned b) r a i) (same-tree b (cleaned b) r a i)))
-      ]
+pub cleaned-runs : (b : List ℕ) → checkBytesBy first b ≡ accepted → (budget : ℕ) (lent : Buffers)
+    → runJobBy clean (cleaned b) budget lent ≡ runJobBy first b budget lent
+cleaned-runs b e =
+    let r = right-by first b e .right in
+    let a = cleaned-agreed b in
+    around-runs b (cleaned b) r (around a) first clean e (cleaned-taken b e) (same-tree b (cleaned b) r a)
 
 -- the spare bytes of a clean job are zero
 module _ (b : List ℕ) (s : RightBy clean b) where
@@ -171,7 +154,7 @@ module _ (b : List ℕ) (s : RightBy clean b) where
           ap (byte b) q
           ∙ spare-zero (recordReads b (recordPlace (scriptAt b) i)) b (recordPlace (scriptAt b) i) (is-clean .records i h) j (omega arith)
           (sym (read-record b (s .right) i j x h l q) ∙ e)
-      by (in-trailer h) = Rattle.rules.proofs.Tests.clash (read-trailer b (s .right) x h) e
+      by (in-trailer h) = clash (read-trailer b (s .right) x h) e
 
   pub clean-stays : cleaned b ≡ b
   clean-stays = ext-getD 0 (cleaned b) b (cleaned-long b) (λ x l. by x (test (isRead b x)) (let z = cleaned-long b in omega arith))

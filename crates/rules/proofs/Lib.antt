@@ -16,6 +16,7 @@ pub mod Exits
 pub mod Ranges
 pub mod Checks
 pub mod Decode
+pub mod Packed
 pub mod Nearest
 pub mod ReadBytes
 pub mod Accepted
@@ -38,6 +39,13 @@ pub mod SameReads
 pub mod Cleaned
 pub mod Reported
 pub mod CleanTrials
+pub mod Listing
+pub mod Entries
+pub mod Ordered
+pub mod Moved
+pub mod Stays
+pub mod Arranged
+pub mod ArrangeTrials
 pub mod Control
 pub mod Region
 pub mod Secrecy

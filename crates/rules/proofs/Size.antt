@@ -1,7 +1,7 @@
 -- The tree of n node records has at most n nodes: among the records from one on, those that hang under different earlier records are
 -- different records. Assumes nothing.
 use mathlib.Core.Path.{_≡_, refl}
-use Prim.Native.Nat.{ℕ, zero, suc, _+_, _-_, _≤_}
+use Prim.Native.Nat.{ℕ, zero, suc, _+_, _-_, _≤_, _<_}
 use native.Mathlib.Nat.{lt-suc-self}
 use native.Mathlib.Omega.{arith}
 use mathlib.Core.Bool.{true, false}
@@ -72,6 +72,10 @@ module _ (b : List ℕ) (base : ℕ) where
   total-few (suc n) i ps f =
       let a = total-one n i i ps f in let c = total-few n (suc i) (i ∷ ps) (next (lt-suc-self i) tt f) in omega (arith, a, c)
 
+  pub children-few : (p n i : ℕ) → p < i → size (childrenOf b base p n i) ≤ n
+  unfolding total
+  children-few p n i h = let c = total-few n i (p ∷ []) (next h tt empty) in omega (arith, c)
+
   pub tree-size : (n : ℕ) → 1 ≤ n → size (treeOf b base n) ≤ n
-  unfolding treeOf size total
-  tree-size n h = let c = total-few (n - 1) 1 (0 ∷ []) (next (lt-suc-self 0) tt empty) in omega (arith, c)
+  unfolding treeOf size
+  tree-size n h = let c = children-few 0 (n - 1) 1 (lt-suc-self 0) in omega (arith, c)

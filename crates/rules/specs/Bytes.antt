@@ -1,6 +1,6 @@
 -- The job's bytes: little-endian numbers, the trailer's offsets, and where the records of the three sections stand. Assumes nothing.
-use Prim.Native.Nat.{ℕ, _+_, _-_, _*_, _/_}
-use mathlib.Core.List.{List}
+use Prim.Native.Nat.{ℕ, _+_, _-_, _*_, _/_, _%_}
+use mathlib.Core.List.{List, [], _∷_}
 use lib.ListN.{length, getD}
 use Rattle.rules.specs.Limits.{trailerSize, variableSize, nodeSize, recordSize}
 
@@ -11,6 +11,10 @@ byte b at = getD b at 0
 -- "Numbers are little-endian": the 16-bit number at a place
 unfoldable pub half : List ℕ → ℕ → ℕ
 half b at = byte b at + byte b (at + 1) * 256
+
+-- the two bytes of a 16-bit number
+unfoldable pub two : ℕ → List ℕ
+two n = n % 256 ∷ n / 256 % 256 ∷ []
 
 -- the 32-bit number at a place
 unfoldable pub full : List ℕ → ℕ → ℕ

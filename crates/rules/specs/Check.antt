@@ -1,11 +1,11 @@
--- The checks of a job's bytes, 1 to 8 in order of number with 12 before 8, and the editions of them. Assumes nothing.
+-- The checks of a job's bytes, 1 to 8 in order of number with 13 before 6 and 12 before 8, and the editions of them. Assumes nothing.
 use Prim.Native.Nat.{ℕ, zero, suc, _+_, _-_, _%_}
 use mathlib.Core.Bool.{Bool, true, false, _&&_, _||_, not, cond}
 use mathlib.Core.Option.{Option, none, some}
 use mathlib.Core.List.{List, [], _∷_}
 use lib.ListN.{length}
 use lib.Dec.{leb, ltb, eqb}
-use Rattle.rules.specs.Limits.{maxVariables, maxNodes, maxRecords, maxBytes, trailerSize, variableSize, nodeSize, recordSize, noParent, commandCount, badLength, badOffsets, badCount, badVariable, badParent, badNode, badRecord, badBlock, badSpare}
+use Rattle.rules.specs.Limits.{maxVariables, maxNodes, maxRecords, maxBytes, trailerSize, variableSize, nodeSize, recordSize, noParent, commandCount, badLength, badOffsets, badCount, badVariable, badParent, badNode, badRecord, badBlock, badSpare, badOrder}
 use Rattle.rules.specs.Level.{public, notAbove, isLevel}
 use Rattle.rules.specs.Script.{Row, rowOf}
 use Rattle.rules.specs.Blocks.{blockRule}
@@ -79,6 +79,15 @@ module _ (b : List ℕ) (base : ℕ) where
   -- 6: the rules of one node; "the root has existence 0"
   unfoldable pub nodeRule : ℕ → Bool
   nodeRule i = labelRule i && cond (eqb i 0) (notAbove (existence i) public) (childRule i)
+
+  -- p is record j or an ancestor of it, found within n steps up
+  unfoldable pub onPath : ℕ → ℕ → ℕ → Bool
+  onPath p zero j = eqb p j
+  onPath p (suc n) j = eqb p j || (not (eqb j 0) && onPath p n (parent j))
+
+  -- 13: no "node after record 0 whose parent is neither the record before it nor an ancestor of that record"
+  unfoldable pub orderRule : ℕ → Bool
+  orderRule i = eqb i 0 || onPath (parent i) i (i - 1)
 
 -- 7: an operand's kind, and for a variable its index, where there are vars variables
 unfoldable pub operandRule : ℕ → ℕ → ℕ → Bool
@@ -173,18 +182,27 @@ requireEach k good n next = cond (ltb (firstFault good n 0) n) (refused k (first
 pub record Edition : Type 0 where
   pub commands : ℕ  -- how many commands there are
   pub spare : Bool  -- spare bytes are zero
+  pub order : Bool  -- "each node is followed at once by its whole subtree"
 
 -- paper 01 with R-1 to R-3, which the cleaner keeps
 unfoldable pub first : Edition
-first = record { commands = 17; spare = false }
+first = record { commands = 17; spare = false; order = false }
 
 -- with clean spare bytes, R-4
 unfoldable pub clean : Edition
-clean = record { commands = 17; spare = true }
+clean = record { commands = 17; spare = true; order = false }
 
--- the rules in force today, with commands 17, R-6, and 18 and 19, R-7
+-- paper 01 with R-1 to R-9, which the rearranger keeps
+unfoldable pub unordered : Edition
+unordered = record { commands = commandCount; spare = true; order = false }
+
+-- with the nodes listed the way they hang, R-10
+unfoldable pub ordered : Edition
+ordered = record { commands = commandCount; spare = true; order = true }
+
+-- the rules in force today
 unfoldable pub today : Edition
-today = record { commands = commandCount; spare = true }
+today = ordered
 
 -- 7, in an edition
 unfoldable pub recordRuleIn : Edition → List ℕ → ℕ → ℕ → Bool
@@ -204,14 +222,15 @@ checkScript rules b vars vs tree ns script rs next =
     (requireIf (rules .spare) badSpare (recordClean b script) rs
     (requireEach badBlock (blockRule (code b script) rs) (suc rs) next))))
 
--- the checks 4 to 8, of vs variables, ns nodes from tree on and rs script records from script on
+-- the checks 4 to 8, with 13 "checked after 5 and before 6", of vs variables, ns nodes from tree on and rs script records from script on
 unfoldable pub checkRecords : Edition → List ℕ → ℕ → ℕ → ℕ → ℕ → ℕ → Checked
 checkRecords rules b vs tree ns script rs =
     requireEach badVariable (variableRule b) vs
     (requireEach badParent (parentRule b tree) ns
-    (requireEach badNode (nodeRule b tree) ns (checkScript rules b vs vs tree ns script rs accepted)))
+    (requireIf (rules .order) badOrder (orderRule b tree) ns
+    (requireEach badNode (nodeRule b tree) ns (checkScript rules b vs vs tree ns script rs accepted))))
 
--- "Job checks go in order of number.", but for 12, which is "checked after 7 and before 8"
+-- "Job checks go in order of number.", but for 12, which is "checked after 7 and before 8", and 13
 unfoldable pub checkBytesBy : Edition → List ℕ → Checked
 checkBytesBy rules b =
     require badLength (lengthRule (length b))

@@ -17,4 +17,5 @@ pub mod History
 pub mod Returns
 pub mod Covered
 pub mod Clean
+pub mod Arrange
 pub mod Trials

@@ -97,3 +97,7 @@ badFollowOn = 11
 -- 12: a spare byte
 abbrev pub badSpare : ℕ
 badSpare = 12
+
+-- 13: the order of the nodes
+abbrev pub badOrder : ℕ
+badOrder = 13

@@ -1,6 +1,6 @@
 -- The paper's twelve trials, those of the if that comes back and those of left sibling and last child, as job bytes with what is to come of them.
 -- `trials-hold`, `back-trials-hold` and `move-trials-hold`, in proofs/, say that the rules give it. Assumes nothing.
-use Prim.Native.Nat.{ℕ, _+_, _*_, _%_, _/_}
+use Prim.Native.Nat.{ℕ, _+_, _*_, _/_}
 use mathlib.Core.List.{List, [], _∷_, _++_, map, flatMap}
 use lib.ListN.{length}
 use lib.IntN.{ℤ, pos, negsuc}
@@ -8,12 +8,9 @@ use Rattle.rules.specs.Limits.{variableSize, nodeSize, recordSize, noPar
 use Rattle.rules.specs.Level.{Level, public, secret}
 use Rattle.rules.specs.Number.{bits}
 use Rattle.rules.specs.Tree.{Label, Forest, nil, tree}
+use Rattle.rules.specs.Bytes.{two}
 use Rattle.rules.specs.Run.{Buffers}
 use Rattle.rules.specs.Outcome.{Outcome, rejected, ran, answer, boardLines, runJob}
-
--- the two bytes of a 16-bit number
-unfoldable pub two : ℕ → List ℕ
-two n = n % 256 ∷ n / 256 % 256 ∷ []
 
 -- the four bytes of a signed number
 unfoldable pub four : ℤ → List ℕ
