@@ -7,14 +7,14 @@ use Prim.Native.Nat.{ℕ, _≤_, _<_}
 use native.Mathlib.Omega.{arith}
 use lib.Dec.{ltb}
 use borrow.Author.Tests.{le-ltb, ltb-true, ltb-false}
-use Rattle.rules.specs.Limits.{commandCount, badSpare}
+use Rattle.rules.specs.Limits.{commandCount}
 use Rattle.rules.specs.Bytes.{byte, recordPlace}
-use Rattle.rules.specs.Check.{Checked, refused, Edition, firstFault, requireIf, first, today, nodeRule, recordRule, recordRuleIn, recordClean}
+use Rattle.rules.specs.Check.{Checked, refused, Edition, firstFault, requireIf, first, unordered, ordered, today, nodeRule, recordRule, recordRuleIn, recordClean}
 use Rattle.rules.proofs.Tests.{Test, holds, fails, test, both, clash}
 use Rattle.rules.proofs.Search.{fault-agree, all-pass, none-faulty}
 use Rattle.rules.proofs.Checks.{stopped, through}
 use Rattle.job.specs.declared.checks.Edition as Named
-use Rattle.job.specs.declared.checks.Edition.the-variants.{First, Today}
+use Rattle.job.specs.declared.checks.Edition.the-variants.{First, Unordered, Today}
 use Rattle.job.specs.declared.checks.Scan.{Scan}
 use Rattle.job.specs.declared.checks.Scan.the-variants.{Faulty, Passed}
 use Rattle.job.specs.Fields.{knownRule}
@@ -64,22 +64,22 @@ module _ (fault unclean n i : ℕ) where
       by (holds t) = let f : Faulty fault ≡ Passed i = rw t at e in let z : _≡_ {A = ℕ} 0 1 = cc in absurd (omega arith)
       by (fails t) = let f : Passed unclean ≡ Passed i = rw t at e in let g : i ≡ unclean = cc in (ltb-false fault n t, g)
 
--- check 12, by the first record that is not clean
-module _ (rules : Edition) (good : ℕ → Bool) (n : ℕ) (c : Checked) {k : ℕ} (e : k ≡ asked rules good n) where
-  pub spare-stopped : k < n → requireIf (rules .spare) badSpare good n c ≡ refused badSpare k
+-- a check that an edition may not have, by the first record that fails it
+module _ (number : ℕ) (on : Bool) (good : ℕ → Bool) (n : ℕ) (c : Checked) {k : ℕ} (e : k ≡ asked on good n) where
+  pub asked-stopped : k < n → requireIf on number good n c ≡ refused number k
   unfolding requireIf asked
-  spare-stopped h = by (test (rules .spare))
+  asked-stopped h = by (test on)
     where
-      by : Test (rules .spare) → requireIf (rules .spare) badSpare good n c ≡ refused badSpare k
-      by (holds t) = rw t (stopped badSpare good n c (rw t at e) h)
+      by : Test on → requireIf on number good n c ≡ refused number k
+      by (holds t) = rw t (stopped number good n c (rw t at e) h)
       by (fails t) = let f : k ≡ n = rw t at e in absurd (omega arith)
 
-  pub spare-through : n ≤ k → requireIf (rules .spare) badSpare good n c ≡ c
+  pub asked-through : n ≤ k → requireIf on number good n c ≡ c
   unfolding requireIf asked
-  spare-through h = by (test (rules .spare))
+  asked-through h = by (test on)
     where
-      by : Test (rules .spare) → requireIf (rules .spare) badSpare good n c ≡ c
-      by (holds t) = rw t (through badSpare good n c (rw t at e) h)
+      by : Test on → requireIf on number good n c ≡ c
+      by (holds t) = rw t (through number good n c (rw t at e) h)
       by (fails t) = rw t
 
 -- the searches of nodes and records, as the rules have them
@@ -87,14 +87,15 @@ pub nodes-right : (b : List ℕ) (base n : ℕ) → firstFault (nodeFits false b
 unfolding nodeFits
 nodes-right b base n = fault-agree (nodeFits false b base) (nodeRule b base) n 0 (λ i l m. and-true (nodeRule b base i))
 
--- the edition that has check 12 has the commands of the table
+-- an edition that has check 12 has the commands of the table
 twice : (a c : Bool) → (a && (a && c)) ≡ (a && c)
 twice true c = refl
 twice false c = refl
 
 all-known : (rules : Named.Edition) (b : List ℕ) (vars at : ℕ) → editionOf rules .spare ≡ true → recordRuleIn (editionOf rules) b vars at ≡ recordRule b vars at
-unfolding editionOf first today recordRuleIn recordRule
+unfolding editionOf first unordered ordered today recordRuleIn recordRule
 all-known First b vars at s = clash s refl
+all-known Unordered b vars at s = twice (ltb (byte b at) commandCount) _
 all-known Today b vars at s = twice (ltb (byte b at) commandCount) _
 
 module _ (rules : Named.Edition) (b : List ℕ) (vars base n : ℕ) where

@@ -1,15 +1,15 @@
 -- What the checks hand back, from the rules' definition of the checks. Assumes nothing.
 use mathlib.Core.Path.{_≡_}
-use mathlib.Core.Bool.{Bool, _&&_, cond}
+use mathlib.Core.Bool.{Bool, true, _&&_, cond}
 use mathlib.Core.List.{List}
 use Prim.Native.Nat.{ℕ, suc, _≤_, _<_}
 use lib.Dec.{ltb, eqb}
 use lib.ListN.{length}
-use Rattle.rules.specs.Limits.{maxRecords, badVariable, badParent, badNode, badRecord, badBlock, badSpare}
+use Rattle.rules.specs.Limits.{maxRecords, badVariable, badParent, badNode, badRecord, badBlock, badSpare, badOrder}
 use Rattle.rules.specs.Bytes.{scriptAt, recordCount, recordPlace}
 use Rattle.rules.specs.Blocks.{blockRule}
 use Rattle.rules.specs.Check as Check
-use Rattle.rules.specs.Check.{variableRule, parentRule, nodeRule, recordRuleIn, variableClean, nodeClean, recordClean, code, firstFault, requireEach, requireIf, first, today}
+use Rattle.rules.specs.Check.{variableRule, parentRule, orderRule, nodeRule, recordRuleIn, variableClean, nodeClean, recordClean, code, firstFault, requireEach, requireIf, first, unordered, today}
 use Rattle.rules.specs.Check.{checkScript, checkRecords, checkBytesBy}
 use Rattle.job.specs.declared.sections.Layout.{Layout}
 use Rattle.job.specs.declared.checks.Checked.{Checked}
@@ -17,7 +17,7 @@ use Rattle.job.specs.declared.checks.Checked.the-variants.{Accepted, Ref
 use Rattle.job.specs.declared.checks.Script.{Script}
 use Rattle.job.specs.declared.checks.Script.the-variants.{Sound, Faulty}
 use Rattle.job.specs.declared.checks.Edition.{Edition}
-use Rattle.job.specs.declared.checks.Edition.the-variants.{First, Today}
+use Rattle.job.specs.declared.checks.Edition.the-variants.{First, Unordered, Today}
 use Rattle.job.specs.declared.checks.Scan.{Scan}
 use Rattle.job.specs.declared.checks.Scan.the-variants as Scan
 use Rattle.job.specs.declared.checks.Unclean.{Unclean}
@@ -27,6 +27,7 @@ use Rattle.job.specs.Plan.{Plans}
 -- an edition by the program's name for it
 unfoldable pub editionOf : Edition → Check.Edition
 editionOf First = first
+editionOf Unordered = unordered
 editionOf Today = today
 
 -- an accepted job with a layout; a refused one with the paper's number and index
@@ -34,32 +35,35 @@ unfoldable pub answer : Layout → Check.Checked → Checked
 answer l Check.accepted = Accepted l
 answer l (Check.refused k i) = Refused k i
 
--- by number, for record i of its section: the rule of 4, of 12 with 4 for a variable, or of 5
+-- by number, for record i of its section: the rule of 4, of 12 with 4 for a variable, of 13, or of 5
 unfoldable pub ruleOf : List ℕ → Layout → ℕ → ℕ → Bool
 ruleOf b l k i =
-    cond (eqb k badVariable) (variableRule b i) (cond (eqb k badSpare) (variableRule b i && variableClean b i) (parentRule b (l .tree) i))
+    cond (eqb k badVariable) (variableRule b i)
+    (cond (eqb k badSpare) (variableRule b i && variableClean b i) (cond (eqb k badOrder) (orderRule b (l .tree) i) (parentRule b (l .tree) i)))
 
 -- how many records that section holds
 unfoldable pub countOf : Layout → ℕ → ℕ
 countOf l k = cond (eqb k badVariable) (l .variables) (cond (eqb k badSpare) (l .variables) (l .nodes))
 
--- record i can be put to the check of a number
+-- record i can be put to the check of a number; 13 goes by parents that are right
 pub record Passable (b : List ℕ) (l : Layout) (k i : ℕ) : Type 0 where
   pub inside : Inside b l
   pub index : i < countOf l k
+  pub parents : k ≡ badOrder → (j : ℕ) → j ≤ i → parentRule b (l .tree) j ≡ true
 
 -- n records can
 pub record Scannable (b : List ℕ) (l : Layout) (k n : ℕ) : Type 0 where
   pub inside : Inside b l
   pub count : n ≡ countOf l k
+  pub parents : k ≡ badOrder → (j : ℕ) → j < n → parentRule b (l .tree) j ≡ true
 
 -- check 7 in an edition, of record i
 abbrev pub recordRules : Check.Edition → List ℕ → ℕ → ℕ → ℕ → Bool
 recordRules rules b vs base i = recordRuleIn rules b vs (recordPlace base i)
 
--- the first of n records that is not clean; the count where there is none, and where the edition does not ask
-unfoldable pub asked : Check.Edition → (ℕ → Bool) → ℕ → ℕ
-asked rules clean n = cond (rules .spare) (firstFault clean n 0) n
+-- the first of n records that fails a test; the count where there is none, and where it is not asked for
+unfoldable pub asked : Bool → (ℕ → Bool) → ℕ → ℕ
+asked on good n = cond on (firstFault good n 0) n
 
 -- a scan of n records that found a first fault, or else a first record that is not clean
 unfoldable pub scanOf : ℕ → ℕ → ℕ → Scan
@@ -67,21 +71,21 @@ scanOf fault unclean n = cond (ltb fault n) (Scan.Faulty fault) (Scan.Passed unc
 
 -- what the scan of n records comes to
 unfoldable pub scanned : Check.Edition → (ℕ → Bool) → (ℕ → Bool) → ℕ → Scan
-scanned rules right clean n = scanOf (firstFault right n 0) (asked rules clean n) n
+scanned rules right clean n = scanOf (firstFault right n 0) (asked (rules .spare) clean n) n
 
 -- what is not clean, section by section
 unfoldable pub uncleanOf : Check.Edition → List ℕ → Layout → Unclean
 uncleanOf rules b l =
     record {
-      variables = asked rules (variableClean b) (l .variables);
-      nodes = asked rules (nodeClean b (l .tree)) (l .nodes);
-      records = asked rules (recordClean b (l .script)) (l .records);
+      variables = asked (rules .spare) (variableClean b) (l .variables);
+      nodes = asked (rules .spare) (nodeClean b (l .tree)) (l .nodes);
+      records = asked (rules .spare) (recordClean b (l .script)) (l .records);
     }
 
 -- what is not clean in front of the script
 pub record Fronted (rules : Check.Edition) (b : List ℕ) (l : Layout) (variable node : ℕ) : Type 0 where
-  pub variables : variable ≡ asked rules (variableClean b) (l .variables)
-  pub nodes : node ≡ asked rules (nodeClean b (l .tree)) (l .nodes)
+  pub variables : variable ≡ asked (rules .spare) (variableClean b) (l .variables)
+  pub nodes : node ≡ asked (rules .spare) (nodeClean b (l .tree)) (l .nodes)
 
 -- the script lies within the bytes, is not too long, and has room in the words p
 pub record Fitted (b : List ℕ) (l : Layout) (p : List ℕ) : Type 0 where
@@ -114,7 +118,9 @@ module _ (b : List ℕ) (l : Layout) where
     -- from 5 on
     unfoldable pub fromNodes : Check.Checked
     fromNodes =
-        requireEach badParent (parentRule b (l .tree)) (l .nodes) (requireEach badNode (nodeRule b (l .tree)) (l .nodes) (fromScript (l .variables)))
+        requireEach badParent (parentRule b (l .tree)) (l .nodes)
+        (requireIf (rules .order) badOrder (orderRule b (l .tree)) (l .nodes)
+        (requireEach badNode (nodeRule b (l .tree)) (l .nodes) (fromScript (l .variables))))
 
     -- from 4 on
     abbrev pub fromVariables : Check.Checked

@@ -1,7 +1,8 @@
-// The checks of a job's bytes: 1 to 8 in order of number, with 12 between 7 and 8. The passes of 4, 6 and 7 find the first record with a spare byte that is not zero too,
+// The checks of a job's bytes: 1 to 8 in order of number, with 13 between 5 and 6 and 12 between 7 and 8. The passes of 4, 6 and 7 find the first record with a spare byte that is not zero too,
 // so 12 has no pass of its own.
 use crate::blocks;
 use crate::nodes;
+use crate::nodes::order_ok;
 use crate::nodes::parent_ok;
 use crate::plan::WORDS;
 use crate::records;
@@ -18,6 +19,7 @@ use rules::limits::BAD_COUNT;
 use rules::limits::BAD_LENGTH;
 use rules::limits::BAD_NODE;
 use rules::limits::BAD_OFFSETS;
+use rules::limits::BAD_ORDER;
 use rules::limits::BAD_PARENT;
 use rules::limits::BAD_RECORD;
 use rules::limits::BAD_SPARE;
@@ -28,7 +30,7 @@ ghost use Prim.Native.Nat.{_≤_, _<_};
 ghost use lib.ListN.{length};
 ghost use Rattle.rules.specs.Limits.{commandCount, maxRecords};
 ghost use Rattle.rules.specs.Bytes.{recordPlace};
-ghost use Rattle.rules.specs.Check.{variableRule, nodeRule, variableClean, nodeClean, recordClean, firstFault, today, checkBytesBy, checkBytes};
+ghost use Rattle.rules.specs.Check.{variableRule, orderRule, nodeRule, variableClean, nodeClean, recordClean, firstFault, today, checkBytesBy, checkBytes};
 ghost use Rattle.job.specs.Layout.{layoutOf, Inside};
 ghost use Rattle.job.specs.Siblings.{Linked};
 ghost use Rattle.job.specs.Answer.{answer, editionOf, ruleOf, recordRules, asked, scanOf, scanned, uncleanOf, Passable, Scannable, Fitted, Fronted, fromBlocks, fromSpare, fromScript, fromNodes, fromVariables, ScriptTold, JobTold, Prepared};
@@ -39,9 +41,10 @@ pub enum Checked {
     Refused { number: u8, index: usize },
 }
 
-// The rules that are checked: paper 01 with R-1 to R-3, which the cleaner keeps, or those of today.
+// The rules that are checked: paper 01 with R-1 to R-3, which the cleaner keeps, or with R-1 to R-9, which the rearranger keeps, or those of today.
 pub enum Edition {
     First,
+    Unordered,
     Today,
 }
 
@@ -51,6 +54,18 @@ fn has_spare(rules: Edition) -> bool
 {
     match rules {
         Edition::First => false,
+        Edition::Unordered => true,
+        Edition::Today => true,
+    }
+}
+
+// Whether they have check 13.
+fn has_order(rules: Edition) -> bool
+    ensures { λ r. ⌜ r ≡ editionOf rules .order ⌝ }
+{
+    match rules {
+        Edition::First => false,
+        Edition::Unordered => false,
         Edition::Today => true,
     }
 }
@@ -61,11 +76,12 @@ fn commands(rules: Edition) -> usize
 {
     match rules {
         Edition::First => 17,
+        Edition::Unordered => COMMANDS,
         Edition::Today => COMMANDS,
     }
 }
 
-// By number, of record i of its section: the checks 4 and 5, and 12 with 4 of a variable.
+// By number, of record i of its section: the checks 4, 5 and 13, and 12 with 4 of a variable.
 fn passes(job: &[u8], l: Layout, number: u8, i: usize) -> bool
     requires { ⌜ Passable (now job) l number i ⌝ }
     ensures { λ r. ⌜ r ≡ ruleOf (now (job .entry)) l number i ⌝ }
@@ -73,6 +89,7 @@ fn passes(job: &[u8], l: Layout, number: u8, i: usize) -> bool
     match number {
         BAD_VARIABLE => variable_ok(job, i),
         BAD_SPARE => variable_fits(job, i),
+        BAD_ORDER => order_ok(job, l.tree, i),
         _ => parent_ok(job, l.tree, i),
     }
 }
@@ -123,6 +140,17 @@ fn scan_variables(job: &[u8], l: Layout, rules: Edition) -> Scan
         return Scan::Passed(count);
     }
     scan_of(first_fault(job, l, BAD_VARIABLE, count), unfit, count)
+}
+
+// Check 13, where it is asked for: the first node that fails it, or the count.
+fn first_unordered(job: &[u8], l: Layout, rules: Edition) -> usize
+    requires { ⌜ Inside (now job) l × Linked (now job) (l .tree) (l .nodes) ⌝ }
+    ensures { λ r. ⌜ r ≡ asked (editionOf rules .order) (orderRule (now (job .entry)) (l .tree)) (l .nodes) ⌝ }
+{
+    if has_order(rules) {
+        return first_fault(job, l, BAD_ORDER, l.nodes);
+    }
+    l.nodes
 }
 
 // The checks 6 and 12, of the nodes.
@@ -279,13 +307,20 @@ fn check_job_script(
 
 // From check 5 on.
 fn check_nodes(job: &[u8], l: Layout, variable: usize, rules: Edition, plan: &mut [u32]) -> Checked
-    requires { ⌜ Inside (now job) l × (maxRecords < length (now plan)) × (variable ≡ asked (editionOf rules) (variableClean (now job)) (l .variables)) ⌝ }
+    requires { ⌜ Inside (now job) l × (maxRecords < length (now plan)) × (variable ≡ asked (editionOf rules .spare) (variableClean (now job)) (l .variables)) ⌝ }
     ensures { λ r. ⌜ JobTold (now (job .entry)) l (fromNodes (now (job .entry)) l (editionOf rules)) (now (plan .entry)) (now (plan .exit)) r ⌝ }
 {
     let index = first_fault(job, l, BAD_PARENT, l.nodes);
     if index < l.nodes {
         return Checked::Refused {
             number: BAD_PARENT,
+            index,
+        };
+    }
+    let index = first_unordered(job, l, rules);
+    if index < l.nodes {
+        return Checked::Refused {
+            number: BAD_ORDER,
             index,
         };
     }

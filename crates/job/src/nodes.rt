@@ -1,4 +1,4 @@
-// The nodes, 12 bytes each from `base` on: the checks 5, 6 and 12, and the fields.
+// The nodes, 12 bytes each from `base` on: the checks 5, 13, 6 and 12, and the fields.
 use crate::reads::half_at;
 use crate::reads::rest_at;
 use crate::reads::signed_at;
@@ -14,7 +14,7 @@ ghost use Prim.Native.Nat.{suc, _+_, _<_, _≤_};
 ghost use lib.ListN.{length, getD};
 ghost use Rattle.rules.specs.Limits.{nodeSize};
 ghost use Rattle.rules.specs.Bytes.{nodePlace};
-ghost use Rattle.rules.specs.Check.{parent, parentRule, labelRule, nearest, leftRule, childRule, nodeClean, firstFault};
+ghost use Rattle.rules.specs.Check.{parent, parentRule, orderRule, labelRule, nearest, leftRule, childRule, nodeClean, firstFault};
 ghost use Rattle.rules.specs.Job.{labelOf};
 ghost use Rattle.job.specs.Fields.{levelsOf};
 ghost use Rattle.job.specs.Fits.{nodeFits};
@@ -60,6 +60,23 @@ pub fn parent_ok(job: &[u8], base: usize, i: usize) -> bool
 {
     let p = parent_at(job, base, i);
     if i == 0 { p == NO_PARENT } else { p < i }
+}
+
+// Check 13, of node i, which has passed check 5 as have all before it: on the way up from the record before it stands its parent. Each step up leaves a subtree for good, so the
+// walks of all nodes together are no longer than there are nodes.
+pub fn order_ok(job: &[u8], base: usize, i: usize) -> bool
+    requires { ⌜ Rooted (now job) base i ⌝ }
+    ensures { λ r. ⌜ r ≡ orderRule (now (job .entry)) base i ⌝ }
+{
+    if i == 0 {
+        return true;
+    }
+    let p = parent_at(job, base, i);
+    let mut w = i - 1;
+    while p < w {
+        w = parent_at(job, base, w);
+    }
+    w == p
 }
 
 fn label_ok(job: &[u8], base: usize, i: usize) -> bool

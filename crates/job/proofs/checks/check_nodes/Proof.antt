@@ -1,13 +1,14 @@
 -- `check_nodes` meets its contract: the chain of checks, one link at a time. Assumes nothing.
 use mathlib.Core.Path.{_≡_, refl, sym, ap, _∙_}
 use native.Mathlib.Omega.{arith}
-use Rattle.rules.specs.Limits.{badParent, badNode}
-use Rattle.rules.specs.Check.{requireEach, nodeRule}
+use Rattle.rules.specs.Limits.{badParent, badNode, badOrder}
+use Rattle.rules.specs.Check.{requireEach, requireIf, orderRule, nodeRule}
 use Rattle.rules.proofs.Search.{all-pass}
 use Rattle.rules.proofs.Checks.{stopped, through}
+use Rattle.job.specs.Siblings.{Linked}
 use Rattle.job.specs.Answer.{answer, editionOf, ruleOf, countOf, scanned, fromScript, fromNodes}
 use Rattle.job.proofs.Answers.{plans-not, plans-along}
-use Rattle.job.proofs.Scans.{was-faulty, was-passed}
+use Rattle.job.proofs.Scans.{was-faulty, was-passed, asked-stopped, asked-through}
 use borrow.Author.Needs.{needs}
 use Rattle.job.proofs.checks.check_nodes.Statement.{statement}
 use Rattle.job.proofs.checks.check_nodes.Tie as tie
@@ -15,13 +16,21 @@ use Rattle.job.proofs.checks.check_nodes.Tie as tie
 past5 : (c : tie.Else1) → let a = c .before .before .before .before .before .args in
     let b = a .job .now in
     let l = a .l in
-    fromNodes b l (editionOf (a .rules)) ≡ requireEach badNode (nodeRule b (l .tree)) (l .nodes) (fromScript b l (editionOf (a .rules)) (l .variables))
+    let rules = editionOf (a .rules) in
+    fromNodes b l rules
+    ≡ requireIf (rules .order) badOrder (orderRule b (l .tree)) (l .nodes) (requireEach badNode (nodeRule b (l .tree)) (l .nodes) (fromScript b l rules (l .variables)))
 unfolding fromNodes ruleOf
 past5 c = through badParent _ _ _ (c .before .before .first-fault .ensures) (c .if1 .left)
 
+past13 : (c : tie.Else2) → let a = c .before .before .before .before .before .before .before .before .args in
+    let b = a .job .now in
+    let l = a .l in
+    fromNodes b l (editionOf (a .rules)) ≡ requireEach badNode (nodeRule b (l .tree)) (l .nodes) (fromScript b l (editionOf (a .rules)) (l .variables))
+past13 c = past5 (c .before .before .before) ∙ asked-through badOrder _ _ _ _ (c .before .before .first-unordered .ensures) (c .if2 .left)
+
 first-fault-requires : tie.Need-first-fault-requires
 unfolding countOf
-first-fault-requires c κs = record { inside = c .before .before .pre .0; count = refl }
+first-fault-requires c κs = record { inside = c .before .before .pre .0; count = refl; parents = λ e. absurd (omega arith) }
 
 returns : tie.Need-returns
 unfolding fromNodes ruleOf answer
@@ -30,34 +39,47 @@ returns c =
     record { answered = sym (ap (answer _) e); plans = plans-not _ _ _ _ _ badParent _ (λ q. omega arith) e refl }
 
 -- check 5 was passed
-scan-nodes-requires : tie.Need-scan-nodes-requires
+linked : (c : tie.Else1) → let a = c .before .before .before .before .before .args in Linked (a .job .now) (a .l .tree) (a .l .nodes)
 unfolding ruleOf
-scan-nodes-requires c κs =
+linked c =
     let q = c .before .before .before .before .before .pre .0 in record { inside = q .nodes; few = q .few; parents = all-pass _ _ (c .before .before .first-fault .ensures) (c .if1 .left) }
+
+first-unordered-requires : tie.Need-first-unordered-requires
+first-unordered-requires c κs = (c .before .before .before .before .before .pre .0, linked c)
+
+returns-2 : tie.Need-returns-2
+unfolding answer
+returns-2 c =
+    let e = past5 (c .before .before .before) ∙ asked-stopped badOrder _ _ _ _ (c .before .before .first-unordered .ensures) (c .if2 .taken) in
+    record { answered = sym (ap (answer _) e); plans = plans-not _ _ _ _ _ badOrder _ (λ q. omega arith) e refl }
+
+scan-nodes-requires : tie.Need-scan-nodes-requires
+scan-nodes-requires c κs = linked (c .before .before .before)
 
 check-job-script-requires : tie.Need-check-job-script-requires
 unfolding scanned
 check-job-script-requires c κs =
-    let q = c .before .before .before .before .before .before .before .before .before .before .pre in
+    let q = c .before .before .before .before .before .before .before .before .before .before .before .before .before .pre in
     let w = was-passed _ _ _ _ (sym (c .before .before .before .before .scan-nodes .ensures) ∙ c .before .before .scan2 .given .1) in
     (record { inside = q .0 .records; short = q .0 .short; room = omega (arith, q .0 .short, q .1) }, record { variables = q .2; nodes = w .1 })
 
-returns-2 : tie.Need-returns-2
+returns-3 : tie.Need-returns-3
 unfolding scanned answer
-returns-2 c =
+returns-3 c =
     let w = was-faulty _ _ _ _ (sym (c .before .before .before .scan-nodes .ensures) ∙ c .before .scan .given .1) in
-    let e = past5 (c .before .before .before .before) ∙ stopped badNode _ _ _ (w .0) (w .1) in
+    let e = past13 (c .before .before .before .before) ∙ stopped badNode _ _ _ (w .0) (w .1) in
     record { answered = sym (ap (answer _) e); plans = plans-not _ _ _ _ _ badNode _ (λ q. omega arith) e refl }
 
-returns-3 : tie.Need-returns-3
+returns-4 : tie.Need-returns-4
 unfolding scanned
-returns-3 c =
+returns-4 c =
     let w = was-passed _ _ _ _ (sym (c .before .before .before .before .before .before .before .scan-nodes .ensures) ∙ c .before .before .before .before .before .scan2 .given .1) in
-    let e = past5 (c .before .before .before .before .before .before .before .before) ∙ through badNode _ _ _ refl (w .0) in
+    let e = past13 (c .before .before .before .before .before .before .before .before) ∙ through badNode _ _ _ refl (w .0) in
     let s = c .before .before .check-job-script .ensures in
     record { answered = s .answered ∙ sym (ap (answer _) e); plans = plans-along e (s .plans) }
 
 pub check-nodes-spec : {M : Type 1} → statement M
 check-nodes-spec =
     tie.close (tie.spec
-    first-fault-requires returns scan-nodes-requires (λ c. search needs) (λ c. search needs) check-job-script-requires returns-2 (λ c. search needs) returns-3)
+    first-fault-requires returns first-unordered-requires returns-2 scan-nodes-requires (λ c. search needs) (λ c. search needs) check-job-script-requires returns-3
+    (λ c. search needs) returns-4)

@@ -6,7 +6,7 @@ use Rattle.rules.specs.Check.{Checked, requireIf, variableClean, nodeClean, rec
 use Rattle.job.specs.declared.checks.Unclean.{Unclean}
 use Rattle.job.specs.Answer.{told, editionOf, uncleanOf, fromBlocks, fromSpare}
 use Rattle.job.proofs.Answers.{plans-not, plans-along}
-use Rattle.job.proofs.Scans.{spare-stopped, spare-through}
+use Rattle.job.proofs.Scans.{asked-stopped, asked-through}
 use borrow.Author.Needs.{needs}
 use Rattle.job.proofs.checks.check_spare.Statement.{statement}
 use Rattle.job.proofs.checks.check_spare.Tie as tie
@@ -19,7 +19,7 @@ past1 : (c : tie.Else1) → let a = c .before .before .before .before .before .a
     fromSpare b l r
     ≡ requireIf (r .spare) badSpare (nodeClean b (l .tree)) (l .nodes) (requireIf (r .spare) badSpare (recordClean b (l .script)) (l .records) (fromBlocks b l))
 unfolding fromSpare uncleanOf
-past1 c = spare-through _ _ _ _ (ap (λ (u : Unclean). u .variables) (c .before .before .before .before .before .pre .1)) (c .if1 .left)
+past1 c = asked-through badSpare _ _ _ _ (ap (λ (u : Unclean). u .variables) (c .before .before .before .before .before .pre .1)) (c .if1 .left)
 
 past2 : (c : tie.Else2) → let a = c .before .before .before .before .before .before .before .before .args in
     let r = editionOf (a .rules) in
@@ -27,28 +27,28 @@ past2 : (c : tie.Else2) → let a = c .before .before .before .before .before .b
     let l = a .l in
     fromSpare b l r ≡ requireIf (r .spare) badSpare (recordClean b (l .script)) (l .records) (fromBlocks b l)
 unfolding uncleanOf
-past2 c = past1 (c .before .before .before) ∙ spare-through _ _ _ _ (ap (λ (u : Unclean). u .nodes) (c .before .before .before .before .before .before .before .before .pre .1)) (c .if2 .left)
+past2 c = past1 (c .before .before .before) ∙ asked-through badSpare _ _ _ _ (ap (λ (u : Unclean). u .nodes) (c .before .before .before .before .before .before .before .before .pre .1)) (c .if2 .left)
 
 past3 : (c : tie.Else3) → let a = c .before .before .before .before .before .before .before .before .before .before .before .args in fromSpare (a .bytes .now) (a .l) (editionOf (a .rules)) ≡ fromBlocks (a .bytes .now) (a .l)
 unfolding uncleanOf
-past3 c = past2 (c .before .before .before) ∙ spare-through _ _ _ _ (ap (λ (u : Unclean). u .records) (c .before .before .before .before .before .before .before .before .before .before .before .pre .1)) (c .if3 .left)
+past3 c = past2 (c .before .before .before) ∙ asked-through badSpare _ _ _ _ (ap (λ (u : Unclean). u .records) (c .before .before .before .before .before .before .before .before .before .before .before .pre .1)) (c .if3 .left)
 
 returns : tie.Need-returns
 unfolding told fromSpare uncleanOf
 returns c =
-    let e = spare-stopped _ _ _ _ (ap (λ (u : Unclean). u .variables) (c .before .before .before .before .before .pre .1)) (c .if1 .taken) in
+    let e = asked-stopped badSpare _ _ _ _ (ap (λ (u : Unclean). u .variables) (c .before .before .before .before .before .pre .1)) (c .if1 .taken) in
     record { answered = sym (ap told e); plans = plans-not _ _ _ _ _ badSpare _ (λ q. omega arith) e refl }
 
 returns-2 : tie.Need-returns-2
 unfolding told uncleanOf
 returns-2 c =
-    let e = past1 (c .before .before .before) ∙ spare-stopped _ _ _ _ (ap (λ (u : Unclean). u .nodes) (c .before .before .before .before .before .before .before .before .pre .1)) (c .if2 .taken) in
+    let e = past1 (c .before .before .before) ∙ asked-stopped badSpare _ _ _ _ (ap (λ (u : Unclean). u .nodes) (c .before .before .before .before .before .before .before .before .pre .1)) (c .if2 .taken) in
     record { answered = sym (ap told e); plans = plans-not _ _ _ _ _ badSpare _ (λ q. omega arith) e refl }
 
 returns-3 : tie.Need-returns-3
 unfolding told uncleanOf
 returns-3 c =
-    let e = past2 (c .before .before .before) ∙ spare-stopped _ _ _ _ (ap (λ (u : Unclean). u .records) (c .before .before .before .before .before .before .before .before .before .before .before .pre .1)) (c .if3 .taken) in
+    let e = past2 (c .before .before .before) ∙ asked-stopped badSpare _ _ _ _ (ap (λ (u : Unclean). u .records) (c .before .before .before .before .before .before .before .before .before .before .before .pre .1)) (c .if3 .taken) in
     record { answered = sym (ap told e); plans = plans-not _ _ _ _ _ badSpare _ (λ q. omega arith) e refl }
 
 returns-4 : tie.Need-returns-4

@@ -20,7 +20,7 @@ loop-holds c = scan-start _ _
 passes-requires : tie.Need-passes-requires Inv-loop μ-loop
 passes-requires c κs =
     let q = c .before .before .before .pre in
-    record { inside = q .inside; index = search needs }
+    record { inside = q .inside; index = search needs; parents = λ e j h. q .parents e j (search needs) }
 
 returns : tie.Need-returns Inv-loop μ-loop
 returns c = scan-stop _ _ (c .before .before .before .loop .inv) (search needs) (sym (c .before .passes .ensures) ∙ not-true _ (c .if1 .taken))

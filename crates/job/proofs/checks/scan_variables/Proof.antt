@@ -1,5 +1,6 @@
 -- `scan_variables` meets its contract: by the two searches. Assumes nothing.
 use mathlib.Core.Path.{refl, sym, _∙_}
+use native.Mathlib.Omega.{arith}
 use borrow.Author.Tests.{not-true, not-false}
 use Rattle.job.specs.Answer.{ruleOf, countOf}
 use Rattle.job.proofs.Scans.{not-asked, all-fit, first-unclean}
@@ -9,15 +10,15 @@ use Rattle.job.proofs.checks.scan_variables.Tie as tie
 
 first-fault-requires : tie.Need-first-fault-requires
 unfolding countOf
-first-fault-requires c κs = record { inside = c .before .before .before .pre; count = refl }
+first-fault-requires c κs = record { inside = c .before .before .before .pre; count = refl; parents = λ e. absurd (omega arith) }
 
 first-fault-requires-2 : tie.Need-first-fault-requires-2
 unfolding countOf
-first-fault-requires-2 c κs = record { inside = c .before .before .before .pre; count = refl }
+first-fault-requires-2 c κs = record { inside = c .before .before .before .pre; count = refl; parents = λ e. absurd (omega arith) }
 
 first-fault-requires-3 : tie.Need-first-fault-requires-3
 unfolding countOf
-first-fault-requires-3 c κs = record { inside = c .before .before .before .before .before .pre; count = refl }
+first-fault-requires-3 c κs = record { inside = c .before .before .before .before .before .pre; count = refl; parents = λ e. absurd (omega arith) }
 
 returns : tie.Need-returns
 unfolding ruleOf

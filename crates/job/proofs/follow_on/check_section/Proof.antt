@@ -3,7 +3,7 @@ use mathlib.Core.Path.{refl, sym, ap, _∙_}
 use native.Mathlib.Omega.{arith}
 use borrow.Author.Tests.{not-true, not-false}
 use Rattle.rules.specs.Limits.{badFollowOn}
-use Rattle.rules.specs.Check.{firstFault, today}
+use Rattle.rules.specs.Check.{firstFault, ordered, today}
 use Rattle.rules.specs.History.{sectionCount}
 use Rattle.rules.proofs.Checks.{turned, met}
 use Rattle.job.specs.Answer.{told, editionOf, asked}
@@ -21,7 +21,7 @@ returns c =
     record { answered = sym (ap told e); plans = plans-not _ _ _ _ _ badFollowOn _ (λ q. omega arith) e refl }
 
 check-script-requires : tie.Need-check-script-requires
-unfolding sectionCount asked editionOf today firstFault
+unfolding sectionCount asked editionOf ordered today firstFault
 check-script-requires c κs =
     let h = section-few _ (sym (c .before .before .section-ok .ensures) ∙ not-false _ (c .before .if1 .left)) in (
       record { inside = omega arith; short = omega arith; room = omega (arith, c .before .before .before .before .before .pre) },
