@@ -1,8 +1,8 @@
 -- `put` meets its contract: two bytes of the parent, and ten that are copied. Assumes nothing.
 use mathlib.Core.Path.{_∙_}
 use native.Mathlib.Omega.{arith}
-use lib.ListN.{length-set}
-use Rattle.arranger.proofs.Putting.{two-long, is-put}
+use lib.ListN.{set, length-set}
+use Rattle.arranger.proofs.Putting.{is-put}
 use borrow.Author.Needs.{needs}
 use Rattle.arranger.proofs.arranging.put.Statement.{statement}
 use Rattle.arranger.proofs.arranging.put.Tie as tie
@@ -14,7 +14,7 @@ copy-requires : tie.Need-copy-requires
 copy-requires c κs = let q = c .before .before .before .pre in (rw (length-set, length-set) (omega (arith, q .0)), omega (arith, q .1))
 
 same-length : tie.Need-same-length
-same-length c = let a = c .before .before .before .before .before .before .args in c .before .before .copy .ensures .long ∙ two-long (a .job .now) (a .base) (a .at) (a .parent)
+same-length c = let a = c .before .before .before .before .before .before .args in c .before .before .copy .ensures .long ∙ length-set (set (a .job .now) _ _) _ _ ∙ length-set (a .job .now) _ _
 
 returns : tie.Need-returns
 returns c = is-put _ _ _ _ _ _ _ (c .before .before .before .before .before .before .pre .0) (c .before .before .copy .ensures)

@@ -22,7 +22,7 @@ new-parent-requires c κs =
     let q = c .before .before .before .before .before .pre in
     let l = linked _ _ _ _ _ q in
     let t = c .loop-test .taken in
-    (omega (arith, q .size, l .few), λ n. omega (arith, parent-below _ _ _ _ _ q _ n t, q .placed .size, l .few))
+    (omega (arith, q .size, l .few), λ n. omega (arith, parent-below _ _ _ _ _ q (c .before .loop .i) n (omega (arith, t)), q .placed .size, l .few))
 
 mul-put : tie.Need-mul-put Inv-loop μ-loop
 mul-put c = omega (arith, c .before .before .loop-test .taken, linked _ _ _ _ _ (c .before .before .before .before .before .before .before .pre) .few)
@@ -36,9 +36,9 @@ put-requires c κs =
     let q = c .before .before .before .before .before .before .before .before .pre in
     let l = linked _ _ _ _ _ q in
     let t = c .before .before .before .loop-test .taken in (
-      omega (arith, c .before .before .before .before .loop .inv .1 .long, l .inside, own-below _ _ _ _ _ q _ t),
+      omega (arith, c .before .before .before .before .loop .inv .1 .long, l .inside, own-below _ _ _ _ _ q (c .before .before .before .before .loop .i) (omega (arith, t))),
       omega (arith, q .size, l .few),
-      rw (c .before .before .new-parent .ensures) (small _ _ _ _ _ q _ t),
+      omega (arith, c .before .before .new-parent .ensures, small _ _ _ _ _ q (c .before .before .before .before .loop .i) (omega (arith, t))),
     )
 
 loop-again : tie.Need-loop-again Inv-loop μ-loop
@@ -47,7 +47,7 @@ loop-again c =
     let t = c .before .before .before .before .before .before .loop-test .taken in (
       omega arith,
       rw add-one
-          (halfway-next _ _ _ _ _ q _ _ _ _ _ t refl (rw (c .before .before .before .before .before .new-parent .ensures) (is-moved _ _ _ _ _ q _ t)) (c .before .before .before .before .before .before .before .loop .inv .1) (c .before .before .put .ensures)),
+          (halfway-next _ _ _ _ _ q (c .before .before .before .before .before .before .before .loop .i) _ _ _ _ (omega (arith, t)) refl (rw (c .before .before .before .before .before .new-parent .ensures) (is-moved _ _ _ _ _ q (c .before .before .before .before .before .before .before .loop .i) (omega (arith, t)))) (c .before .before .before .before .before .before .before .loop .inv .1) (c .before .before .put .ensures)),
     )
 
 same-length : tie.Need-same-length Inv-loop μ-loop

@@ -25,7 +25,7 @@ slice-aggregate-place-2 : tie.Need-slice-aggregate-place-2 Inv-loop μ-loop
 slice-aggregate-place-2 c = sym (c .before .before .before .loop .inv .2 .sizeNext)
 
 place-requires : tie.Need-place-requires Inv-loop μ-loop
-place-requires c κs = let q = c .before .before .before .before .before .before .pre in let v = c .before .before .before .loop .inv in (q .0, q .2, v .0, c .before .before .loop-test .taken, v .2)
+place-requires c κs = let q = c .before .before .before .before .before .before .pre in let v = c .before .before .before .loop .inv in (q .0, q .2, v .0, omega (arith, c .before .before .loop-test .taken), v .2)
 
 loop-again : tie.Need-loop-again Inv-loop μ-loop
 loop-again c = (omega arith, omega (arith, c .before .before .before .before .before .loop-test .taken), rw add-one (c .before .before .place .ensures))
