@@ -126,7 +126,7 @@ int LLVMFuzzerInitialize(int *argc, char ***argv)
 
 static int listed(uint64_t ending)
 {
-    return ending <= 10 || ending == 12 || (ending >= 21 && ending <= 25) || ending == 27;
+    return ending <= 10 || ending == 12 || ending == 13 || (ending >= 21 && ending <= 25) || ending == 27;
 }
 
 static void fail(const char *what, uint64_t ours, uint64_t mirror, uint64_t budget, size_t area_len)

@@ -33,7 +33,7 @@ pub fn output(bytes: &[u8], mistake: Mistake) -> Output {
         },
         Err(refusal) => Output {
             standard_output: Vec::new(),
-            standard_error: format!("refused {} at {}\n", refusal.ending.number(), refusal.index),
+            standard_error: refusal.line(),
         },
     }
 }

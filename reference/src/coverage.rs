@@ -451,8 +451,8 @@ fn follow_on_name(command: u8) -> String {
 /// a script can have, every reason for 11, and every command in a script.
 pub fn wanted_of_histories() -> Vec<String> {
     let mut names: Vec<String> = (0..=4).map(event_name).collect();
-    // A script has no checks 1 to 6.
-    let can_end = |ending: &Ending| !(1..=6).contains(&ending.number());
+    // A script has no checks 1 to 6, and none of an order of nodes.
+    let can_end = |ending: &Ending| !(1..=6).contains(&ending.number()) && *ending != Ending::Order;
     names.extend(
         Ending::ALL
             .into_iter()

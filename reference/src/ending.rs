@@ -1,6 +1,6 @@
 //! The ways a job can end, with the paper's numbers.
 
-/// Finished, a job or script turned back (1 to 12), or a run that stopped (21 to 25, 27).
+/// Finished, a job or script turned back (1 to 13), or a run that stopped (21 to 25, 27).
 #[derive(Clone, Copy, Debug, PartialEq, Eq, PartialOrd, Ord)]
 pub enum Ending {
     Finished = 0,
@@ -30,6 +30,9 @@ pub enum Ending {
     Standing = 11,
     /// "a spare byte not zero" (R-4)
     Spare = 12,
+    /// "a node after record 0 whose parent is neither the record before it nor an
+    /// ancestor of that record" (R-10)
+    Order = 13,
     /// "a rule above"
     Rule = 21,
     /// "the node moved to or removed does not exist, or command 12 at the root"
@@ -45,7 +48,7 @@ pub enum Ending {
 }
 
 impl Ending {
-    pub const ALL: [Ending; 19] = [
+    pub const ALL: [Ending; 20] = [
         Ending::Finished,
         Ending::Size,
         Ending::Layout,
@@ -59,6 +62,7 @@ impl Ending {
         Ending::Buffer,
         Ending::Standing,
         Ending::Spare,
+        Ending::Order,
         Ending::Rule,
         Ending::Missing,
         Ending::TableFull,
@@ -72,8 +76,8 @@ impl Ending {
         self as u32
     }
 
-    /// Endings 1 to 12: no step was made and no lent buffer changed.
+    /// Endings 1 to 13: no step was made and no lent buffer changed.
     pub fn turned_back(self) -> bool {
-        (1..=12).contains(&self.number())
+        (1..=13).contains(&self.number())
     }
 }

@@ -1,5 +1,5 @@
-//! The job's bytes: three sections and a trailer, the checks 1 to 8 and, before 8,
-//! the check of spare bytes (R-4).
+//! The job's bytes: three sections and a trailer, the checks 1 to 8, the check of
+//! spare bytes (R-4) before 8, and that of the nodes' order (R-10) before 6.
 
 use crate::ending::Ending;
 use crate::mistake::Mistake;
@@ -115,6 +115,13 @@ pub struct Refusal {
     pub index: usize,
 }
 
+impl Refusal {
+    /// What a program for stored jobs prints of it.
+    pub fn line(&self) -> String {
+        format!("refused {} at {}\n", self.ending.number(), self.index)
+    }
+}
+
 fn refuse<T>(ending: Ending, index: usize) -> Result<T, Refusal> {
     Err(Refusal { ending, index })
 }
@@ -167,36 +174,79 @@ pub const READS: [Reads; command::COUNT] = [
     reads(Target::Ignored, false),
 ];
 
+/// The rules of a day: R-4's cleaner and R-10's rearranger keep those of theirs.
+struct Rules {
+    commands: usize,
+    spare: bool,
+    order: bool,
+}
+
+/// Before R-4: spare bytes hold anything, and there is no command from 17 on.
+const FIRST: Rules = Rules {
+    commands: command::FIRST_COUNT,
+    spare: false,
+    order: false,
+};
+
+/// Before R-10: "Otherwise the order is open."
+const UNORDERED: Rules = Rules {
+    commands: command::COUNT,
+    spare: true,
+    order: false,
+};
+
+const TODAY: Rules = Rules {
+    order: true,
+    ..UNORDERED
+};
+
 /// The job in `bytes`, or the first check that turns it back.
 pub fn decode(bytes: &[u8]) -> Result<Job, Refusal> {
     decode_with(bytes, Mistake::None)
 }
 
-/// "Job checks go in order of number.", but for 12. Each goes over its whole
-/// section.
+/// The job by the rules of today.
 pub fn decode_with(bytes: &[u8], mistake: Mistake) -> Result<Job, Refusal> {
-    let job = decode_fields(bytes, command::COUNT, mistake)?;
-    check_spare_and_blocks(&job, mistake)?;
-    Ok(job)
+    decode_by(&TODAY, bytes, mistake)
 }
 
-/// The job in `bytes` by the rules before R-4: its spare bytes hold anything,
-/// and there is no command from 17 on.
+/// The job by the rules before R-4.
 pub fn decode_first(bytes: &[u8], mistake: Mistake) -> Result<Job, Refusal> {
-    let job = decode_fields(bytes, command::FIRST_COUNT, mistake)?;
-    check_blocks(&job.script, mistake)?;
-    Ok(job)
+    decode_by(&FIRST, bytes, mistake)
 }
 
-/// Checks 1 to 7, where there are so many commands.
-fn decode_fields(bytes: &[u8], commands: usize, mistake: Mistake) -> Result<Job, Refusal> {
+/// The job by the rules before R-10.
+pub fn decode_unordered(bytes: &[u8], mistake: Mistake) -> Result<Job, Refusal> {
+    decode_by(&UNORDERED, bytes, mistake)
+}
+
+/// "Job checks go in order of number.", but for 12 and 13. Each goes over its
+/// whole section.
+fn decode_by(rules: &Rules, bytes: &[u8], mistake: Mistake) -> Result<Job, Refusal> {
     let job = split(bytes)?;
     check_counts(&job)?;
     check_variables(&job)?;
     check_parents(&job)?;
-    check_tree(&job, mistake)?;
-    check_fields(&job.script, job.variables.len(), commands, mistake)?;
+    match rules.order {
+        true => check_order_and_tree(&job, mistake)?,
+        false => check_tree(&job, mistake)?,
+    }
+    check_fields(&job.script, job.variables.len(), rules.commands, mistake)?;
+    match rules.spare {
+        true => check_spare_and_blocks(&job, mistake)?,
+        false => check_blocks(&job.script, mistake)?,
+    }
     Ok(job)
+}
+
+/// 13 is "checked after 5 and before 6".
+fn check_order_and_tree(job: &Job, mistake: Mistake) -> Result<(), Refusal> {
+    if mistake == Mistake::OrderAfterTree {
+        check_tree(job, mistake)?;
+        return check_order(job, mistake);
+    }
+    check_order(job, mistake)?;
+    check_tree(job, mistake)
 }
 
 /// Checks 7, 12 and 8 of a bare script over so many variables: it has no records
@@ -294,6 +344,36 @@ fn check_parents(job: &Job) -> Result<(), Refusal> {
         }
     }
     Ok(())
+}
+
+/// Check 13: "a node after record 0 whose parent is neither the record before it
+/// nor an ancestor of that record [...] with the first such record as index".
+fn check_order(job: &Job, mistake: Mistake) -> Result<(), Refusal> {
+    let hangs = |&index: &usize| {
+        let parent = job.nodes[index].parent as usize;
+        let before = match mistake {
+            Mistake::OrderFromTheNode => index,
+            _ => index - 1,
+        };
+        let most = match mistake {
+            Mistake::OrderTwoUp => 2,
+            _ => MAX_NODES,
+        };
+        way_up(&job.nodes, before)
+            .take(most)
+            .any(|above| above == parent)
+    };
+    match (1..job.nodes.len()).find(|index| !hangs(index)) {
+        Some(index) => refuse(Ending::Order, index),
+        None => Ok(()),
+    }
+}
+
+/// A record, its parent, and so on up to the root, by parents that passed check 5.
+fn way_up(nodes: &[Node], from: usize) -> impl Iterator<Item = usize> + '_ {
+    std::iter::successors(Some(from), |&index| {
+        (index > 0).then(|| nodes[index].parent as usize)
+    })
 }
 
 /// Check 6: "level above 1, or a tree rule broken".

@@ -2,7 +2,8 @@
 //! text alone. It is plain rather than fast: a tree of owned nodes, a cursor
 //! that is a path, and one function for each rule.
 //!
-//! - [`job`]: the job's bytes, checks 1 to 8 and 12; [`clean`]: the cleaning program.
+//! - [`job`]: the job's bytes, checks 1 to 8, 12 and 13; [`clean`] and [`arrange`]: the
+//!   programs for stored jobs.
 //! - [`run`]: checks 9 and 10, the steps, the whole outcome.
 //! - [`follow`] and [`table`]: a script over a lent tree; [`history`]: the events
 //!   of the `history` program.
@@ -13,6 +14,7 @@
 //! - [`mistake`]: planted mistakes for trying a harness.
 //! - [`print`] and [`shrink`]: for failing cases.
 
+pub mod arrange;
 pub mod clean;
 pub mod coverage;
 pub mod ending;

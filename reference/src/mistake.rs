@@ -100,6 +100,13 @@ pub enum Mistake {
     RightSideAlwaysChecked,
     /// A 17th nested block is accepted.
     SeventeenBlocksAccepted,
+    // The nodes' order.
+    /// A node's parent is sought from the node itself on, so that 13 never comes.
+    OrderFromTheNode,
+    /// Only the record before and its parent are looked at.
+    OrderTwoUp,
+    /// 13 is given after 6.
+    OrderAfterTree,
     // Spare bytes.
     /// 12 is given after 8.
     SpareAfterBlocks,
@@ -112,6 +119,17 @@ pub enum Mistake {
     CleanerHasNewRules,
     /// The last change comes first.
     ReportBackwards,
+    // The rearranger.
+    /// The rearranger turns back what today's rules do.
+    ArrangerHasNewRules,
+    /// The rearranger takes what the rules before R-4 take.
+    ArrangerHasFirstRules,
+    /// Records are moved, and their parents keep their numbers.
+    ArrangedParentsKept,
+    /// Children come from right to left.
+    ArrangedRightToLeft,
+    /// Level after level.
+    ArrangedByLevels,
     // Follow-on scripts.
     /// A script starts where the last one left the cursor, with cursor level 0.
     CursorStays,
@@ -158,7 +176,7 @@ pub const RULED_COMMANDS: [u8; 14] = [1, 6, 7, 8, 9, 10, 11, 12, 13, 14, 15, 16,
 
 impl Mistake {
     /// Every mistake that a job shows, without `None` and `NoRule`.
-    pub const ALL: [Mistake; 47] = [
+    pub const ALL: [Mistake; 50] = [
         Mistake::MoveRaisesCursorLevel,
         Mistake::ChildrenLevelFromChildren,
         Mistake::RootResetsCursorLevel,
@@ -203,6 +221,9 @@ impl Mistake {
         Mistake::LeftIsPreviousRecord,
         Mistake::RightSideAlwaysChecked,
         Mistake::SeventeenBlocksAccepted,
+        Mistake::OrderFromTheNode,
+        Mistake::OrderTwoUp,
+        Mistake::OrderAfterTree,
         Mistake::SpareAfterBlocks,
         Mistake::SpareScriptFirst,
         Mistake::UnreadNumberForgotten,
@@ -213,6 +234,15 @@ impl Mistake {
         Mistake::UnreadNumberForgotten,
         Mistake::CleanerHasNewRules,
         Mistake::ReportBackwards,
+    ];
+
+    /// The mistakes that the rearranger shows.
+    pub const ARRANGING: [Mistake; 5] = [
+        Mistake::ArrangerHasNewRules,
+        Mistake::ArrangerHasFirstRules,
+        Mistake::ArrangedParentsKept,
+        Mistake::ArrangedRightToLeft,
+        Mistake::ArrangedByLevels,
     ];
 
     /// The mistakes that only a follow-on script shows.

@@ -1,7 +1,8 @@
 //! The smallest failing case, or pair, for a predicate: takes the first
 //! smaller one that still fails, until there is none.
 
-use crate::generate::{renumber, Case, HistoryPair, Pair};
+use crate::arrange::{in_order, renumbered};
+use crate::generate::{Case, HistoryPair, Pair};
 use crate::history::{self, Event};
 use crate::job::{
     self, command, kind, operator, Block, Job, Node, Record, Target, Variable, READS,
@@ -84,22 +85,22 @@ fn smaller_cases(case: &Case) -> Box<dyn Iterator<Item = Case> + '_> {
     }
 }
 
-/// Edits of both sides, then of one. House nodes come last in both, so that a
-/// node of existence 0 has the same index on the left and on the right.
+/// Edits of both sides, then of one. House nodes come last in both while they are
+/// edited, so that a node of existence 0 has the same index on the left and on the
+/// right.
 fn smaller_pairs(pair: &Pair) -> Box<dyn Iterator<Item = Pair> + '_> {
     let sorted = |case: &Case| public_first(&job::split(&case.bytes).expect("accepted"));
     let (left, right) = (sorted(&pair.left), sorted(&pair.right));
     let build = |left: &Job, right: &Job| Pair {
         left: Case {
-            bytes: left.encode(),
+            bytes: hanging(left).encode(),
             limits: pair.left.limits,
         },
         right: Case {
-            bytes: right.encode(),
+            bytes: hanging(right).encode(),
             limits: pair.right.limits,
         },
     };
-    let in_order = build(&left, &right);
     let (left_edits, right_edits) = (edits(&left), edits(&right));
     let edited = left_edits
         .clone()
@@ -120,31 +121,29 @@ fn smaller_pairs(pair: &Pair) -> Box<dyn Iterator<Item = Pair> + '_> {
         smaller.right.limits = limits;
         smaller
     });
-    let candidates = std::iter::once(in_order).chain(edited).chain(limited);
-    Box::new(candidates.filter(move |candidate| candidate != pair))
+    Box::new(
+        edited
+            .chain(limited)
+            .filter(move |candidate| candidate != pair),
+    )
+}
+
+/// The job with its nodes in the order of R-10.
+fn hanging(job: &Job) -> Job {
+    Job {
+        nodes: in_order(&job.nodes),
+        ..job.clone()
+    }
 }
 
 /// The nodes of existence 0 before all others.
 fn public_first(job: &Job) -> Job {
     let (public, house): (Vec<usize>, Vec<usize>) =
         (0..job.nodes.len()).partition(|&index| job.nodes[index].existence == 0);
-    let order = [preorder_of(job, &public), house].concat();
     Job {
-        nodes: renumber(&job.nodes, &order),
+        nodes: renumbered(&job.nodes, &[public, house].concat()),
         ..job.clone()
     }
-}
-
-/// `indexes` in preorder, which does not depend on the record order.
-fn preorder_of(job: &Job, indexes: &[usize]) -> Vec<usize> {
-    let mut order = Vec::new();
-    let mut open = vec![0];
-    while let Some(index) = open.pop() {
-        order.push(index);
-        let is_child = |child: &&usize| **child > 0 && job.nodes[**child].parent as usize == index;
-        open.extend(indexes.iter().rev().filter(is_child));
-    }
-    order
 }
 
 fn edits(job: &Job) -> Vec<Edit> {
@@ -227,7 +226,7 @@ fn without_subtree(nodes: &[Node], index: usize) -> Vec<Node> {
         }
     }
     let kept: Vec<usize> = (0..nodes.len()).filter(|i| !removed.contains(i)).collect();
-    renumber(nodes, &kept)
+    renumbered(nodes, &kept)
 }
 
 /// Takes a variable away; the indexes above it in the script go down by one.

@@ -1,5 +1,5 @@
-//! Checks 1 to 8, and 12 before 8. Each section is read once; of two faults the
-//! one whose check comes first is given.
+//! Checks 1 to 8, with 13 before 6 and 12 before 8. Each section is read once; of
+//! two faults the one whose check comes first is given.
 
 use crate::arena::{Node, NONE};
 use crate::{ending, Answer, Buffers, Op, Variable};
@@ -129,18 +129,34 @@ fn check_variables(buffers: &mut Buffers, section: &[u8]) -> Result<Option<usize
     Ok(spare)
 }
 
-/// Checks 5 and 6, and the first node with a spare byte that is not zero. A 5 in
-/// any record comes before a 6 in any other.
+/// Checks 5, 13 and 6, and the first node with a spare byte that is not zero. A 5
+/// in any record comes before a 13 in any other, and that before a 6.
 fn check_nodes(buffers: &mut Buffers, section: &[u8]) -> Result<Option<usize>, Answer> {
     let parent = |bytes: &[u8]| u16::from_le_bytes([bytes[0], bytes[1]]);
+    let mut astray = None;
     for (index, bytes) in section.chunks_exact(12).enumerate() {
+        let above = parent(bytes) as usize;
         let right = match index {
-            0 => parent(bytes) == 65_535,
-            _ => (parent(bytes) as usize) < index,
+            0 => above == 65_535,
+            _ => above < index,
         };
         if !right {
             return Err(Answer::turned_back(ending::PARENT, index));
         }
+        if index > 0 && astray.is_none() {
+            // Up from the record before: what is left here no later node hangs below,
+            // so that all ways up together are no longer than the section.
+            let mut last = index - 1;
+            while last > above {
+                last = parent(&section[12 * last..]) as usize;
+            }
+            if last != above {
+                astray = Some(index);
+            }
+        }
+    }
+    if let Some(index) = astray {
+        return Err(Answer::turned_back(ending::ORDER, index));
     }
     let arena = &mut buffers.arena;
     arena.clear();

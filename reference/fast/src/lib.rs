@@ -37,6 +37,7 @@ pub mod ending {
     pub const BUFFER: u8 = 10;
     pub const STANDING: u8 = 11;
     pub const SPARE: u8 = 12;
+    pub const ORDER: u8 = 13;
     pub const RULE: u8 = 21;
     pub const MISSING: u8 = 22;
     pub const TABLE_FULL: u8 = 23;

@@ -77,7 +77,8 @@ impl Arguments {
 pub fn mistake_named(name: &str) -> Mistake {
     let all = all_mistakes()
         .chain(Mistake::FOLLOWING)
-        .chain(Mistake::CLEANING);
+        .chain(Mistake::CLEANING)
+        .chain(Mistake::ARRANGING);
     let mut named = all.chain([Mistake::None]);
     match named.find(|mistake| format!("{mistake:?}") == name) {
         Some(mistake) => mistake,

@@ -1,6 +1,23 @@
-//! Framed input, for the stand-ins.
+//! What the stand-ins read: framed input, or a stored job.
 
-use std::io::{self, ErrorKind, Read};
+use std::io::{self, ErrorKind, Read, Write};
+
+use reference::clean::Output;
+use reference::mistake::Mistake;
+
+use crate::arguments::mistake_named;
+
+/// Puts out what `output` says for the job on standard input. Where STANDIN_MISTAKE
+/// names a mistake it has that mistake.
+pub fn stand_in(output: fn(&[u8], Mistake) -> Output) -> io::Result<()> {
+    let named = std::env::var("STANDIN_MISTAKE");
+    let mistake = named.map_or(Mistake::None, |name| mistake_named(&name));
+    let mut job = Vec::new();
+    io::stdin().read_to_end(&mut job)?;
+    let output = output(&job, mistake);
+    io::stdout().write_all(&output.standard_output)?;
+    io::stderr().write_all(output.standard_error.as_bytes())
+}
 
 /// Reads a header: nothing at the input's end, false where it is cut.
 pub fn started(input: &mut impl Read, header: &mut [u8]) -> io::Result<Option<bool>> {

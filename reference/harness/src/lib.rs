@@ -3,7 +3,8 @@
 //! - [`frame`]: the frames that `replay` reads, and what it must print.
 //! - [`replay`]: a `replay` process.
 //! - [`portal`]: the portal that is tried: linked, fast, or the reference.
-//! - [`programs`]: what `board` and `inspect` must print; [`cleaner`]: `clean`.
+//! - [`programs`]: what `board` and `inspect` must print; [`stored`]: `clean` and
+//!   `arrange`.
 //! - [`differential`]: whole outcomes against the reference.
 //! - [`histories`]: scripts over a standing tree, through `history`.
 //! - [`leaks`]: pairs of jobs that agree on their public parts.
@@ -18,7 +19,6 @@
 
 pub mod arguments;
 pub mod bench;
-pub mod cleaner;
 pub mod clock;
 pub mod differential;
 pub mod frame;
@@ -35,4 +35,5 @@ pub mod progress;
 pub mod quick;
 pub mod replay;
 pub mod search;
+pub mod stored;
 pub mod workloads;

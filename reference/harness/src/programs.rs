@@ -81,6 +81,7 @@ fn name(ending: Ending) -> &'static str {
         Ending::Buffer => "buffers do not fit",
         Ending::Standing => unreachable!("only a follow-on script gets 11"),
         Ending::Spare => "spare byte not zero",
+        Ending::Order => "node out of order",
         Ending::Rule => "flow rule broken",
         Ending::Missing => "node does not exist",
         Ending::TableFull => "table full",

@@ -26,6 +26,8 @@ const HISTORY_PAIRS: &str = env!("CARGO_BIN_EXE_history_pairs");
 const STANDIN: &str = env!("CARGO_BIN_EXE_replay_standin");
 const CLEANER: &str = env!("CARGO_BIN_EXE_cleaner");
 const CLEAN_STANDIN: &str = env!("CARGO_BIN_EXE_clean_standin");
+const ARRANGER: &str = env!("CARGO_BIN_EXE_arranger");
+const ARRANGE_STANDIN: &str = env!("CARGO_BIN_EXE_arrange_standin");
 
 fn started(program: &str, words: &[&str]) -> Output {
     let output = Command::new(program)
@@ -165,7 +167,7 @@ fn outcomes_can_be_read_back() {
         assert_eq!(frame::parse(&frame::text(&outcome)), Some(outcome));
     }
     assert_eq!(frame::parse("ending 0 index 0 steps 0 lines 1\n"), None);
-    assert_eq!(frame::parse("ending 13 index 0 steps 0 lines 0\n"), None);
+    assert_eq!(frame::parse("ending 14 index 0 steps 0 lines 0\n"), None);
     assert_eq!(frame::parse("index 0 ending 0 steps 0 lines 0\n"), None);
     assert_eq!(frame::parse(""), None);
 }
@@ -446,28 +448,35 @@ fn no_leak_in_histories() {
     assert!(text.contains("no outcome"), "{text}");
 }
 
-/// The cleaner's streams: no difference where there is none, each planted mistake
-/// found, in the reference and in the program.
+/// The streams of a program for stored jobs: no difference where there is none,
+/// each planted mistake found, in the reference and in the program.
+fn stored(harness: &str, name: &str, stand_in: &str, mistakes: &[Mistake]) {
+    let option = format!("--{name}");
+    let common = [option.as_str(), stand_in, "--jobs", "1000"];
+    let jobs = |words: &[&str], status| ended(harness, &[&common[..], words].concat(), status);
+    let text = jobs(&[], 0);
+    let same = format!("1000 jobs through {name}, no difference");
+    assert!(text.contains(&same), "{text}");
+    jobs(&["--each-mistake"], 0);
+    for mistake in mistakes {
+        let mistake = format!("{mistake:?}");
+        let text = jobs(&["--mistake", &mistake], 1);
+        let unlike = format!("{name} differs from the reference");
+        assert!(text.contains(&unlike), "{text}");
+        let wrong = Command::new(harness)
+            .args(common)
+            .env("STANDIN_MISTAKE", mistake)
+            .status();
+        assert_eq!(wrong.expect("the program starts").code(), Some(1));
+    }
+}
+
 #[test]
 fn cleaning() {
-    let jobs = |words: &[&str], status| {
-        let all = [&["--clean", CLEAN_STANDIN, "--jobs", "1000"], words].concat();
-        ended(CLEANER, &all, status)
-    };
-    let text = jobs(&[], 0);
-    assert!(
-        text.contains("1000 jobs through clean, no difference"),
-        "{text}"
-    );
-    jobs(&["--each-mistake"], 0);
-    for mistake in Mistake::CLEANING {
-        let name = format!("{mistake:?}");
-        let text = jobs(&["--mistake", &name], 1);
-        assert!(text.contains("clean differs from the reference"), "{text}");
-    }
-    let wrong = Command::new(CLEANER)
-        .args(["--clean", CLEAN_STANDIN, "--jobs", "1000"])
-        .env("STANDIN_MISTAKE", "ReportBackwards")
-        .status();
-    assert_eq!(wrong.expect("the program starts").code(), Some(1));
+    stored(CLEANER, "clean", CLEAN_STANDIN, &Mistake::CLEANING);
+}
+
+#[test]
+fn rearranging() {
+    stored(ARRANGER, "arrange", ARRANGE_STANDIN, &Mistake::ARRANGING);
 }

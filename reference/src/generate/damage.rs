@@ -89,6 +89,7 @@ fn damage_parent(random: &mut Random, job: &mut Job) {
         place,
         place + 1,
         place.saturating_sub(1),
+        random.below(place.max(1)),
         0,
         job.nodes.len(),
         65_535,
@@ -113,7 +114,7 @@ fn damage_siblings(random: &mut Random, job: &mut Job) {
     if job.nodes.len() + 3 > MAX_NODES {
         return;
     }
-    let parent = random.below(job.nodes.len());
+    let parent = some_ancestor(random, &job.nodes);
     job.nodes[parent].list = 1;
     let house = job.nodes.len() as u16;
     job.nodes.push(node(parent as u16, [1, 1, 1], 0));
@@ -121,6 +122,19 @@ fn damage_siblings(random: &mut Random, job: &mut Job) {
         job.nodes.push(node(house, [1, 1, 1], 0));
     }
     job.nodes.push(node(parent as u16, [0, 0, 0], 0));
+}
+
+/// The last record, or a record on the way up from it: below it a new node may
+/// stand last.
+fn some_ancestor(random: &mut Random, nodes: &[Node]) -> usize {
+    let mut place = nodes.len() - 1;
+    while random.chance(2, 3) {
+        match usize::from(nodes[place].parent) {
+            parent if parent < place => place = parent,
+            _ => break,
+        }
+    }
+    place
 }
 
 fn damage_record(random: &mut Random, job: &mut Job) {

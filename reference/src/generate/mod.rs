@@ -7,15 +7,17 @@ mod history_pairs;
 mod nodes;
 mod pairs;
 mod script;
+mod shuffled;
 
 pub use damage::damaged;
 pub use dirty::{dirty, full_of_notes};
 pub use history::history;
 pub use history_pairs::{history_pair, HistoryPair};
-pub use nodes::renumber;
 use nodes::Growth;
 pub use pairs::{pair, pair_with, Pair};
+pub use shuffled::{shuffled, shuffled_greatest};
 
+use crate::arrange::in_order;
 use crate::ending::Ending;
 use crate::job::{Job, Record, Variable, MAX_VARIABLES, READS};
 use crate::mistake::{Mistake, RULED_COMMANDS};
@@ -32,10 +34,11 @@ pub struct Case {
 }
 
 /// A valid case three times out of five, else a damaged one; one in twenty with
-/// notes in its spare bytes.
+/// notes in its spare bytes, and one with its nodes in any order.
 pub fn case(seed: u64) -> Case {
     match seed % 20 {
         19 => dirty(seed),
+        18 => shuffled(seed),
         other if other % 5 < 3 => valid(seed),
         _ => damaged(seed),
     }
@@ -56,7 +59,7 @@ fn valid_job(random: &mut Random) -> (Job, Limits) {
     let growth = Growth::some(random, Random::value);
     let mut job = Job {
         variables: variables(random),
-        nodes: nodes::any(random, growth),
+        nodes: in_order(&nodes::any(random, growth)),
         script: Vec::new(),
     };
     let levels = levels(&job.variables);

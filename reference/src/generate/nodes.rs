@@ -1,6 +1,8 @@
 //! Trees as node records. Each new node becomes its parent's last child, so
-//! that a parent comes before its children and siblings stand in order.
+//! that a parent comes before its children and siblings stand in order; who makes
+//! a job of them lists them the way they hang (R-10).
 
+use crate::arrange::renumbered;
 use crate::job::{Node, MAX_NODES, NO_PARENT};
 use crate::random::Random;
 use crate::source::node;
@@ -40,6 +42,11 @@ pub fn any(random: &mut Random, growth: Growth) -> Vec<Node> {
         11..=30 => 1,
         _ => random.between(2, 9),
     };
+    grown(random, growth, count)
+}
+
+/// A tree of so many nodes.
+pub fn grown(random: &mut Random, growth: Growth, count: usize) -> Vec<Node> {
     let mut nodes = vec![root(random, growth)];
     while nodes.len() < count {
         let parent = some_parent(random, nodes.len(), growth);
@@ -84,8 +91,9 @@ pub fn add_house(random: &mut Random, nodes: &mut Vec<Node>, most: usize, growth
     }
 }
 
-/// The same tree in another record order: "A parent comes before its children;
-/// siblings stand left to right in record order. Otherwise the order is open."
+/// The same tree in another record order, as jobs had it before R-10: "A parent
+/// comes before its children; siblings stand left to right in record order.
+/// Otherwise the order is open."
 pub fn reorder(random: &mut Random, nodes: &[Node]) -> Vec<Node> {
     let mut order = Vec::new();
     let mut ready = vec![0];
@@ -98,22 +106,7 @@ pub fn reorder(random: &mut Random, nodes: &[Node]) -> Vec<Node> {
         ready.extend((index + 1..nodes.len()).find(same_parent));
         ready.extend((index + 1..nodes.len()).find(child_of));
     }
-    renumber(nodes, &order)
-}
-
-/// The nodes of `order`, with the parents' new indexes.
-pub fn renumber(nodes: &[Node], order: &[usize]) -> Vec<Node> {
-    let new_index = |old: u16| match order.iter().position(|&index| index == old as usize) {
-        Some(new) => new as u16,
-        None => old,
-    };
-    order
-        .iter()
-        .map(|&index| Node {
-            parent: new_index(nodes[index].parent),
-            ..nodes[index]
-        })
-        .collect()
+    renumbered(nodes, &order)
 }
 
 fn root(random: &mut Random, growth: Growth) -> Node {

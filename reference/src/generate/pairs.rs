@@ -3,6 +3,7 @@
 
 use super::nodes::Growth;
 use super::{levels_of, likely_mistake, limits, nodes, script, trial_ending, Case};
+use crate::arrange::in_order;
 use crate::ending::Ending;
 use crate::job::{self, Job, Node, Record, Variable};
 use crate::mistake::Mistake;
@@ -88,7 +89,7 @@ pub fn agreeing(random: &mut Random) -> (Job, Job) {
     let most = random.between(0, 5);
     for job in [&mut left, &mut right] {
         nodes::add_house(random, &mut job.nodes, most, growth);
-        job.nodes = nodes::reorder(random, &job.nodes);
+        job.nodes = in_order(&job.nodes);
     }
     (left, right)
 }

@@ -1,6 +1,6 @@
 use reference::mistake::{Mistake, RULED_COMMANDS};
 use reference::run::{self, Outcome};
-use reference::{clean, generate};
+use reference::{arrange, clean, generate};
 
 use super::cases;
 
@@ -30,6 +30,23 @@ fn every_mistake_of_the_cleaner_is_found() {
         let found = (0..2_000).position(|seed| {
             let bytes = generate::dirty(seed).bytes;
             clean::output(&bytes, mistake) != clean::output(&bytes, Mistake::None)
+        });
+        println!("{mistake:?}: case {found:?}");
+        assert!(found.is_some(), "{mistake:?}");
+    }
+}
+
+/// Every mistake of the rearranger shows in what it puts out for some case whose
+/// nodes stand in any order, or that has notes.
+#[test]
+fn every_mistake_of_the_rearranger_is_found() {
+    for mistake in Mistake::ARRANGING {
+        let found = (0..2_000).position(|seed| {
+            let bytes = match seed % 4 {
+                0 => generate::dirty(seed).bytes,
+                _ => generate::shuffled(seed).bytes,
+            };
+            arrange::output(&bytes, mistake) != arrange::output(&bytes, Mistake::None)
         });
         println!("{mistake:?}: case {found:?}");
         assert!(found.is_some(), "{mistake:?}");

@@ -1,6 +1,7 @@
 //! The paper's trials, endings, edges and example, and the readings of its
 //! text.
 
+mod arrange;
 mod back;
 mod clean;
 mod edges;

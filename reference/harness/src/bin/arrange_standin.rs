@@ -1,0 +1,5 @@
+//! A stand-in for `arrange`, the reference itself, with which the harness is tried.
+
+fn main() -> std::io::Result<()> {
+    harness::input::stand_in(reference::arrange::output)
+}
