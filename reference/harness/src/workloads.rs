@@ -2,6 +2,7 @@
 //! same.
 
 use fast::follow::Record as LentRecord;
+use reference::arrange::in_order;
 use reference::history::store;
 use reference::job::{Job, Node, Record, Variable, MAX_NODES, MAX_RECORDS, MAX_VARIABLES};
 use reference::source::*;
@@ -84,16 +85,12 @@ pub fn table() -> Vec<Workload> {
             &full(|index| index - 1),
         ),
         checking(
-            "checking a full job, nodes in level order",
-            &full(level_order),
+            "checking a full job, two nodes below each node",
+            &full(|index| (index - 1) / 2),
         ),
         checking(
-            "checking a full job, children of 128 parents in turn",
-            &full(in_turn),
-        ),
-        checking(
-            "checking a full job, a child for each of 255 parents, last parent first",
-            &full(last_first),
+            "checking a full job, a chain of 256 nodes with a leaf for each",
+            &full(leaves_of_a_chain),
         ),
         small_job(),
         once("1,024 records, insert and remove", &insertions(512)),
@@ -409,10 +406,11 @@ fn checking(name: &str, parts: &Job) -> Workload {
     }
 }
 
-/// As many of everything as there may be.
+/// As many of everything as there may be; the nodes in the order of R-10.
 fn full(parent: fn(u16) -> u16) -> Job {
     let mut nodes = vec![root_node(PLAIN, 0)];
     nodes.extend((1..MAX_NODES as u16).map(|index| node(parent(index), PLAIN, 1)));
+    let nodes = in_order(&nodes);
     let some = [
         assign(0, sum(variable(0), variable(63))),
         when(less(value(), children())),
@@ -426,31 +424,13 @@ fn full(parent: fn(u16) -> u16) -> Job {
     )
 }
 
-/// A whole binary tree, level after level: the parents never fall, and each
-/// first child's parent is far back.
-fn level_order(index: u16) -> u16 {
-    (index - 1) / 2
-}
-
-/// 128 children of the root, then again and again one child for each: the left
-/// sibling stands 128 records back.
-fn in_turn(index: u16) -> u16 {
-    const PARENTS: u16 = 128;
+/// A chain, then a leaf for each of its nodes, the last parent first. Who searches
+/// back, record by record, from each leaf to its left sibling passes 65,025 others.
+fn leaves_of_a_chain(index: u16) -> u16 {
+    const CHAIN: u16 = 256;
     match index {
-        0..=PARENTS => 0,
-        _ => 1 + (index - 1) % PARENTS,
-    }
-}
-
-/// 256 children of the root, then a child for each, the last parent first. A
-/// search back to the left sibling or the parent passes 65,281 records in all;
-/// no order makes it pass more than 65,536, since a record is the first such one
-/// for two others at most.
-fn last_first(index: u16) -> u16 {
-    const PARENTS: u16 = 256;
-    match index {
-        0..=PARENTS => 0,
-        _ => 2 * PARENTS + 1 - index,
+        0..CHAIN => index - 1,
+        _ => 2 * CHAIN - 1 - index,
     }
 }
 
@@ -459,6 +439,7 @@ fn small_parts() -> Job {
     let mut nodes = vec![root_node(PLAIN, 10)];
     nodes.extend([node(0, PLAIN, 1), node(0, PLAIN, 2), node(0, PLAIN, 3)]);
     nodes.extend((4..20).map(|index| node(1 + index % 3, PLAIN, i32::from(index))));
+    let nodes = in_order(&nodes);
     let mut script = vec![
         repeat(less(variable(0), constant(8))),
         assign(0, sum(variable(0), constant(1))),
