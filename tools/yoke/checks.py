@@ -1,4 +1,4 @@
-"""The checks 1 to 12."""
+"""The checks 1 to 13."""
 
 from typing import NamedTuple
 
@@ -20,14 +20,16 @@ class Fault(NamedTuple):
 
 
 class Edition(NamedTuple):
-    """Which rules a program checks by: how many commands there are, and whether spare bytes are zero."""
+    """Which rules a program checks by: how many commands there are, whether spare bytes are zero, and whether nodes are listed the way they hang."""
 
     commands: int
     spare: bool
+    order: bool
 
 
-TODAY = Edition(len(COMMANDS), True)
-STORED = Edition(17, False)  # the cleaner's, whatever lands later
+TODAY = Edition(len(COMMANDS), True, True)
+STORED = Edition(17, False, False)  # the cleaner's, whatever lands later
+UNORDERED = Edition(20, True, False)  # the rearranger's
 
 
 def plural(count, noun):
@@ -35,7 +37,7 @@ def plural(count, noun):
 
 
 def check(data, edition=TODAY):
-    """The first of the checks 1 to 8 that the bytes fail, with 12 before 8 unless spare bytes may hold anything, or None."""
+    """The first of the checks 1 to 8 that the bytes fail, or None; where the edition has them, 13 comes before 6 and 12 before 8."""
     if not 8 <= len(data) <= MAX_BYTES:
         return Fault(1, 0, "", 0, len(data),
                      f"the job has {plural(len(data), 'byte')}; it must have 8 to {MAX_BYTES:,}")
@@ -47,6 +49,7 @@ def check(data, edition=TODAY):
     return first_fault((
         (4, "variable", 0, VARIABLE.size, variable_faults(job)),
         (5, "node", nodes, NODE.size, parent_faults(job)),
+        *([(13, "node", nodes, NODE.size, order_faults(job))] if edition.order else ()),
         (6, "node", nodes, NODE.size, tree_faults(job)),
         (7, "record", script, RECORD.size, field_faults(job.records, len(job.variables), edition.commands)),
         *(spare_searches(data, job) if edition.spare else ()),
@@ -125,6 +128,18 @@ def parent_faults(job):
             yield index, "it has no parent; only node 0, the root, may have none"
         elif index > 0 and node.parent >= index:
             yield index, f"its parent is node {node.parent}; a parent must come before its children"
+
+
+def order_faults(job):
+    path = []  # the record before, and all above it from the root on
+    for index, node in enumerate(job.nodes):
+        if index and node.parent not in path:
+            yield index, (f"its parent is node {node.parent}, whose subtree has ended: "
+                          f"the record before it is node {index - 1}, which is not below node {node.parent}")
+            return
+        if index:
+            del path[path.index(node.parent) + 1:]
+        path.append(index)
 
 
 def tree_faults(job):

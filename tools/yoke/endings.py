@@ -14,6 +14,7 @@ ENDINGS = {
     10: "buffers do not fit",
     11: "follow-on not whole",
     12: "spare byte not zero",
+    13: "node out of order",
     21: "flow rule broken",
     22: "node does not exist",
     23: "table full",

@@ -6,7 +6,7 @@ from .encoding import Job, Node, Variable
 from .errors import JobError, SourceError, Text, word
 from .limits import MAX_VARIABLES, NO_PARENT, PUBLIC
 from .script import Script
-from .words import Token, Words, natural, scan
+from .words import Token, Words, scan
 
 SECTIONS = ("variables", "tree", "script")
 LEVEL_WORDS = ("public", "house", "content", "list", "record")
@@ -151,19 +151,10 @@ class Declared:
         self.names[name.text] = name.place
 
 
-class Drawn(NamedTuple):
-    """A line of the tree section."""
-
-    name: Token
-    levels: tuple
-    value: int
-    record: object  # the index that is asked for, as a token, or None
-    parent: object  # the index of the parent's line among the lines, or None
-
-
 def parse_tree(lines):
-    """Lines such as `cellar house = 5`, `gate content house list house = 7`, `hut = 3 record 4`."""
-    drawn, above = [], []  # above: the indent and index of each line on the way to the root
+    """Lines such as `cellar house = 5`, `gate content house list house = 7`. The job has its node records in their order: each is followed by its subtree."""
+    nodes, names, places = [], [], []
+    above = []  # the indent and index of each line on the way to the root
     for line in lines:
         while above and above[-1][0] > line.indent:
             above.pop()
@@ -171,19 +162,15 @@ def parse_tree(lines):
                 raise SourceError(line.place(), "this indentation is that of no line above")
         if above and above[-1][0] == line.indent:
             above.pop()
-        drawn.append(parse_node(line, above[-1][1] if above else None))
-        above.append((line.indent, len(drawn) - 1))
-    indexes = number_nodes(drawn)
-    nodes, names, places = ([None] * len(drawn) for _ in range(3))
-    for item, index in zip(drawn, indexes):
-        parent = NO_PARENT if item.parent is None else indexes[item.parent]
-        nodes[index] = Node(parent, *item.levels, item.value)
-        names[index] = item.name.text
-        places[index] = item.name.place
+        name, levels, value = parse_node(line)
+        above.append((line.indent, len(nodes)))
+        nodes.append(Node(above[-2][1] if len(above) > 1 else NO_PARENT, *levels, value))
+        names.append(name.text)
+        places.append(name.place)
     return nodes, names, places
 
 
-def parse_node(line, parent):
+def parse_node(line):
     words = Words(line)
     name = words.name("a node's name")
     if name.text in LEVEL_WORDS:
@@ -193,32 +180,8 @@ def parse_node(line, parent):
     below = words.need_level() if words.take("list") else existence
     words.need("=")
     value = words.number()
-    record = None
-    if words.take("record"):
-        record = words.of_kind("number", "a record's number")
+    record = words.take("record")
+    if record:
+        raise SourceError(record.place, "a node's record has no number of its own any more: the records stand in the order of these lines")
     words.finish()
-    return Drawn(name, (existence, content, below), value, record, parent)
-
-
-def number_nodes(drawn):
-    """The record index of each node: the one that is asked for, or the next that nobody asks for."""
-    asked = {}
-    for item in drawn:
-        if item.record is None:
-            continue
-        index = natural(item.record.text)
-        if index >= len(drawn):
-            raise SourceError(item.record.place, f"node records go from 0 to {len(drawn) - 1} here")
-        if index in asked:
-            raise SourceError(item.record.place, f"record {index} is asked for twice, first in line {asked[index].place.line}")
-        asked[index] = item.record
-    free = (index for index in range(len(drawn)) if index not in asked)
-    indexes = [next(free) if item.record is None else natural(item.record.text) for item in drawn]
-    last = {}
-    for item, index in zip(drawn, indexes):
-        if last.get(item.parent, -1) > index:
-            raise SourceError((item.record or item.name).place,
-                              f"'{word(item.name.text)}' is record {index} and stands right of record {last[item.parent]}; "
-                              "siblings stand left to right in record order")
-        last[item.parent] = index
-    return indexes
+    return name, (existence, content, below), value

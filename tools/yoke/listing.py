@@ -61,7 +61,7 @@ def preorder(nodes):
 
 
 def listing(job):
-    """An accepted job as source. Reading it back gives the job's bytes, spare ones as zero."""
+    """An accepted job as source. Reading it back gives the job's bytes."""
     variables = [f"v{index}" for index in range(len(job.variables))]
     lines = []
     if job.variables:
@@ -69,12 +69,9 @@ def listing(job):
         for name, variable in zip(variables, job.variables):
             lines.append(f"  {name}{levels_text(variable.level, variable.level, variable.level)} = {variable.value}")
     lines.append("tree")
-    order = preorder(job.nodes)
-    in_order = all(place == index for place, (index, _) in enumerate(order))
-    for index, depth in order:
+    for index, depth in preorder(job.nodes):
         node = job.nodes[index]
-        at = "" if in_order else f" record {index}"
-        lines.append(f"{'  ' * (depth + 1)}n{index}{levels_text(*node[1:4])} = {node.value}{at}")
+        lines.append(f"{'  ' * (depth + 1)}n{index}{levels_text(*node[1:4])} = {node.value}")
     if job.records:
         lines += script_lines(job.records, variables)
     return "\n".join(lines) + "\n"

@@ -44,8 +44,6 @@ expressions, with one operator at most:
 
 What the board says is public. Where it ends may depend on house numbers, too:
 show a board only where the run has finished (tools/job probe --help).
-
-A node may have a fixed place among the job's records: `hut = 3 record 4`.
 """
 
 DESCRIPTIONS = {
@@ -88,6 +86,17 @@ there was ending 12 is refused by its old number, and nothing is written. The
 program for this is clean, in target/bin or $CLEAN.
 
   tools/job clean stored.job cleaned.job
+""",
+    "arrange": """\
+Lists the nodes of a stored job the way they hang: each is followed at once by
+its whole subtree, children from left to right. The monitor refuses a job with
+its nodes in another order (ending 13). It says which nodes have another number
+now; that goes to standard error where the job goes to standard output. The
+tree is the same, so the job runs exactly as the old one did. A job that was
+refused before there was ending 13 is refused by its old number, and nothing is
+written. The program for this is arrange, in target/bin or $ARRANGE.
+
+  tools/job arrange stored.job arranged.job
 """,
     "picture": """\
 Draws the tree of a source or a job: in characters, or as SVG. House parts are

@@ -105,7 +105,7 @@ def read_outcome(text):
     return Outcome(ending, record, steps, lines, variables, tree)
 
 
-# clean: one stored job, with the rules that it was stored under.
+# clean and arrange: one stored job, with the rules that it was stored under.
 
 
 class Change(NamedTuple):
@@ -117,16 +117,17 @@ class Change(NamedTuple):
     old: int
 
 
-class Cleaned(NamedTuple):
-    """The cleaner's answer: the cleaned bytes and what was changed; or refused is the number and the index, and there is nothing else."""
+class Stored(NamedTuple):
+    """A program's answer: the job as it is now and what clean changed; or refused is the number and the index, and there is nothing else."""
 
     data: bytes
     changes: list
     refused: tuple = ()
 
 
-def clean(data):
-    child = start("clean")
+def stored(name, data):
+    """What clean or arrange makes of a stored job."""
+    child = start(name)
     output, error = child.communicate(data)
     rows = error.decode("utf-8", "replace").split("\n")
     try:
@@ -134,12 +135,12 @@ def clean(data):
             raise ValueError("its standard error is cut off" if rows else "it ended early")
         if not output:
             (row,) = rows
-            return Cleaned(b"", [], tuple(int(number) for number in re.fullmatch(r"refused (\d+) at (\d+)", row).groups()))
+            return Stored(b"", [], tuple(int(number) for number in re.fullmatch(r"refused (\d+) at (\d+)", row).groups()))
         if len(output) != len(data):
             raise ValueError(f"{len(data)} bytes expected, there are {len(output)}")
-        return Cleaned(output, [Change(*(int(number) for number in row.split(" "))) for row in rows])
+        return Stored(output, [Change(*(int(number) for number in row.split(" "))) for row in rows])
     except (ValueError, TypeError, AttributeError) as problem:
-        raise misread("clean", problem, child.returncode, error.decode("utf-8", "replace")) from None
+        raise misread(name, problem, child.returncode, error.decode("utf-8", "replace")) from None
 
 
 # replay: many jobs in one process, with limits of their own. history: a job, and scripts over the tree that it leaves.

@@ -6,7 +6,7 @@ import traceback
 from pathlib import Path
 
 from .account import refusal_lines, report
-from .checks import STORED, byte_name, check, check_limits, check_section, describe, plural
+from .checks import STORED, UNORDERED, byte_name, check, check_limits, check_section, describe, plural
 from .drawings import svg_picture
 from .encoding import decode
 from .endings import ENDINGS, FINISHED, REFUSALS, STOPS, refused
@@ -16,9 +16,9 @@ from .files import (
     source_of_job, source_of_section, warn_of, write_bytes)
 from .history import History, Part, read_part
 from .limits import ASKED_BUDGET, ASKED_LINES, ASKED_PLACES, HOME, PROGRAM, Limits
-from .listing import listing, record_text, script_lines
+from .listing import listing, preorder, record_text, script_lines
 from .manual import DESCRIPTIONS, LANGUAGE, STATUS
-from .monitor import clean, history, outcome
+from .monitor import history, outcome, stored
 from .pictures import pictured, text_picture
 from .probe import Variations, boards, probe_report, terminal_progress
 from .run import Run
@@ -86,24 +86,50 @@ def list_section(options):
 
 
 def do_clean(options):
+    _, answer = made_of_stored("clean", options, STORED, "writes zero in every byte that nobody reads")
+    write_stored(options, answer, changed_rows(options.job, decode(answer.data), answer.changes))
+    return 0
+
+
+def do_arrange(options):
+    data, answer = made_of_stored("arrange", options, UNORDERED, "lists the nodes the way they hang")
+    write_stored(options, answer, moved_rows(options.job, decode(data)))
+    return 0
+
+
+def made_of_stored(name, options, edition, assembled):
+    """A stored job, and what a program makes of it that keeps the rules of an edition."""
     data = read_bytes(options.job)
     if is_source(data):
-        raise JobError(f"{shown(options.job)}: this is a source and no job; `{PROGRAM} assemble` writes zero in every byte that nobody reads")
-    answer = clean(data)
+        raise JobError(f"{shown(options.job)}: this is a source and no job; `{PROGRAM} assemble` {assembled}")
+    answer = stored(name, data)
     if answer.refused:
         need_no_utf16(data, options.job)
-        fault = check(data, STORED)
+        fault = check(data, edition)
         if fault is None or (fault.number, fault.index) != answer.refused:
-            raise JobError(f"{shown(options.job)}: the cleaner refused this job with {answer.refused[0]} at {answer.refused[1]}, and this tool "
-                           f"{'holds that it is ' + describe(fault) if fault else 'accepts it'}\nThe cleaner is right. Please report this job.")
+            raise JobError(f"{shown(options.job)}: {name} refused this job with {answer.refused[0]} at {answer.refused[1]}, and this tool "
+                           f"{'holds that it is ' + describe(fault) if fault else 'accepts it'}\n{name} is right. Please report this job.")
         raise RefusedError(shown(options.job), fault)
+    return data, answer
+
+
+def write_stored(options, answer, rows):
+    """What was changed goes to standard error where the job goes to standard output."""
     write_bytes(options.output, answer.data)
-    rows = "\n".join(changed_rows(options.job, decode(answer.data), answer.changes))
+    said = "\n".join(rows)
     if options.output == "-":
-        warn(rows)
+        warn(said)
     else:
-        print(rows)
-    return 0
+        print(said)
+
+
+def moved_rows(path, job):
+    """Which nodes of a stored job have another number in the order of the tree."""
+    moved = [(old, new) for new, (old, _) in enumerate(preorder(job.nodes)) if old != new]
+    if not moved:
+        return [f"{shown(path)}: the nodes were in order, and the job stays as it is"]
+    return ([f"{shown(path)}: {len(moved):,} of {plural(len(job.nodes), 'node')} {'has' if len(moved) == 1 else 'have'} another number now"]
+            + [f"  node {old} is node {new}" for old, new in sorted(moved)])
 
 
 def changed_rows(path, job, changes):
@@ -287,6 +313,9 @@ def parser():
     one = verb("clean", "zero in every byte of a stored job that nobody reads", do_clean)
     one.add_argument("job", metavar="IN", help="a job, or - for standard input")
     one.add_argument("output", metavar="OUT", help="where to write the cleaned job, - for standard output; it may be IN")
+    one = verb("arrange", "the nodes of a stored job listed the way they hang", do_arrange)
+    one.add_argument("job", metavar="IN", help="a job, or - for standard input")
+    one.add_argument("output", metavar="OUT", help="where to write the rearranged job, - for standard output; it may be IN")
     one = verb("picture", "the tree of a source or job", do_picture)
     one.add_argument("job", metavar="JOB|SOURCE", help="a job or a source, or - for standard input")
     kinds = one.add_mutually_exclusive_group()
