@@ -37,15 +37,11 @@ class Bytes(unittest.TestCase):
         self.assertEqual([data[at:at + 5].hex() for at in range(0, 72, 12)],
                          ["ffff000000", "0000000100", "0000000001", "0200010101", "0000010000", "0000000101"])
 
-    def test_record_places(self):
-        data = assembled("tree\n  a = 1 record 0\n    b = 2 record 1\n      c = 3 record 3\n    d = 4 record 2\n")
-        self.assertEqual([data[at:at + 12].hex() for at in range(0, 48, 12)],
-                         ["ffff00000000000001000000", "000000000000000002000000",
-                          "000000000000000004000000", "010000000000000003000000"])
-
-    def test_places_that_nobody_asks_for_are_filled_in_order(self):
-        data = assembled("tree\n  a = 1\n    b = 2\n      c = 3 record 3\n    d = 4\n")
-        self.assertEqual([data[at + 8] for at in range(0, 48, 12)], [1, 2, 4, 3])
+    def test_nodes_are_listed_the_way_they_hang(self):
+        data = assembled("tree\n  a = 1\n    b = 2\n      c = 3\n        d = 4\n      e = 5\n    f = 6\n      g = 7\n")
+        self.assertEqual([data[at:at + 12].hex() for at in range(0, 84, 12)],
+                         ["ffff00000000000001000000", "000000000000000002000000", "010000000000000003000000", "020000000000000004000000",
+                          "010000000000000005000000", "000000000000000006000000", "050000000000000007000000"])
 
     def test_trailer(self):
         data = assembled(VARIABLES + TREE + "script\n  up\n")
@@ -148,7 +144,6 @@ class Program(unittest.TestCase):
         for text, place, number in (
                 ("tree\n  a house = 1\n", ":2:3:", 6),
                 ("tree\n  a = 1\n  b = 1\n", ":3:3:", 5),
-                ("tree\n  a = 1\n    b = 2 record 0\n", ":3:5:", 5),
                 ("tree\n  a = 1\n    b house = 1\n", ":3:5:", 6),
                 ("tree\n  a list house = 1\n    b house = 1\n    c = 1\n", ":4:5:", 6),
                 ("tree\n  a = 1\nscript\n" + "".join(" " * (n + 2) + "if 1\n" for n in range(17)) + " " * 19 + "up\n", ":20:19:", 8),

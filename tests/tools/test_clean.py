@@ -76,7 +76,7 @@ class Clean(unittest.TestCase):
                 self.assertIn("clean answered in a form that this tool does not know", done.error)
 
     def test_generated_jobs(self):
-        """What comes out is accepted and has the same source; what the rules before 12 refuse is refused, later commands among it."""
+        """What comes out is accepted, but for its nodes' order, and has the same source; what the rules before 12 refuse is refused, later commands among it."""
         kinds = set()
         for data in generated("dirty", 7, 300):
             if data and 0 not in data:
@@ -85,7 +85,7 @@ class Clean(unittest.TestCase):
             kinds.add((fault is None, job.check(data) is None))
             self.assertEqual(done.status, 0 if fault is None else 1)
             if fault is None:
-                self.assertIsNone(job.check(done.bytes))
+                self.assertIsNone(job.check(done.bytes, job.UNORDERED))
                 self.assertEqual(done.bytes, job.decode(data).clean().encode())
         # Refused by the old rules and accepted today: a job with a later command.
         self.assertEqual(kinds, {(True, True), (True, False), (False, False), (False, True)})

@@ -9,7 +9,7 @@ WORDS = ["if", "else", "while", "end", "print", "root", "first child", "new righ
          "value", "children", "mean(", ")", ",", ":", ":=", "=", "<", "-", "house", "content house", "list house", "record", "tree",
          "script", "99999999999", "\0", "\x1b", "\t", "\n", "  ", "#", "é"]
 VERBS = (("run", "-"), ("run", "-", "--trace", "--budget", "300"), ("assemble", "-", "-o", "-"), ("list", "-"), ("picture", "-"),
-         ("picture", "-", "--svg", "-"), ("clean", "-", "-"), ("probe", "-", "--count", "5", "--budget", "1000"))
+         ("picture", "-", "--svg", "-"), ("clean", "-", "-"), ("arrange", "-", "-"), ("probe", "-", "--count", "5", "--budget", "1000"))
 BASE = HOME / "examples" / "season.yoke"
 BARE_VERBS = (("run", str(BASE), "-"), ("run", str(BASE), "-", "--trace", "--budget", "300"), ("list", "--bare", "-"),
               ("assemble", "--bare", "-", "-o", "-", "--tree", str(BASE)), ("list", "--bare", "-", "--tree", str(BASE)))
@@ -35,7 +35,8 @@ class Damaged(unittest.TestCase):
         dice, seen = random.Random(2), set()
         for _ in range(250):
             data, words = damaged(dice, *dice.choice(pairs)), dice.choice(verbs)
-            done = tool(*words, data=data, INSPECT=program("inspect"), REPLAY=program("replay"), HISTORY=program("history"), CLEAN=program("clean"))
+            done = tool(*words, data=data, INSPECT=program("inspect"), REPLAY=program("replay"), HISTORY=program("history"), CLEAN=program("clean"),
+                        ARRANGE=program("arrange"))
             self.assertIn(done.status, (0, 1, 2))
             for text in (done.bytes.decode("utf-8", "replace"), done.error):
                 self.assertNotIn("lease report", text, (words, data))

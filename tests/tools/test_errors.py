@@ -79,10 +79,7 @@ SOURCES = (
     ("tree\n  a content = 1\n", 2, 13, "'=' stands where 'public' or 'house' is expected"),
     ("tree\n  a list house content house = 1\n", 2, 16, "'content' stands where '=' is expected"),
     ("tree\n  a = 1\n      b = 1\n    c = 1\n", 4, 5, "this indentation is that of no line above"),
-    ("tree\n  a = 1 record 1\n", 2, 16, "node records go from 0 to 0 here"),
-    ("tree\n  a = 1 record 0\n    b = 1 record 0\n", 3, 18, "record 0 is asked for twice, first in line 2"),
-    ("tree\n  a = 1\n    b = 1 record 2\n    c = 1 record 1\n", 4, 18, "siblings stand left to right in record order"),
-    ("tree\n  a = 1 record x\n", 2, 16, "'x' stands where a record's number is expected"),
+    ("tree\n  a = 1\n    b = 1 record 1\n", 3, 11, "a node's record has no number of its own any more: the records stand in the order of these lines"),
 )
 
 

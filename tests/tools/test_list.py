@@ -46,6 +46,9 @@ DAMAGED = (
     (with_nodes((0, 0, 0, 0)), 5, 0, "node 0, bytes 0 to 11: it is the root, so its parent must be 65535, not 0"),
     (with_nodes(TOP, (1, 0, 0, 0)), 5, 1, "node 1, bytes 12 to 23: its parent is node 1; a parent must come before"),
     (with_nodes(TOP, TOP), 5, 1, "it has no parent"),
+    (with_nodes(TOP, (0, 0, 0, 0), (0, 0, 0, 0), (1, 0, 0, 0)), 13, 3,
+     "node 3, bytes 36 to 47: its parent is node 1, whose subtree has ended: the record before it is node 2, which is not below node 1"),
+    (with_nodes(TOP, (0, 0, 0, 0), (1, 0, 0, 0), (1, 0, 0, 0), (2, 0, 0, 0)), 13, 4, "its parent is node 2, whose subtree has ended"),
     (with_nodes(TOP, (0, 2, 2, 2)), 6, 1, "its existence level is 2"),
     (with_nodes((65535, 0, 3, 0)), 6, 0, "its content level is 3"),
     (with_nodes((65535, 0, 0, 4)), 6, 0, "its list level is 4"),
@@ -77,6 +80,8 @@ DAMAGED = (
     (with_script(*[b"\x02"] * 17 + [b"\x05"] * 17), 8, 16, "it opens the 17th nested block"),
     # Each check goes over its whole section before the next number starts.
     (with_nodes((65535, 1, 1, 1), TOP), 5, 1, "it has no parent"),
+    (with_nodes(TOP, (0, 0, 0, 0), (0, 0, 0, 0), (1, 0, 0, 0), TOP), 5, 4, "it has no parent"),
+    (with_nodes((65535, 1, 1, 1), (0, 0, 0, 0), (0, 0, 0, 0), (1, 0, 0, 0), (2, 0, 0, 0)), 13, 3, "its parent is node 1, whose subtree has ended"),
     (with_script(b"\x05", b"\x14"), 7, 1, "its command is 20"),
     (with_script(b"\0\1", b"\x14"), 7, 1, "its command is 20"),
     (with_script(b"\x05", b"\0\1"), 12, 1, "its byte 1, of the target, is 1"),
@@ -111,10 +116,6 @@ class Lists(unittest.TestCase):
     def test_a_clean_job(self):
         done = tool("list", "-", data=assembled(CLEAN))
         self.assertEqual((done.status, done.error, done.output), (0, "", CLEAN))
-
-    def test_order_of_records(self):
-        text = "tree\n  n0 = 1 record 0\n    n1 = 2 record 1\n      n3 = 3 record 3\n    n2 = 4 record 2\n"
-        self.assertEqual(tool("list", "-", data=assembled(text)).output, text)
 
     def test_a_source_is_no_job(self):
         done = tool("list", str(HOME / "examples" / "first.yoke"))
@@ -205,7 +206,8 @@ class RoundTrips(unittest.TestCase):
 
     def test_generated_jobs(self):
         jobs = generated("clean", 20_000, 400)
-        texts = [self.back_and_forth(data) for data in jobs]
+        for data in jobs:
+            self.back_and_forth(data)
         # The jobs have everything that a source can say.
         records = [record for data in jobs for record in job.decode(data).records]
         self.assertEqual({record.command for record in records}, set(range(20)))
@@ -213,7 +215,6 @@ class RoundTrips(unittest.TestCase):
         self.assertEqual({r.target for r in records if r.command == job.NEW_RIGHT_SIBLING}, {0, 1, 2, 3})
         self.assertEqual({r.operator for r in records if r.operands()}, set(range(6)))
         self.assertEqual({kind for r in records for kind, _ in r.operands()}, set(range(4)))
-        self.assertEqual({" record " in text for text in texts}, {True, False})
 
     def test_examples(self):
         sources = examples()
@@ -243,7 +244,7 @@ class Checks(unittest.TestCase):
                 self.assertEqual(answer, [f"ending {fault.number} index {fault.index} steps 0 lines 0"], data.hex())
             else:
                 self.assertRegex(answer[0], r"^ending (0|2[0-9]) ", data.hex())
-        self.assertEqual(seen, {*range(1, 9), 12})
+        self.assertEqual(seen, {*range(1, 9), 12, 13})
 
 
 if __name__ == "__main__":

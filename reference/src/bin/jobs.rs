@@ -2,8 +2,8 @@
 //! its length (32 bits, little-endian) and its bytes.
 //!
 //! `jobs clean SEED COUNT`: accepted jobs. `jobs dirty SEED COUNT`: accepted and
-//! damaged ones with notes in bytes that nobody reads. `jobs any SEED COUNT`:
-//! accepted, dirty and damaged ones, as they come.
+//! damaged ones with notes in bytes that nobody reads. `jobs shuffled SEED COUNT`:
+//! with their nodes in any order. `jobs any SEED COUNT`: all of these, as they come.
 
 use reference::generate;
 use std::io::{self, BufWriter, Write};
@@ -20,6 +20,7 @@ fn main() -> ExitCode {
     let make: fn(u64) -> Vec<u8> = match kind.as_str() {
         "clean" => |seed| generate::valid(seed).bytes,
         "dirty" => |seed| generate::dirty(seed).bytes,
+        "shuffled" => |seed| generate::shuffled(seed).bytes,
         "any" => |seed| generate::case(seed).bytes,
         _ => return usage(),
     };
@@ -33,7 +34,7 @@ fn main() -> ExitCode {
 }
 
 fn usage() -> ExitCode {
-    eprintln!("usage: jobs clean|dirty|any SEED COUNT");
+    eprintln!("usage: jobs clean|dirty|shuffled|any SEED COUNT");
     ExitCode::from(2)
 }
 

@@ -2,7 +2,7 @@
 
 use super::*;
 use reference::clean::{clean, output, Change};
-use reference::job::{command, decode, decode_first, section};
+use reference::job::{command, decode, decode_first, decode_unordered, section};
 use reference::mistake::Mistake;
 
 /// Variables, nodes and script with a byte changed at `place`.
@@ -175,7 +175,8 @@ fn generated_jobs_run_as_before() {
             continue;
         };
         let old = decode_first(&case.bytes, Mistake::None).expect("accepted");
-        let new = decode(&cleaned).expect("accepted");
+        // The cleaner is older than 13.
+        let new = decode_unordered(&cleaned, Mistake::None).expect("accepted");
         assert!(reference::public::same_script(&old, &new));
         assert_eq!(
             section(&new.script),
