@@ -20,9 +20,9 @@
 #include <stdint.h>
 
 /* The version of this header and of the library beside it. The first number changes where a program must be changed. */
-#define PORTAL_VERSION "1.7.0"
+#define PORTAL_VERSION "1.8.0"
 #define PORTAL_VERSION_MAJOR 1
-#define PORTAL_VERSION_MINOR 7
+#define PORTAL_VERSION_MINOR 8
 #define PORTAL_VERSION_PATCH 0
 
 /* The largest job, in bytes. Read up to one byte more, so that a longer one is seen and turned back. */
@@ -69,6 +69,7 @@ enum {
     PORTAL_BAD_BUFFERS = 10,        /* more than 512 places; to portal_start also too few places or variables. portal_run has room for every job */
     PORTAL_BAD_FOLLOW_ON = 11,      /* the script is no whole records or more than 1,024, or no accepted job could hold what stands in table and variables */
     PORTAL_SPARE_BYTE = 12,         /* a byte that nobody reads is not zero */
+    PORTAL_BAD_ORDER = 13,          /* a node's parent is neither the record before it nor above that record */
     PORTAL_FLOW = 21,               /* a command would have let house data flow to the public */
     PORTAL_NO_NODE = 22,            /* the node to go to, to remove or to come back to does not exist */
     PORTAL_TABLE_FULL = 23,         /* a new node, where there are as many as places */
@@ -185,6 +186,7 @@ static inline const char *portal_ending_name(int ending) {
     case PORTAL_BAD_BUFFERS: return "buffers do not fit";
     case PORTAL_BAD_FOLLOW_ON: return "follow-on not whole";
     case PORTAL_SPARE_BYTE: return "spare byte not zero";
+    case PORTAL_BAD_ORDER: return "node out of order";
     case PORTAL_FLOW: return "flow rule broken";
     case PORTAL_NO_NODE: return "node does not exist";
     case PORTAL_TABLE_FULL: return "table full";

@@ -61,7 +61,7 @@ expect("a job of no bytes", frame(b"") + frame(PAPER), "job 0\n" + answer(1) + "
 
 # A tree that is walked up by more than one step: under the root 1 the nodes 2 and 3, under 2 the node 4, under 4 the nodes 5 and 6.
 NODES = b"".join(node(*fields) for fields in [
-    (65535, 0, 0, 1, 1), (0, 0, 1, 1, 2), (0, 1, 1, 1, -3), (1, 0, 0, 1, 4), (3, 0, 0, 0, -2147483648), (3, 1, 1, 1, 2147483647)])
+    (65535, 0, 0, 1, 1), (0, 0, 1, 1, 2), (1, 0, 0, 1, 4), (2, 0, 0, 0, -2147483648), (2, 1, 1, 1, 2147483647), (0, 1, 1, 1, -3)])
 expect("a tree", frame(job(b"", NODES)), "job 0\n" + answer(0) +
        "node 0 0 0 1 1\nnode 1 0 1 1 2\nnode 2 0 0 1 4\nnode 3 0 0 0 -2147483648\nnode 3 1 1 1 2147483647\nnode 1 1 1 1 -3\n")
 

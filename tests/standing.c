@@ -532,15 +532,20 @@ static uint32_t some_number(void) {
     return numbers[below(8)];
 }
 
-/* A job with an empty script, whose tree keeps the rules. */
+/* A job with an empty script, whose tree keeps the rules. Each node hangs below the record before it or above that. */
 static void random_job(size_t vars, size_t nodes) {
     static uint8_t existence[PORTAL_MAX_PLACES], list[PORTAL_MAX_PLACES], last[PORTAL_MAX_PLACES];
+    static size_t parent[PORTAL_MAX_PLACES];
     for (size_t i = 0; i < vars; i++) {
         put(below(2), 4);
         put(any(), 4);
     }
     for (size_t i = 0; i < nodes; i++) {
-        size_t up = i == 0 ? 0 : below((uint32_t)i);
+        size_t up = i == 0 ? 0 : i - 1;
+        while (up != 0 && one_in(2)) {
+            up = parent[up];
+        }
+        parent[i] = up;
         uint8_t least = i == 0 ? 0 : last[up], most = i == 0 ? 0 : list[up];
         existence[i] = last[i] = one_in(3) ? most : least;
         list[i] = one_in(2) ? 1 : existence[i];

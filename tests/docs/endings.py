@@ -8,7 +8,7 @@ import unittest
 from support import HOME, assembled, job, program
 
 # "Ways a job can end" of paper 01, and those of paper 02. No job ends with 11: it is for follow-on scripts alone.
-NUMBERS = [*range(1, 13), 21, 22, 23, 24, 25, 27]
+NUMBERS = [*range(1, 14), 21, 22, 23, 24, 25, 27]
 BY_REPLAY = (9, 10)
 BY_HISTORY = 11
 

@@ -21,6 +21,7 @@ pub fn name(buf: &mut [u8; SIZE], out: Out, ending: u8) -> Out
         9 => text(buf, out, b"budget out of range"),
         10 => text(buf, out, b"buffers do not fit"),
         12 => text(buf, out, b"spare byte not zero"),
+        13 => text(buf, out, b"node out of order"),
         21 => text(buf, out, b"flow rule broken"),
         22 => text(buf, out, b"node does not exist"),
         23 => text(buf, out, b"table full"),
