@@ -48,6 +48,14 @@ static const uint8_t forever[68] = {
     5, 0, 0, 0, 0, 0, 0, 0, 0, 0, 0, 0, 0, 0, 0, 0,
     0, 0, 0, 0, 12, 0, 60, 0};
 
+/* A node that hangs below record 1 and stands behind record 2. */
+static const uint8_t astray[56] = {
+    0xff, 0xff, 0, 0, 0, 0, 0, 0, 10, 0, 0, 0, /* the root */
+    0, 0, 0, 0, 0, 0, 0, 0, 1, 0, 0, 0,
+    0, 0, 0, 0, 0, 0, 0, 0, 2, 0, 0, 0,
+    1, 0, 0, 0, 0, 0, 0, 0, 3, 0, 0, 0,
+    0, 0, 0, 0, 48, 0, 48, 0};
+
 /* An area that is not there, of length 0. */
 static void no_area(void) {
     uint64_t answer = portal_run(example, sizeof example, 1, NULL, 0);
@@ -61,14 +69,14 @@ static void no_area(void) {
 static void names(void) {
     int named = 0;
     for (int ending = -1; ending <= 40; ending++) {
-        int known = ending == 0 || (1 <= ending && ending <= 12) || (21 <= ending && ending <= 25) || ending == 27;
+        int known = ending == 0 || (1 <= ending && ending <= 13) || (21 <= ending && ending <= 25) || ending == 27;
         same("portal_ending_name", "known", known, strcmp(portal_ending_name(ending), "unknown") != 0);
         named += known;
         for (int other = 0; known && other < ending; other++) {
             same("portal_ending_name", "another name", 1, strcmp(portal_ending_name(ending), portal_ending_name(other)) != 0);
         }
     }
-    same("portal_ending_name", "how many", 19, named);
+    same("portal_ending_name", "how many", 20, named);
     same("portal_ending_name", "finished", 0, strcmp(portal_ending_name(PORTAL_FINISHED), "finished"));
 }
 
@@ -100,6 +108,7 @@ int main(void) {
     expect("23049 bytes", zeros, 23049, 1, ROOM, PORTAL_WRONG_SIZE, 0);
     expect("23048 zero bytes", zeros, 23048, 1, ROOM, PORTAL_BROKEN_LAYOUT, 0);
     expect("8 zero bytes", zeros, 8, 1, ROOM, PORTAL_BAD_COUNT, 0);
+    expect("a node behind the subtree of its parent", astray, sizeof astray, 1, ROOM, PORTAL_BAD_ORDER, 0);
     expect("the largest budget that is allowed", example, sizeof example, PORTAL_MAX_BUDGET, ROOM, PORTAL_FINISHED, 1);
     expect("a budget above", example, sizeof example, PORTAL_MAX_BUDGET + 1, ROOM, PORTAL_BAD_BUDGET, 0);
     expect("the largest size", zeros, PORTAL_MAX_JOB, 1, ROOM, PORTAL_BROKEN_LAYOUT, 0);

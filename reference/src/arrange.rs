@@ -49,7 +49,8 @@ pub fn in_order(nodes: &[Node]) -> Vec<Node> {
 /// one after the other.
 fn order(nodes: &[Node], right_to_left: bool) -> Vec<usize> {
     let mut order = Vec::new();
-    let mut waiting = vec![0];
+    // From the root on, where there is one.
+    let mut waiting: Vec<usize> = (0..nodes.len().min(1)).collect();
     while let Some(index) = waiting.pop() {
         order.push(index);
         let mut children = children(nodes, index);
