@@ -1,7 +1,7 @@
 //! Pairs of histories of the same scripts, from jobs that agree on their public
 //! parts.
 
-use super::pairs::{agreeing, both_finish};
+use super::pairs::{agreeing, aimed, both_finish};
 use super::{levels_of, likely_mistake, script};
 use crate::history::{kind, Event};
 use crate::job::{self, Job, Record};
@@ -78,7 +78,7 @@ fn some_script(random: &mut Random, sides: &[Standing; 2], last: bool) -> Vec<Re
     };
     let finishes = &mut |script: &[Record]| both_finish(sides, script, mistake);
     match (last, random.below(4)) {
-        (true, 0 | 1) => script::probing(random, &levels, finishes),
+        (true, 0 | 1) => aimed(random, &levels, finishes, mistake),
         (true, _) => script::looking(random, &levels, finishes),
         (false, 0) => script::short(random, &levels, finishes),
         (false, _) => script::leaving(random, &levels, finishes),

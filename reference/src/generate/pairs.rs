@@ -10,7 +10,7 @@ use crate::mistake::Mistake;
 use crate::public::{self, Leak};
 use crate::random::Random;
 use crate::run::{self, Limits, Standing};
-use crate::{HOUSE, PUBLIC};
+use crate::{Level, HOUSE, PUBLIC};
 
 #[derive(Clone, Debug, PartialEq, Eq)]
 pub struct Pair {
@@ -130,21 +130,35 @@ fn common_script(random: &mut Random, sides: &[Standing; 2], mistake: Mistake) -
     let mut script = Vec::new();
     for _ in 0..3 {
         let accept = &mut |script: &[Record]| both_finish(script, mistake);
-        // Few scripts show what a single move gives away, so some are aimed at it.
-        script = match mistake {
-            Mistake::NoRule(command) if script::MOVES.contains(&command) => {
-                script::branching(random, &levels, accept, command)
-            }
-            Mistake::LastJoinsExistence | Mistake::LastJoinsNothing => {
-                script::going_last(random, &levels, accept)
-            }
-            _ => script::probing(random, &levels, accept),
-        };
+        script = aimed(random, &levels, accept, mistake);
         if mistake == Mistake::None || !both_finish(&script, Mistake::None) {
             return script;
         }
     }
     script
+}
+
+/// A script that looks for what `mistake` gives away. Few scripts show it of a single
+/// move, so some are aimed at it.
+pub fn aimed(
+    random: &mut Random,
+    levels: &[Level],
+    accept: script::Accept,
+    mistake: Mistake,
+) -> Vec<Record> {
+    match mistake {
+        Mistake::NoRule(command) if script::MOVES.contains(&command) => {
+            script::branching(random, levels, accept, command)
+        }
+        Mistake::MoveRaisesCursorLevel => {
+            let command = random.pick(&script::MOVES);
+            script::branching(random, levels, accept, command)
+        }
+        Mistake::LastJoinsExistence | Mistake::LastJoinsNothing => {
+            script::going_last(random, levels, accept)
+        }
+        _ => script::probing(random, levels, accept),
+    }
 }
 
 /// Whether a monitor with `mistake` finishes the script over both.
