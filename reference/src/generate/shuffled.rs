@@ -3,18 +3,22 @@
 
 use super::nodes::{self, Growth};
 use super::{damaged, valid, valid_job, Case};
+use crate::arrange::in_order;
 use crate::job::{split, Job, Node, MAX_NODES, NO_PARENT};
 use crate::random::Random;
 use crate::run::{Limits, MAX_PLACES};
 
-/// The case of a seed with its nodes in another order, or the same where there is
-/// no other.
+/// Draws for another order before the nodes stay in order: most trees that have
+/// another have many.
+const DRAWS: usize = 8;
+
+/// The case of a seed with its nodes in another order, where its tree has one.
 pub fn shuffled(seed: u64) -> Case {
     let mut random = Random::new(seed ^ 0x7368_7566_666c_6564);
     let case = match random.below(6) {
         0 | 1 => damaged(seed),
-        2 => {
-            let count = random.between(10, 200);
+        2 | 3 => {
+            let count = random.between(5, 100);
             grown(&mut random, count)
         }
         _ => valid(seed),
@@ -44,7 +48,11 @@ fn hang(nodes: &[Node]) -> bool {
 }
 
 fn reordered(random: &mut Random, job: Job, limits: Limits) -> Case {
-    let nodes = nodes::reorder(random, &job.nodes);
+    let ordered = in_order(&job.nodes);
+    let mut drawn = (0..DRAWS).map(|_| nodes::reorder(random, &job.nodes));
+    let nodes = drawn
+        .find(|nodes| *nodes != ordered)
+        .unwrap_or_else(|| ordered.clone());
     Case {
         bytes: Job { nodes, ..job }.encode(),
         limits,
