@@ -29,7 +29,7 @@ class Numbers(unittest.TestCase):
     def test_thousands_of_digits(self):
         digits = "9" * 5_000
         for text, place in ((f"variables\n  a = {digits}\n", "2:7"), (f"tree\n  a = -{digits}\n", "2:7"),
-                            (f"tree\n  a = 1 record {digits}\n", "2:16"), (f"tree\n  a = 1\nscript\n  print {digits}\n", "4:9")):
+                            (f"tree\n  a = 1 record {digits}\n", "2:9"), (f"tree\n  a = 1\nscript\n  print {digits}\n", "4:9")):
             done = tool("assemble", "-", "-o", "-", data=text)
             self.assertEqual((done.status, done.bytes), (2, b""))
             self.assertTrue(done.error.startswith(f"<standard input>:{place}: error: "), done.error)
