@@ -1,15 +1,15 @@
 -- What the scan of a section comes to, by the searches that it makes: where all records are right, the first that is not both right and clean is the first that is
 -- not clean. Assumes nothing.
 use mathlib.Core.Path.{_≡_, refl, sym, ap, _∙_}
-use mathlib.Core.Bool.{Bool, true, false, _&&_, and-true}
+use mathlib.Core.Bool.{Bool, true, false, _&&_}
 use mathlib.Core.List.{List}
 use Prim.Native.Nat.{ℕ, _≤_, _<_}
 use native.Mathlib.Omega.{arith}
 use lib.Dec.{ltb}
-use borrow.Author.Tests.{le-ltb, ltb-true, ltb-false}
-use Rattle.rules.specs.Limits.{commandCount}
+use borrow.Author.Tests.{lt-ltb, le-ltb, ltb-true, ltb-false}
+use Rattle.rules.specs.Limits.{commandCount, badNode, badOrder}
 use Rattle.rules.specs.Bytes.{byte, recordPlace}
-use Rattle.rules.specs.Check.{Checked, refused, Edition, firstFault, requireIf, first, unordered, ordered, today, nodeRule, recordRule, recordRuleIn, recordClean}
+use Rattle.rules.specs.Check.{Checked, refused, Edition, firstFault, requireEach, requireIf, first, unordered, ordered, today, orderRule, nodeRule, recordRule, recordRuleIn, nodeClean, recordClean}
 use Rattle.rules.proofs.Tests.{Test, holds, fails, test, both, clash}
 use Rattle.rules.proofs.Search.{fault-agree, all-pass, none-faulty}
 use Rattle.rules.proofs.Checks.{stopped, through}
@@ -18,7 +18,8 @@ use Rattle.job.specs.declared.checks.Edition.the-variants.{First, Unorde
 use Rattle.job.specs.declared.checks.Scan.{Scan}
 use Rattle.job.specs.declared.checks.Scan.the-variants.{Faulty, Passed}
 use Rattle.job.specs.Fields.{knownRule}
-use Rattle.job.specs.Fits.{nodeFits, recordFits}
+use Rattle.job.specs.Fits.{recordFits}
+use Rattle.job.specs.Hanging.{AllFit}
 use Rattle.job.specs.Answer.{editionOf, recordRules, asked, scanOf, scanned}
 
 module _ (rules : Edition) (right clean : ℕ → Bool) (n : ℕ) where
@@ -45,6 +46,14 @@ module _ (rules : Edition) (right clean : ℕ → Bool) (n : ℕ) where
       by (fails t) =
           let all = all-pass right n f (ltb-false k n t) in
           rw (a, ← f, t, e ∙ fault-agree fit clean n 0 (λ i l m. rw (all i (omega arith))))
+
+  pub one-faulty : {k : ℕ} → k ≡ firstFault right n 0 → k < n → Faulty k ≡ scanned rules right clean n
+  unfolding scanned scanOf
+  one-faulty {k} e h = rw (← e, lt-ltb k n h)
+
+  pub none-wrong : {k u : ℕ} → k ≡ firstFault right n 0 → n ≤ k → u ≡ asked (rules .spare) clean n → Passed u ≡ scanned rules right clean n
+  unfolding scanned scanOf
+  none-wrong {k} {u} e h a = rw (← e, le-ltb k n h, ← a)
 
 -- what a scan that has come to something says
 module _ (fault unclean n i : ℕ) where
@@ -82,11 +91,6 @@ module _ (number : ℕ) (on : Bool) (good : ℕ → Bool) (n : ℕ) (c : Checked
       by (holds t) = rw t (through number good n c (rw t at e) h)
       by (fails t) = rw t
 
--- the searches of nodes and records, as the rules have them
-pub nodes-right : (b : List ℕ) (base n : ℕ) → firstFault (nodeFits false b base) n 0 ≡ firstFault (nodeRule b base) n 0
-unfolding nodeFits
-nodes-right b base n = fault-agree (nodeFits false b base) (nodeRule b base) n 0 (λ i l m. and-true (nodeRule b base i))
-
 -- an edition that has check 12 has the commands of the table
 twice : (a c : Bool) → (a && (a && c)) ≡ (a && c)
 twice true c = refl
@@ -108,3 +112,18 @@ module _ (rules : Named.Edition) (b : List ℕ) (vars base n : ℕ) where
       ≡ firstFault (fit (editionOf rules) (recordRules (editionOf rules) b vars base) (recordClean b base) n) n 0
   unfolding recordFits recordClean
   records-fit s = fault-agree _ _ n 0 (λ i l m. rw (all-known rules b vars (recordPlace base i) s))
+
+-- where all n nodes pass 13, 6 and 12, no edition finds a fault in them
+module _ (b : List ℕ) (base n : ℕ) (f : AllFit b base n) where
+  none-asked : (on : Bool) (good : ℕ → Bool) → ((i : ℕ) → i < n → good i ≡ true) → n ≡ asked on good n
+  unfolding asked
+  none-asked true good h = sym (none-faulty good n h)
+  none-asked false good h = refl
+
+  pub fit-clean : (on : Bool) → n ≡ asked on (nodeClean b base) n
+  fit-clean on = none-asked on (nodeClean b base) (λ i h. f .each i h .clean)
+
+  pub fit-through : (on : Bool) (c : Checked) → requireIf on badOrder (orderRule b base) n (requireEach badNode (nodeRule b base) n c) ≡ c
+  fit-through on c =
+      asked-through badOrder on (orderRule b base) n _ (none-asked on (orderRule b base) (λ i h. f .each i h .order)) (omega arith)
+      ∙ through badNode (nodeRule b base) n c (sym (none-faulty (nodeRule b base) n (λ i h. f .each i h .node))) (omega arith)

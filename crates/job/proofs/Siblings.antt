@@ -42,11 +42,11 @@ module _ (b : List ℕ) (base p : ℕ) where
           let z : k ≡ j = cc in ap (parent b base) (sym z) ∙ eqb-true _ _ q
       go (fails q) r = let f : nearest b base p k ≡ some j = rw (q, nearest) at e in r f
 
-  near-here : (k : ℕ) → parent b base k ≡ p → nearest b base p (suc k) ≡ some k
+  pub near-here : (k : ℕ) → parent b base k ≡ p → nearest b base p (suc k) ≡ some k
   unfolding nearest
   near-here k e = rw (eq-eqb (parent b base k) p e)
 
-  near-past : (k : ℕ) → (parent b base k ≡ p → ⊥) → nearest b base p (suc k) ≡ nearest b base p k
+  pub near-past : (k : ℕ) → (parent b base k ≡ p → ⊥) → nearest b base p (suc k) ≡ nearest b base p k
   unfolding nearest
   near-past k n = rw (ne-eqb (parent b base k) p n)
 

@@ -4,12 +4,8 @@ use mathlib.Core.Bool.{Bool, _&&_, _||_, not, cond}
 use mathlib.Core.List.{List, [], _∷_}
 use lib.Dec.{leb, ltb, eqb}
 use Rattle.rules.specs.Bytes.{byte, full}
-use Rattle.rules.specs.Check.{nodeRule, nodeClean, operandRule, recordRule, hasNumber, recordReads, spareRule}
+use Rattle.rules.specs.Check.{operandRule, recordRule, hasNumber, recordReads, spareRule}
 use Rattle.job.specs.Fields.{double}
-
--- check 6 of node i, and where 12 is asked for that too
-unfoldable pub nodeFits : Bool → List ℕ → ℕ → ℕ → Bool
-nodeFits spare b base i = nodeRule b base i && (not spare || nodeClean b base i)
 
 -- the checks 7 and 12, of the record at a place
 unfoldable pub recordFits : List ℕ → ℕ → ℕ → Bool

@@ -3,6 +3,7 @@ pub mod Layout
 pub mod Siblings
 pub mod Fields
 pub mod Fits
+pub mod Hanging
 pub mod Parts
 pub mod Plan
 pub mod Answer

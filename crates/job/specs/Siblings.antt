@@ -1,14 +1,17 @@
--- What the search for a left sibling goes by: the nodes before it and the last child of each. Assumes nothing.
+-- What check 6 goes by: the node itself, the nodes before it and the last child of each, and its left sibling. Assumes nothing.
 use mathlib.Core.Path.{_≡_}
-use mathlib.Core.Bool.{true, cond}
+use mathlib.Core.Bool.{Bool, true, _&&_, cond}
 use mathlib.Core.Option.{Option, none, some}
 use mathlib.Core.List.{List}
 use Prim.Native.Nat.{ℕ, zero, suc, _+_, _≤_, _<_}
-use lib.Dec.{ltb}
+use lib.Dec.{eqb, ltb}
 use lib.ListN.{length, getD}
 use Rattle.rules.specs.Limits.{maxNodes, nodeSize}
+use Rattle.rules.specs.Level.{public, notAbove}
 use Rattle.rules.specs.Bytes.{nodePlace}
-use Rattle.rules.specs.Check.{parentRule, nearest}
+use Rattle.rules.specs.Check.{parent, existence, parentRule, labelRule, nearest}
+use Rattle.job.specs.declared.nodes.Found.{Found}
+use Rattle.job.specs.declared.nodes.Found.the-variants.{At, Nothing}
 
 -- n nodes lie within the bytes, and their parents are right
 pub record Linked (b : List ℕ) (base n : ℕ) : Type 0 where
@@ -35,3 +38,16 @@ pub record Lasts (b : List ℕ) (base i : ℕ) (xs : List ℕ) : Type 0 where
 -- where the search for a child of p starts, by the last one: behind it, or behind p where there is none
 unfoldable pub behind : ℕ → ℕ → ℕ
 behind last p = cond (ltb last p) (suc p) (suc last)
+
+-- what check 6 asks of node i alone
+unfoldable pub ownRule : List ℕ → ℕ → ℕ → Bool
+ownRule b base i = labelRule b base i && cond (eqb i 0) (notAbove (existence b base i) public) true
+
+-- what the search comes to
+unfoldable pub leftOf : Found → Option ℕ
+leftOf (At j) = some j
+leftOf Nothing = none
+
+-- it is the left sibling of node i
+abbrev pub Beside : List ℕ → ℕ → ℕ → Found → Type 0
+Beside b base i left = nearest b base (parent b base i) i ≡ leftOf left

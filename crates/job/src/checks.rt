@@ -1,10 +1,11 @@
-// The checks of a job's bytes: 1 to 8 in order of number, with 13 between 5 and 6 and 12 between 7 and 8. The passes of 4, 6 and 7 find the first record with a spare byte that is not zero too,
-// so 12 has no pass of its own.
+// The checks of a job's bytes: 1 to 8 in order of number, with 13 between 5 and 6 and 12 between 7 and 8. An accepted job takes a pass for 4 with 12, for 5, for 13 with 6 and
+// 12, for 7 with 12, and for 8; where a pass finds a record that fails, its checks are made one by one.
 use crate::blocks;
 use crate::nodes;
 use crate::nodes::order_ok;
 use crate::nodes::parent_ok;
 use crate::plan::WORDS;
+use crate::preorder;
 use crate::records;
 use crate::sections::Layout;
 use crate::sections::counts_ok;
@@ -158,15 +159,14 @@ fn scan_nodes(job: &[u8], l: Layout, rules: Edition) -> Scan
     requires { ⌜ Linked (now job) (l .tree) (l .nodes) ⌝ }
     ensures { λ r. ⌜ r ≡ scanned (editionOf rules) (nodeRule (now (job .entry)) (l .tree)) (nodeClean (now (job .entry)) (l .tree)) (l .nodes) ⌝ }
 {
-    let count = l.nodes;
-    if !has_spare(rules) {
-        return scan_of(nodes::first_fault(job, l.tree, count, false), count, count);
+    let fault = nodes::first_fault(job, l.tree, l.nodes);
+    if fault < l.nodes {
+        return Scan::Faulty(fault);
     }
-    let unfit = nodes::first_fault(job, l.tree, count, true);
-    if unfit == count {
-        return Scan::Passed(count);
+    if has_spare(rules) {
+        return Scan::Passed(nodes::first_unclean(job, l.tree, l.nodes));
     }
-    scan_of(nodes::first_fault(job, l.tree, count, false), unfit, count)
+    Scan::Passed(l.nodes)
 }
 
 // The checks 7 and 12, of the script.
@@ -316,6 +316,10 @@ fn check_nodes(job: &[u8], l: Layout, variable: usize, rules: Edition, plan: &mu
             number: BAD_PARENT,
             index,
         };
+    }
+    // Nodes that pass 13, 6 and 12 have no fault by any edition.
+    if preorder::all_fit(job, l.tree, l.nodes) {
+        return check_job_script(job, l, variable, l.nodes, rules, plan);
     }
     let index = first_unordered(job, l, rules);
     if index < l.nodes {

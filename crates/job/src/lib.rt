@@ -1,9 +1,10 @@
-// A job's bytes: the checks 1 to 8 and 12, the fields of an accepted job, and the plan of its script; and the checks of a follow-on script.
+// A job's bytes: the checks 1 to 8, 12 and 13, the fields of an accepted job, and the plan of its script; and the checks of a follow-on script.
 mod blocks;
 mod checks;
 mod follow_on;
 pub mod nodes;
 pub mod plan;
+mod preorder;
 pub mod reads;
 pub mod records;
 pub mod rows;

@@ -9,16 +9,14 @@ use rules::limits::MAX_NODES;
 use rules::limits::NO_PARENT;
 use rules::limits::NODE_SIZE;
 ghost use mathlib.Core.Path.{_≡_};
-ghost use mathlib.Core.Bool.{_||_, not};
 ghost use Prim.Native.Nat.{suc, _+_, _<_, _≤_};
 ghost use lib.ListN.{length, getD};
 ghost use Rattle.rules.specs.Limits.{nodeSize};
 ghost use Rattle.rules.specs.Bytes.{nodePlace};
-ghost use Rattle.rules.specs.Check.{parent, parentRule, orderRule, labelRule, nearest, leftRule, childRule, nodeClean, firstFault};
+ghost use Rattle.rules.specs.Check.{parent, parentRule, orderRule, labelRule, childRule, nodeRule, nodeClean, firstFault};
 ghost use Rattle.rules.specs.Job.{labelOf};
 ghost use Rattle.job.specs.Fields.{levelsOf};
-ghost use Rattle.job.specs.Fits.{nodeFits};
-ghost use Rattle.job.specs.Siblings.{Linked, Rooted, Lasts, behind};
+ghost use Rattle.job.specs.Siblings.{Linked, Rooted, Lasts, Beside, ownRule, behind};
 
 pub fn parent_at(job: &[u8], base: usize, i: usize) -> usize
     requires { ⌜ nodePlace base i + nodeSize ≤ length (now job) ⌝ }
@@ -92,7 +90,7 @@ fn label_ok(job: &[u8], base: usize, i: usize) -> bool
 }
 
 // What the search for a left sibling comes to.
-enum Found {
+pub enum Found {
     At(usize),
     Nothing,
 }
@@ -112,11 +110,11 @@ fn start(last: &[u16], p: usize) -> usize
     if child < p { p + 1 } else { child + 1 }
 }
 
-// Whether node i exists at least where its left sibling does: the nearest earlier record with the same parent, which comes after the parent. The
-// records between it and node i are not searched, since the last child of each node is known: the search takes one turn whatever the order is.
-fn left_ok(job: &[u8], base: usize, last: &[u16], i: usize) -> bool
+// The left sibling of node i: the nearest earlier record with the same parent, which comes after the parent. The records between it and node i are not searched, since
+// the last child of each node is known: the search takes one turn whatever the order is.
+fn left_of(job: &[u8], base: usize, last: &[u16], i: usize) -> Found
     requires { ⌜ (i ≡ 0 → ⊥) × Rooted (now job) base i × Lasts (now job) base i (now last) ⌝ }
-    ensures { λ r. ⌜ r ≡ leftRule (now (job .entry)) base i (nearest (now (job .entry)) base (parent (now (job .entry)) base i) i) ⌝ }
+    ensures { λ r. ⌜ Beside (now (job .entry)) base i r ⌝ }
 {
     let p = parent_at(job, base, i);
     let mut k = start(last, p);
@@ -129,58 +127,60 @@ fn left_ok(job: &[u8], base: usize, last: &[u16], i: usize) -> bool
             break Found::At(k);
         }
     };
-    match left {
-        Found::At(j) => not_above(
-            levels_at(job, base, j).existence,
-            levels_at(job, base, i).existence,
-        ),
-        Found::Nothing => true,
-    }
+    left
 }
 
-fn child_ok(job: &[u8], base: usize, last: &[u16], i: usize) -> bool
-    requires { ⌜ (i ≡ 0 → ⊥) × Rooted (now job) base i × Lasts (now job) base i (now last) ⌝ }
+// What check 6 asks of node i by its parent and its left sibling.
+pub fn child_ok(job: &[u8], base: usize, i: usize, left: Found) -> bool
+    requires { ⌜ (i ≡ 0 → ⊥) × Rooted (now job) base i × Beside (now job) base i left ⌝ }
     ensures { λ r. ⌜ r ≡ childRule (now (job .entry)) base i ⌝ }
 {
     let p = parent_at(job, base, i);
     let own = levels_at(job, base, i);
     let above = levels_at(job, base, p);
-    if !not_above(above.existence, own.existence) {
-        return false;
+    let bounded = not_above(above.existence, own.existence)
+        & not_above(own.existence, above.structure);
+    match left {
+        Found::At(j) => bounded & not_above(levels_at(job, base, j).existence, own.existence),
+        Found::Nothing => bounded,
     }
-    if !not_above(own.existence, above.structure) {
-        return false;
-    }
-    left_ok(job, base, last, i)
 }
 
-// Check 12, of node i, where it is asked for.
-fn clean_ok(job: &[u8], base: usize, i: usize, spare: bool) -> bool
+// Check 12, of node i.
+pub fn clean_ok(job: &[u8], base: usize, i: usize) -> bool
     requires { ⌜ nodePlace base i + nodeSize ≤ length (now job) ⌝ }
-    ensures { λ r. ⌜ r ≡ (not spare || nodeClean (now (job .entry)) base i) ⌝ }
+    ensures { λ r. ⌜ r ≡ nodeClean (now (job .entry)) base i ⌝ }
 {
-    if spare {
-        return rest_at(job, base + NODE_SIZE * i + 4) == 0;
-    }
-    true
+    rest_at(job, base + NODE_SIZE * i + 4) == 0
 }
 
-// Check 6, of node i, which has passed check 5 as have all before it, and where `spare` says so check 12; `last` has the last child of each.
-fn node_ok(job: &[u8], base: usize, last: &[u16], i: usize, spare: bool) -> bool
-    requires { ⌜ Rooted (now job) base i × Lasts (now job) base i (now last) ⌝ }
-    ensures { λ r. ⌜ r ≡ nodeFits spare (now (job .entry)) base i ⌝ }
+// What check 6 asks of node i alone.
+pub fn own_ok(job: &[u8], base: usize, i: usize) -> bool
+    requires { ⌜ nodePlace base i + nodeSize ≤ length (now job) ⌝ }
+    ensures { λ r. ⌜ r ≡ ownRule (now (job .entry)) base i ⌝ }
 {
-    if !clean_ok(job, base, i, spare) {
-        return false;
-    }
     if !label_ok(job, base, i) {
         return false;
     }
     if i == 0 {
-        not_above(levels_at(job, base, i).existence, PUBLIC)
-    } else {
-        child_ok(job, base, last, i)
+        return not_above(levels_at(job, base, i).existence, PUBLIC);
     }
+    true
+}
+
+// Check 6, of node i, which has passed check 5 as have all before it; `last` has the last child of each.
+fn node_ok(job: &[u8], base: usize, last: &[u16], i: usize) -> bool
+    requires { ⌜ Rooted (now job) base i × Lasts (now job) base i (now last) ⌝ }
+    ensures { λ r. ⌜ r ≡ nodeRule (now (job .entry)) base i ⌝ }
+{
+    if !own_ok(job, base, i) {
+        return false;
+    }
+    if i == 0 {
+        return true;
+    }
+    let left = left_of(job, base, last, i);
+    child_ok(job, base, i, left)
 }
 
 // Node i is passed: it is the last child of its parent so far.
@@ -194,18 +194,33 @@ fn pass(job: &[u8], base: usize, last: &mut [u16], i: usize)
     }
 }
 
-// Check 6, and where `spare` says so check 12: the first of `count` nodes that fails, or the count.
-pub fn first_fault(job: &[u8], base: usize, count: usize, spare: bool) -> usize
+// Check 6: the first of `count` nodes that fails, or the count.
+pub fn first_fault(job: &[u8], base: usize, count: usize) -> usize
     requires { ⌜ Linked (now job) base count ⌝ }
-    ensures { λ r. ⌜ r ≡ firstFault (nodeFits spare (now (job .entry)) base) count 0 ⌝ }
+    ensures { λ r. ⌜ r ≡ firstFault (nodeRule (now (job .entry)) base) count 0 ⌝ }
 {
     let mut last = [0u16; MAX_NODES];
     let mut i = 0;
     while i < count {
-        if !node_ok(job, base, &last, i, spare) {
+        if !node_ok(job, base, &last, i) {
             return i;
         }
         pass(job, base, &mut last, i);
+        i += 1;
+    }
+    i
+}
+
+// Check 12: the first of `count` nodes that fails, or the count.
+pub fn first_unclean(job: &[u8], base: usize, count: usize) -> usize
+    requires { ⌜ Linked (now job) base count ⌝ }
+    ensures { λ r. ⌜ r ≡ firstFault (nodeClean (now (job .entry)) base) count 0 ⌝ }
+{
+    let mut i = 0;
+    while i < count {
+        if !clean_ok(job, base, i) {
+            return i;
+        }
         i += 1;
     }
     i

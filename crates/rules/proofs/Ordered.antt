@@ -3,26 +3,26 @@ use mathlib.Core.Path.{_≡_, refl, sym, ap, subst}
 use Prim.Native.Nat.{ℕ, zero, suc, _+_, _-_, _≤_, _<_}
 use native.Mathlib.Omega.{arith}
 use native.Mathlib.Decide.{ℕ-discrete}
-use mathlib.Core.Bool.{Bool, true, false, _||_}
+use mathlib.Core.Bool.{Bool, true, false, _||_, not}
 use mathlib.Core.List.{List, [], _∷_, _++_}
 use lib.ListN.{length}
 use lib.Dec.{eqb, eqb·suc-zero}
-use borrow.Author.Tests.{eq-eqb, ne-eqb}
+use borrow.Author.Tests.{eqb-true, eqb-false, eq-eqb, ne-eqb, not-true}
 use Rattle.rules.specs.Limits.{noParent}
 use Rattle.rules.specs.Tree.{Label, Forest, nil, tree, size}
 use Rattle.rules.specs.Check.{parent, parentRule, onPath, orderRule}
 use Rattle.rules.specs.Job.{listed}
-use Rattle.rules.proofs.Tests.{Test, holds, fails, test}
+use Rattle.rules.proofs.Tests.{Test, holds, fails, test, both}
 use Rattle.rules.proofs.Listing.{Entry, listing, All, listing-length}
 use Rattle.rules.proofs.Entries.{entryOf}
 use Rattle.rules.proofs.Accepted.{parent-before}
 
 -- a is record j or an ancestor of it
-data Up (par : ℕ → ℕ) : ℕ → ℕ → Type 0 where
+pub data Up (par : ℕ → ℕ) : ℕ → ℕ → Type 0 where
   here : {j : ℕ} → Up par j j
   above : {j a : ℕ} → (j ≡ 0 → ⊥) → Up par (par j) a → Up par j a
 
-up-up : {par : ℕ → ℕ} {i j a : ℕ} → Up par i j → Up par j a → Up par i a
+pub up-up : {par : ℕ → ℕ} {i j a : ℕ} → Up par i j → Up par j a → Up par i a
 up-up here v = v
 up-up (above n u) v = above n (up-up u v)
 
@@ -46,6 +46,18 @@ module _ (b : List ℕ) (base p : ℕ) where
   path-up n j e z = rw (ne-eqb p j e, ne-eqb j 0 z)
 
 module _ (b : List ℕ) (base : ℕ) where
+  -- a way that is found
+  pub path-is-up : (p n j : ℕ) → onPath b base p n j ≡ true → Up (parent b base) j p
+  unfolding onPath
+  path-is-up p zero j h = let e = eqb-true p j h in rw e here
+  path-is-up p (suc n) j h = by (test (eqb p j)) (path-is-up p n (parent b base j))
+    where
+      by : Test (eqb p j) → (onPath b base p n (parent b base j) ≡ true → Up (parent b base) (parent b base j) p) → Up (parent b base) j p
+      by (holds t) r = let e = eqb-true p j t in rw e here
+      by (fails t) r =
+          let x = both (not (eqb j 0)) (onPath b base p n (parent b base j)) (rw t at h) in
+          above (eqb-false j 0 (not-true (eqb j 0) (x .0))) (r (x .1))
+
   -- an entry says which parent its record has
   abbrev Says : ℕ → Entry → Type 0
   Says i e = parent b base i ≡ e .parent
@@ -56,7 +68,7 @@ module _ (b : List ℕ) (base : ℕ) where
   says (suc n) i = (refl, says n (suc i))
 
   module _ (m : ℕ) (parents : (i : ℕ) → i < m → parentRule b base i ≡ true) where
-    up-path : {j a : ℕ} → Up (parent b base) j a → (n : ℕ) → j ≤ n → j < m → onPath b base a n j ≡ true
+    pub up-path : {j a : ℕ} → Up (parent b base) j a → (n : ℕ) → j ≤ n → j < m → onPath b base a n j ≡ true
     unfolding onPath
     up-path {j} here zero h l = eq-eqb j j refl
     up-path {j} here (suc n) h l = rw (eq-eqb j j refl)

@@ -6,9 +6,10 @@ use Rattle.rules.specs.Check.{requireEach, requireIf, orderRule, nodeRule}
 use Rattle.rules.proofs.Search.{all-pass}
 use Rattle.rules.proofs.Checks.{stopped, through}
 use Rattle.job.specs.Siblings.{Linked}
+use Rattle.job.specs.Hanging.{AllFit}
 use Rattle.job.specs.Answer.{answer, editionOf, ruleOf, countOf, scanned, fromScript, fromNodes}
 use Rattle.job.proofs.Answers.{plans-not, plans-along}
-use Rattle.job.proofs.Scans.{was-faulty, was-passed, asked-stopped, asked-through}
+use Rattle.job.proofs.Scans.{was-faulty, was-passed, asked-stopped, asked-through, fit-clean, fit-through}
 use borrow.Author.Needs.{needs}
 use Rattle.job.proofs.checks.check_nodes.Statement.{statement}
 use Rattle.job.proofs.checks.check_nodes.Tie as tie
@@ -22,11 +23,15 @@ past5 : (c : tie.Else1) → let a = c .before .before .before .before .before .a
 unfolding fromNodes ruleOf
 past5 c = through badParent _ _ _ (c .before .before .first-fault .ensures) (c .if1 .left)
 
-past13 : (c : tie.Else2) → let a = c .before .before .before .before .before .before .before .before .args in
+-- all nodes pass 13, 6 and 12
+fit : (c : tie.Then2) → let a = c .before .before .before .before .before .before .before .args in AllFit (a .job .now) (a .l .tree) (a .l .nodes)
+fit c = c .before .all-fit .ensures (c .if2 .taken)
+
+past13 : (c : tie.Else3) → let a = c .before .before .before .before .before .before .before .before .before .before .args in
     let b = a .job .now in
     let l = a .l in
     fromNodes b l (editionOf (a .rules)) ≡ requireEach badNode (nodeRule b (l .tree)) (l .nodes) (fromScript b l (editionOf (a .rules)) (l .variables))
-past13 c = past5 (c .before .before .before) ∙ asked-through badOrder _ _ _ _ (c .before .before .first-unordered .ensures) (c .if2 .left)
+past13 c = past5 (c .before .before .before .before .before) ∙ asked-through badOrder _ _ _ _ (c .before .before .first-unordered .ensures) (c .if3 .left)
 
 first-fault-requires : tie.Need-first-fault-requires
 unfolding countOf
@@ -44,42 +49,56 @@ unfolding ruleOf
 linked c =
     let q = c .before .before .before .before .before .pre .0 in record { inside = q .nodes; few = q .few; parents = all-pass _ _ (c .before .before .first-fault .ensures) (c .if1 .left) }
 
-first-unordered-requires : tie.Need-first-unordered-requires
-first-unordered-requires c κs = (c .before .before .before .before .before .pre .0, linked c)
+all-fit-requires : tie.Need-all-fit-requires
+all-fit-requires c κs = linked c
+
+check-job-script-requires : tie.Need-check-job-script-requires
+check-job-script-requires c κs =
+    let q = c .before .before .before .before .before .before .before .before .pre in
+    (record { inside = q .0 .records; short = q .0 .short; room = omega (arith, q .0 .short, q .1) }, record { variables = q .2; nodes = fit-clean _ _ _ (fit (c .before)) _ })
 
 returns-2 : tie.Need-returns-2
-unfolding answer
 returns-2 c =
-    let e = past5 (c .before .before .before) ∙ asked-stopped badOrder _ _ _ _ (c .before .before .first-unordered .ensures) (c .if2 .taken) in
+    let e = past5 (c .before .before .before .before .before .before) ∙ fit-through _ _ _ (fit (c .before .before .before .before)) _ _ in
+    let s = c .before .before .check-job-script .ensures in
+    record { answered = s .answered ∙ sym (ap (answer _) e); plans = plans-along e (s .plans) }
+
+first-unordered-requires : tie.Need-first-unordered-requires
+first-unordered-requires c κs = (c .before .before .before .before .before .before .before .pre .0, linked (c .before .before))
+
+returns-3 : tie.Need-returns-3
+unfolding answer
+returns-3 c =
+    let e = past5 (c .before .before .before .before .before) ∙ asked-stopped badOrder _ _ _ _ (c .before .before .first-unordered .ensures) (c .if3 .taken) in
     record { answered = sym (ap (answer _) e); plans = plans-not _ _ _ _ _ badOrder _ (λ q. omega arith) e refl }
 
 scan-nodes-requires : tie.Need-scan-nodes-requires
-scan-nodes-requires c κs = linked (c .before .before .before)
+scan-nodes-requires c κs = linked (c .before .before .before .before .before)
 
-check-job-script-requires : tie.Need-check-job-script-requires
+check-job-script-requires-2 : tie.Need-check-job-script-requires-2
 unfolding scanned
-check-job-script-requires c κs =
-    let q = c .before .before .before .before .before .before .before .before .before .before .before .before .before .pre in
+check-job-script-requires-2 c κs =
+    let q = c .before .before .before .before .before .before .before .before .before .before .before .before .before .before .before .pre in
     let w = was-passed _ _ _ _ (sym (c .before .before .before .before .scan-nodes .ensures) ∙ c .before .before .scan2 .given .1) in
     (record { inside = q .0 .records; short = q .0 .short; room = omega (arith, q .0 .short, q .1) }, record { variables = q .2; nodes = w .1 })
 
-returns-3 : tie.Need-returns-3
+returns-4 : tie.Need-returns-4
 unfolding scanned answer
-returns-3 c =
+returns-4 c =
     let w = was-faulty _ _ _ _ (sym (c .before .before .before .scan-nodes .ensures) ∙ c .before .scan .given .1) in
     let e = past13 (c .before .before .before .before) ∙ stopped badNode _ _ _ (w .0) (w .1) in
     record { answered = sym (ap (answer _) e); plans = plans-not _ _ _ _ _ badNode _ (λ q. omega arith) e refl }
 
-returns-4 : tie.Need-returns-4
+returns-5 : tie.Need-returns-5
 unfolding scanned
-returns-4 c =
+returns-5 c =
     let w = was-passed _ _ _ _ (sym (c .before .before .before .before .before .before .before .scan-nodes .ensures) ∙ c .before .before .before .before .before .scan2 .given .1) in
     let e = past13 (c .before .before .before .before .before .before .before .before) ∙ through badNode _ _ _ refl (w .0) in
-    let s = c .before .before .check-job-script .ensures in
+    let s = c .before .before .check-job-script2 .ensures in
     record { answered = s .answered ∙ sym (ap (answer _) e); plans = plans-along e (s .plans) }
 
 pub check-nodes-spec : {M : Type 1} → statement M
 check-nodes-spec =
     tie.close (tie.spec
-    first-fault-requires returns first-unordered-requires returns-2 scan-nodes-requires (λ c. search needs) (λ c. search needs) check-job-script-requires returns-3
-    (λ c. search needs) returns-4)
+    first-fault-requires returns all-fit-requires check-job-script-requires (λ c. search needs) returns-2 first-unordered-requires returns-3 scan-nodes-requires
+    (λ c. search needs) (λ c. search needs) check-job-script-requires-2 returns-4 (λ c. search needs) returns-5)

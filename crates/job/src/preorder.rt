@@ -1,0 +1,76 @@
+// The checks 13, 6 and 12 of the nodes in one pass, as most jobs pass them: on the way up from the record before a node stands its parent, and right below that its left
+// sibling. A job that does not pass is put to the checks one by one.
+use crate::nodes::Found;
+use crate::nodes::child_ok;
+use crate::nodes::clean_ok;
+use crate::nodes::own_ok;
+use crate::nodes::parent_at;
+ghost use mathlib.Core.Path.{_≡_};
+ghost use mathlib.Core.Bool.{true};
+ghost use Rattle.job.specs.Siblings.{Linked, Rooted};
+ghost use Rattle.job.specs.Hanging.{Hangs, Fit, AllFit};
+
+// A node in order, with its left sibling, or one that is not.
+pub enum Hung {
+    InOrder(Found),
+    Astray,
+}
+
+// The search for the left sibling of node i, where the nodes before it are in order. Each step up leaves a subtree for good, so the walks of all nodes together are no longer
+// than there are nodes.
+fn left_of(job: &[u8], base: usize, i: usize) -> Hung
+    requires { ⌜ (i ≡ 0 → ⊥) × Rooted (now job) base i × AllFit (now job) base i ⌝ }
+    ensures { λ r. ⌜ Hangs (now (job .entry)) base i r ⌝ }
+{
+    let p = parent_at(job, base, i);
+    let mut k = i - 1;
+    let found = loop {
+        if k == p {
+            break Hung::InOrder(Found::Nothing);
+        }
+        let q = parent_at(job, base, k);
+        if q == p {
+            break Hung::InOrder(Found::At(k));
+        }
+        if q < p {
+            break Hung::Astray;
+        }
+        k = q;
+    };
+    found
+}
+
+fn node_fits(job: &[u8], base: usize, i: usize) -> bool
+    requires { ⌜ Rooted (now job) base i × AllFit (now job) base i ⌝ }
+    ensures { λ r. ⌜ (r ≡ true → Fit (now (job .entry)) base i) ⌝ }
+{
+    if !clean_ok(job, base, i) {
+        return false;
+    }
+    if !own_ok(job, base, i) {
+        return false;
+    }
+    if i == 0 {
+        return true;
+    }
+    let found = left_of(job, base, i);
+    let Hung::InOrder(left) = found else {
+        return false;
+    };
+    child_ok(job, base, i, left)
+}
+
+// Whether all nodes pass; where it says no, nothing is known.
+pub fn all_fit(job: &[u8], base: usize, count: usize) -> bool
+    requires { ⌜ Linked (now job) base count ⌝ }
+    ensures { λ r. ⌜ (r ≡ true → AllFit (now (job .entry)) base count) ⌝ }
+{
+    let mut i = 0;
+    while i < count {
+        if !node_fits(job, base, i) {
+            return false;
+        }
+        i += 1;
+    }
+    true
+}
