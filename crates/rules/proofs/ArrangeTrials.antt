@@ -15,23 +15,26 @@ use Rattle.rules.proofs.Computed.{computed}
 pub with-nodes : List (List ℕ) → List ℕ
 with-nodes ns = job (pair (pos 5)) ns (bare 7 ∷ one 6 0 (number (pos 4)) ∷ [])
 
--- a root with two children, the first of which has a child that is listed last
+-- a root with two children, and a child of each listed behind both
 pub scattering : List (List ℕ)
-scattering = node noParent 0 0 1 (pos 10) ∷ node 0 0 0 0 (pos 1) ∷ node 0 1 1 1 (negsuc 0) ∷ node 1 0 0 0 (pos 3) ∷ []
+scattering =
+    node noParent 0 0 1 (pos 10) ∷ node 0 0 0 0 (pos 1) ∷ node 0 1 1 1 (negsuc 0) ∷ node 1 0 0 0 (pos 3) ∷ node 2 1 1 1 (pos 4) ∷ []
 
 pub scattered : List ℕ
 scattered = with-nodes scattering
 
--- the same with the child behind its parent
+-- the same with each child behind its parent; the second of these is record 3 now
 pub straight : List ℕ
-straight = with-nodes (node noParent 0 0 1 (pos 10) ∷ node 0 0 0 0 (pos 1) ∷ node 1 0 0 0 (pos 3) ∷ node 0 1 1 1 (negsuc 0) ∷ [])
+straight =
+    with-nodes
+    (node noParent 0 0 1 (pos 10) ∷ node 0 0 0 0 (pos 1) ∷ node 1 0 0 0 (pos 3) ∷ node 0 1 1 1 (negsuc 0) ∷ node 3 1 1 1 (pos 4) ∷ [])
 
 -- 13: record 3's parent is 1, which is neither record 2 nor above it
 pub scattered-refused : (checkBytesBy unordered scattered ≡ accepted) × (checkBytes scattered ≡ refused 13 3)
 unfolding computed with-nodes scattering scattered
 scattered-refused = (refl, refl)
 
-pub scattered-order : map (λ m. m .from) (moves scattered (nodesAt scattered) (nodeCount scattered)) ≡ 0 ∷ 1 ∷ 3 ∷ 2 ∷ []
+pub scattered-order : map (λ m. m .from) (moves scattered (nodesAt scattered) (nodeCount scattered)) ≡ 0 ∷ 1 ∷ 3 ∷ 2 ∷ 4 ∷ []
 unfolding computed with-nodes scattering scattered
 scattered-order = refl
 
@@ -43,8 +46,8 @@ pub straight-stays : (checkBytes straight ≡ accepted) × (leftArranged straigh
 unfolding computed with-nodes straight
 straight-stays = (refl, refl)
 
--- "checked after 5 and before 6": a 5 at record 4 comes before that 13, and a 6 at record 0 behind it
-pub between : (checkBytes (with-nodes (scattering ++ (node 4 0 0 0 (pos 0) ∷ []))) ≡ refused 5 4) × (checkBytes (set scattered 18 2) ≡ refused 13 3)
+-- "checked after 5 and before 6": a 5 at record 5 comes before that 13, and a 6 at record 0 behind it
+pub between : (checkBytes (with-nodes (scattering ++ (node 5 0 0 0 (pos 0) ∷ []))) ≡ refused 5 5) × (checkBytes (set scattered 18 2) ≡ refused 13 3)
 unfolding computed with-nodes scattering scattered
 between = (refl, refl)
 
