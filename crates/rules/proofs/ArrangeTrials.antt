@@ -8,19 +8,20 @@ use Rattle.rules.specs.Limits.{noParent}
 use Rattle.rules.specs.Bytes.{nodesAt, nodeCount}
 use Rattle.rules.specs.Check.{accepted, refused, unordered, checkBytesBy, checkBytes}
 use Rattle.rules.specs.Arrange.{moves, arranged, leftArranged}
-use Rattle.rules.specs.Trials.{node, job, bare, one, number, pair}
+use Rattle.rules.specs.Write.{node}
+use Rattle.rules.specs.Trials.{job, bare, one, number, pair}
 use Rattle.rules.proofs.Computed.{computed}
 
 -- a job over some nodes: root, print 4
-pub with-nodes : List (List ℕ) → List ℕ
+unfoldable pub with-nodes : List (List ℕ) → List ℕ
 with-nodes ns = job (pair (pos 5)) ns (bare 7 ∷ one 6 0 (number (pos 4)) ∷ [])
 
 -- a root with two children, and a child of each listed behind both
-pub scattering : List (List ℕ)
+unfoldable pub scattering : List (List ℕ)
 scattering =
     node noParent 0 0 1 (pos 10) ∷ node 0 0 0 0 (pos 1) ∷ node 0 1 1 1 (negsuc 0) ∷ node 1 0 0 0 (pos 3) ∷ node 2 1 1 1 (pos 4) ∷ []
 
-pub scattered : List ℕ
+unfoldable pub scattered : List ℕ
 scattered = with-nodes scattering
 
 -- the same with each child behind its parent; the second of these is record 3 now

@@ -25,7 +25,8 @@ use Rattle.rules.proofs.ReadBytes.{spare-all, spare-zero, records-16, v
 use Rattle.rules.proofs.Accepted.{Clean, Right, right-by, accept-by}
 use Rattle.rules.proofs.Loaded.{tree-rules, node-rules}
 use Rattle.rules.proofs.SameReads.{Laid, laid, Around, same-nodes-at, same-node-count, record-reads, around-right, around-script, around-runs}
-use Rattle.rules.proofs.Listing.{Entry, listing, listing-length, before-root}
+use Rattle.rules.specs.Write.{Entry, listing}
+use Rattle.rules.proofs.Listing.{listing-length, before-root}
 use Rattle.rules.proofs.Entries.{entryOf, treeList, tree-list, listed-tree}
 use Rattle.rules.proofs.Moved.{below-at, moves-below, entryFrom, moves-listing, moves-length, tree-size}
 use Rattle.rules.proofs.Stays.{self, moves-same}

@@ -8,7 +8,8 @@ use Rattle.rules.specs.Tree.{Label, Forest, nil, tree, size}
 use Rattle.rules.specs.Check.{parent}
 use Rattle.rules.specs.Job.{listed, labelOf, childrenOf, treeOf}
 use Rattle.rules.proofs.Tests.{Test, holds, fails, test}
-use Rattle.rules.proofs.Listing.{Entry, listing, kids, keep}
+use Rattle.rules.specs.Write.{Entry, listing}
+use Rattle.rules.proofs.Listing.{kids, keep}
 
 -- the tree of a list of entries whose first is the root
 unfoldable pub treeList : List Entry → Forest

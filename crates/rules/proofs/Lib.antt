@@ -64,3 +64,5 @@ pub mod Covered
 pub mod Returns
 pub mod History
 pub mod HistoryTrials
+pub mod Written
+pub mod WriteTrials

@@ -9,16 +9,8 @@ use lib.ListN.{length, getD, length-append}
 use lib.Dec.{eqb}
 use borrow.Author.Tests.{eq-eqb, ne-eqb}
 use Rattle.rules.specs.Tree.{Label, Forest, nil, tree, size}
-
--- a node as its record has it: its parent's index and its label
-pub record Entry : Type 0 where
-  pub parent : ℕ
-  pub label : Label
-
--- siblings with parent p, listed from index i on: "each node is followed at once by its whole subtree, children from left to right"
-unfoldable pub listing : ℕ → ℕ → Forest → List Entry
-listing p i nil = []
-listing p i (tree l c r) = record { parent = p; label = l } ∷ (listing i (suc i) c ++ listing p (suc i + size c) r)
+use Rattle.rules.specs.Number as Number
+use Rattle.rules.specs.Write.{Entry, listing, RangedTree}
 
 -- of the entries from index i on, those with parent p, each with its children, which come after it
 unfoldable pub kids : ℕ → ℕ → List Entry → Forest
@@ -86,6 +78,10 @@ module _ (P : ℕ → Entry → Type 0) where
 abbrev pub Before : ℕ → Entry → Type 0
 Before i e = e .parent < i
 
+-- its value is a signed 32-bit number
+abbrev pub Valued : ℕ → Entry → Type 0
+Valued i e = Number.Fits (e .label .value)
+
 pub before-listing : (p i : ℕ) (f : Forest) → p < i → All Before i (listing p i f)
 unfolding listing
 before-listing p i nil h = tt
@@ -94,6 +90,16 @@ before-listing p i (tree l c r) h = (
   all-append Before (suc i) (suc i + size c) (listing i (suc i) c) (listing p (suc i + size c) r)
       (ap (λ (n : ℕ). suc i + n) (sym (listing-length i (suc i) c))) (before-listing i (suc i) c (omega arith))
       (before-listing p (suc i + size c) r (omega arith)),
+)
+
+pub valued-listing : (p i : ℕ) (f : Forest) → RangedTree f → All Valued i (listing p i f)
+unfolding listing
+valued-listing p i nil v = tt
+valued-listing p i (tree l c r) v = (
+  v .0,
+  all-append Valued (suc i) (suc i + size c) (listing i (suc i) c) (listing p (suc i + size c) r)
+      (ap (λ (n : ℕ). suc i + n) (sym (listing-length i (suc i) c))) (valued-listing i (suc i) c (v .1))
+      (valued-listing p (suc i + size c) r (v .2)),
 )
 
 -- the records behind the root of a tree

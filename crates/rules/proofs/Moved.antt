@@ -14,7 +14,8 @@ use Rattle.rules.specs.Check.{parent, parentRule}
 use Rattle.rules.specs.Job.{labelOf, childrenOf, treeOf}
 use Rattle.rules.specs.Arrange.{Moved, moved, moves}
 use Rattle.rules.proofs.Tests.{Test, holds, fails, test}
-use Rattle.rules.proofs.Listing.{Entry, listing, listing-length}
+use Rattle.rules.specs.Write.{Entry, listing}
+use Rattle.rules.proofs.Listing.{listing-length}
 use Rattle.rules.proofs.Accepted.{parent-before}
 
 -- a sum over the numbers below n

@@ -13,7 +13,8 @@ use Rattle.rules.specs.Tree.{Label, Forest, nil, tree, size}
 use Rattle.rules.specs.Check.{parent, parentRule, onPath, orderRule}
 use Rattle.rules.specs.Job.{listed}
 use Rattle.rules.proofs.Tests.{Test, holds, fails, test, both}
-use Rattle.rules.proofs.Listing.{Entry, listing, All, listing-length}
+use Rattle.rules.specs.Write.{Entry, listing}
+use Rattle.rules.proofs.Listing.{All, listing-length}
 use Rattle.rules.proofs.Entries.{entryOf}
 use Rattle.rules.proofs.Accepted.{parent-before}
 

@@ -7,7 +7,8 @@ use lib.IntN.{ℤ, pos}
 use Rattle.rules.specs.Limits.{noParent}
 use Rattle.rules.specs.Level.{public, secret}
 use Rattle.rules.specs.Outcome.{Outcome, answer, boardLines, runJob}
-use Rattle.rules.specs.Trials.{job, pair, node, one, both, bare, v, number, value, children, withPlaces, usual, guarded, returning, besideNew}
+use Rattle.rules.specs.Write.{node}
+use Rattle.rules.specs.Trials.{job, pair, one, both, bare, v, number, value, children, withPlaces, usual, guarded, returning, besideNew}
 use Rattle.rules.proofs.Computed.{computed}
 
 -- ending, index and lines

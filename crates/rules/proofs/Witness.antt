@@ -10,7 +10,8 @@ use Rattle.rules.specs.Check.{accepted}
 use Rattle.rules.specs.Job.{jobTree}
 use Rattle.rules.specs.Outcome.{checkJob, runJob, answer, boardLines}
 use Rattle.rules.specs.Public.{Alike}
-use Rattle.rules.specs.Trials.{job, pair, node, one, bare, v, number, value, withPlaces}
+use Rattle.rules.specs.Write.{node}
+use Rattle.rules.specs.Trials.{job, pair, one, bare, v, number, value, withPlaces}
 use Rattle.rules.proofs.Computed.{computed}
 use Rattle.rules.proofs.Cut
 use Rattle.rules.proofs.ByPlace.{places-agree}

@@ -18,4 +18,5 @@ pub mod Returns
 pub mod Covered
 pub mod Clean
 pub mod Arrange
+pub mod Write
 pub mod Trials

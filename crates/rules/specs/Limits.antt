@@ -101,3 +101,7 @@ badSpare = 12
 -- 13: the order of the nodes
 abbrev pub badOrder : ℕ
 badOrder = 13
+
+-- 14: the output area
+abbrev pub badArea : ℕ
+badArea = 14

@@ -1,28 +1,15 @@
 -- The paper's twelve trials, those of the if that comes back and those of left sibling and last child, as job bytes with what is to come of them.
 -- `trials-hold`, `back-trials-hold` and `move-trials-hold`, in proofs/, say that the rules give it. Assumes nothing.
-use Prim.Native.Nat.{ℕ, _+_, _*_, _/_}
+use Prim.Native.Nat.{ℕ, _+_, _*_}
 use mathlib.Core.List.{List, [], _∷_, _++_, map, flatMap}
 use lib.ListN.{length}
 use lib.IntN.{ℤ, pos, negsuc}
 use Rattle.rules.specs.Limits.{variableSize, nodeSize, recordSize, noParent}
 use Rattle.rules.specs.Level.{Level, public, secret}
-use Rattle.rules.specs.Number.{bits}
 use Rattle.rules.specs.Tree.{Label, Forest, nil, tree}
-use Rattle.rules.specs.Bytes.{two}
 use Rattle.rules.specs.Run.{Buffers}
+use Rattle.rules.specs.Write.{four, variable, node, trailer}
 use Rattle.rules.specs.Outcome.{Outcome, rejected, ran, answer, boardLines, runJob}
-
--- the four bytes of a signed number
-unfoldable pub four : ℤ → List ℕ
-four z = two (bits z) ++ two (bits z / 65536)
-
--- a variable's record
-unfoldable pub variable : Level → ℤ → List ℕ
-variable l v = l ∷ 0 ∷ 0 ∷ 0 ∷ four v
-
--- a node's record
-unfoldable pub node : ℕ → Level → Level → Level → ℤ → List ℕ
-node parent e c s v = two parent ++ (e ∷ c ∷ s ∷ 0 ∷ 0 ∷ 0 ∷ four v)
 
 -- an operand's bytes: kind and number
 pub record Field : Type 0 where
@@ -63,7 +50,7 @@ unfoldable pub job : List (List ℕ) → List (List ℕ) → List (List ℕ) →
 job vs ns cs =
     let nodes = variableSize * length vs in
     let script = nodes + nodeSize * length ns in
-    flatMap (λ r. r) (vs ++ (ns ++ cs)) ++ (two 0 ++ (two nodes ++ (two script ++ two (script + recordSize * length cs))))
+    flatMap (λ r. r) (vs ++ (ns ++ cs)) ++ trailer nodes script (script + recordSize * length cs)
 
 -- "Variable 0 is public, 0; variable 1 is house, h."
 unfoldable pub pair : ℤ → List (List ℕ)

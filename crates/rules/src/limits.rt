@@ -49,6 +49,8 @@ pub const BAD_SPARE: u8 = 12;
 
 pub const BAD_ORDER: u8 = 13;
 
+pub const BAD_AREA: u8 = 14;
+
 pub const MAX_BUDGET: u64 = 1000000;
 
 // The numbers of the stops: a rule of information flow, no such node, a full table, a full board, a used-up budget, a result outside signed
