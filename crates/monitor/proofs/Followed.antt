@@ -109,20 +109,37 @@ module _ {T : Type 0} {StandsIn : T → Forest → Type 0} (x : Lent T) (s : Sto
         rules = f .rules;
       })
 
-  -- a store with more variables, or with one whose level is none
-  not-few : maxVariables < length (x .levels) → (f : FollowOn) → checkFollowOn s f ≡ refused badFollowOn 0
-  not-few lt f = unheld s f (λ k. omega (arith, many-held, k .few))
+  -- no accepted job could hold a store with more variables, or with one whose level is none
+  pub not-few : maxVariables < length (x .levels) → Holdable s → ⊥
+  not-few lt k = omega (arith, many-held, k .few)
 
-  not-level : (i : ℕ) → i < length (x .levels) → isLevel (getD (x .levels) i 0) ≡ false → (f : FollowOn) → checkFollowOn s f ≡ refused badFollowOn 0
-  not-level i lt z f =
-      unheld s f
-      (λ k. clash (level-at (variableIn x) (length (x .levels)) 0 i lt (sym (ap allLevels (h .variables)) ∙ k .levels))
-      (ap (λ m. isLevel (getD (x .levels) m 0)) {x = 0 + i} {y = i} (omega arith) ∙ z))
+  pub not-level : (i : ℕ) → i < length (x .levels) → isLevel (getD (x .levels) i 0) ≡ false → Holdable s → ⊥
+  not-level i lt z k =
+      clash (level-at (variableIn x) (length (x .levels)) 0 i lt (sym (ap allLevels (h .variables)) ∙ k .levels))
+      (ap (λ m. isLevel (getD (x .levels) m 0)) {x = 0 + i} {y = i} (omega arith) ∙ z)
 
 -- whether a tree stands in a table
 pub record Decides {T : Type 0} (StandsIn : T → Forest → Type 0) (table : T) (stands : Bool) : Type 0 where
   pub sound : stands ≡ true → (t : Forest) × StandsIn table t
   pub exact : (t : Forest) → StandsIn table t → stands ≡ true
+
+module _ {T : Type 0} {StandsIn : T → Forest → Type 0} (x : Lent T) {stands : Bool} (d : Decides StandsIn (x .table) stands) where
+  -- the store that is held where a tree stands
+  pub stored : stands ≡ true → length (x .levels) ≡ length (x .values) → (s : Store) × HoldsStore StandsIn x s
+  stored a e =
+      let t = d .sound a in
+      (record { variables = lentVariables x; tree = t .0 }, record { even = e; variables = refl; tree = t .1 })
+
+  module _ (fair : (t : Forest) → StandsIn (x .table) t → Fair t) (good : Storable stands (x .levels) (length (x .values)) true) where
+    -- it keeps the rules
+    pub held-store : (s : Store) × HoldsStore StandsIn x s
+    held-store = of good
+      where
+        of : Storable stands (x .levels) (length (x .values)) true → (s : Store) × HoldsStore StandsIn x s
+        of (storable a e few each) = stored a e
+
+    pub kept-rule : storeRule (held-store .0) ≡ true
+    kept-rule = good-store x (held-store .0) (held-store .1) (fair (held-store .0 .tree) (held-store .1 .tree)) good
 
 module _ {T : Type 0} (places : T → ℕ) (HoldsTree : T → ℕ → Forest → Place → Type 0) (StandsIn : T → Forest → Type 0) (b : List ℕ) (budget : ℕ) (x : Lent T) where
   abbrev f : FollowOn
@@ -141,40 +158,32 @@ module _ {T : Type 0} (places : T → ℕ) (HoldsTree : T → ℕ → Forest →
       over s h (tells-rejected (follow s f) k i o) (subst (λ (o : Rules.Outcome). HoldsStore StandsIn x (leaves s o)) (sym o) h)
 
   module _ {stands : Bool} (d : Decides StandsIn (x .table) stands) where
-    -- the store that is held where a tree stands
-    stored : stands ≡ true → length (x .levels) ≡ length (x .values) → (s : Store) × HoldsStore StandsIn x s
-    stored a e =
-        let t = d .sound a in
-        (record { variables = lentVariables x; tree = t .0 }, record { even = e; variables = refl; tree = t .1 })
+    -- no accepted job could hold what is held
+    never : stands ≡ true → length (x .levels) ≡ length (x .values) → ((s : Store) → HoldsStore StandsIn x s → Holdable s → ⊥)
+        → Follows places HoldsTree StandsIn b budget x x (Refused badFollowOn 0)
+    never a e ill = let s = stored x d a e in away (s .0) (s .1) badFollowOn 0 (unheld (s .0) f (ill (s .0) (s .1)))
 
     not-storable : Storable stands (x .levels) (length (x .values)) false → Follows places HoldsTree StandsIn b budget x x (Refused badFollowOn 0)
     not-storable (treeless e) = none (λ s h. clash (d .exact (s .tree) (h .tree)) e) (tells-rejected _ badFollowOn 0 refl)
     not-storable (uneven e) = none (λ s h. e (h .even)) (tells-rejected _ badFollowOn 0 refl)
-    not-storable (many a e lt) = let s = stored a e in away (s .0) (s .1) badFollowOn 0 (not-few x (s .0) (s .1) lt f)
-    not-storable (unlevelled i a e lt z) = let s = stored a e in away (s .0) (s .1) badFollowOn 0 (not-level x (s .0) (s .1) i lt z f)
+    not-storable (many a e lt) = never a e (λ s h. not-few x s h lt)
+    not-storable (unlevelled i a e lt z) = never a e (λ s h. not-level x s h i lt z)
 
     module _ (fair : (t : Forest) → StandsIn (x .table) t → Fair t) (good : Storable stands (x .levels) (length (x .values)) true) where
-      -- it keeps the rules
-      held-store : (s : Store) × HoldsStore StandsIn x s
-      held-store = of good
-        where
-          of : Storable stands (x .levels) (length (x .values)) true → (s : Store) × HoldsStore StandsIn x s
-          of (storable a e few each) = stored a e
+      abbrev here : (s : Store) × HoldsStore StandsIn x s
+      here = held-store x d fair good
 
-      kept-rule : storeRule (held-store .0) ≡ true
-      kept-rule = good-store x (held-store .0) (held-store .1) (fair (held-store .0 .tree) (held-store .1 .tree)) good
-
-      checked : {p p′ : List ℕ} {r : Script} → Admits b budget (places (x .table)) (length (x .levels)) p p′ r → r ≡ Answer.told (checkFollowOn (held-store .0) f)
+      checked : {p p′ : List ℕ} {r : Script} → Admits b budget (places (x .table)) (length (x .levels)) p p′ r → r ≡ Answer.told (checkFollowOn (here .0) f)
       unfolding lentBy
-      checked a = a .answered (held-store .0) (lentBy places x) kept-rule (many-held x (held-store .0) (held-store .1)) refl
+      checked a = a .answered (here .0) (lentBy places x) (kept-rule x d fair good) (many-held x (here .0) (here .1)) refl
 
       faulty : {p p′ : List ℕ} (k i : ℕ) → Admits b budget (places (x .table)) (length (x .levels)) p p′ (Faulty k i)
           → Follows places HoldsTree StandsIn b budget x x (Refused k i)
-      faulty k i a = away (held-store .0) (held-store .1) k i (is-faulty k i _ (sym (checked a)))
+      faulty k i a = away (here .0) (here .1) k i (is-faulty k i _ (sym (checked a)))
 
       pub sound : {p p′ : List ℕ} → Admits b budget (places (x .table)) (length (x .levels)) p p′ Sound
           → (s : Store) × (HoldsStore StandsIn x s × (checkFollowOn s f ≡ accepted))
-      sound a = (held-store .0, (held-store .1, is-sound _ (sym (checked a))))
+      sound a = (here .0, (here .1, is-sound _ (sym (checked a))))
 
     pub declined : ((t : Forest) → StandsIn (x .table) t → Fair t) → (r : Outcome)
         → Declined b budget (places (x .table)) stands (x .levels) (length (x .values)) r → Follows places HoldsTree StandsIn b budget x x r

@@ -24,7 +24,7 @@ ghost use Rattle.monitor.specs.Promises.{lent, placesIn, Tree};
 ghost use Rattle.monitor.specs.Follow.{Storable, Admits, Surveyed, Follows, FollowsOver, StandsIn};
 
 // Whether variables and a table, in which a tree stands or not, are such as an accepted job could hold.
-fn storable(stands: bool, levels: &[u8], values: usize) -> bool
+pub fn storable(stands: bool, levels: &[u8], values: usize) -> bool
     ensures { λ r. ⌜ Storable stands (now (levels .entry)) values r ⌝ }
 {
     if !stands {

@@ -5,14 +5,14 @@ use mathlib.Core.Bool.{Bool, true, false, cond}
 use mathlib.Core.Option.{none, some, Option·some-injective, Option·none-ne-some}
 use Prim.Native.Nat.{ℕ, zero, suc, _+_, _-_, _<_, _≤_}
 use native.Mathlib.Omega.{arith}
-use borrow.Author.Tests.{ltb-true, lt-ltb, le-ltb, eq-eqb, ne-eqb}
+use borrow.Author.Tests.{ltb-true, ltb-false, lt-ltb, le-ltb, eq-eqb, ne-eqb}
 use lib.Dec.{ltb}
 use lib.IntN.{ℤ, pos, negsuc, negℤ, natAbs, subℕ, _+ℤ_, _-ℤ_}
 use lib.Signed.{mag, natAbs-le, ltZ, shrZ}
 use mir.Syntax.{w32}
 use mir.Val.{SFits, sel, toZ, ofZ}
 use mir.Facts.{sfits-toZ, toZ-ofZ, ofZ-toZ}
-use Rattle.rules.specs.Number.{half-range, range, bits, signed, fitting, same, truth, equal, less, mean}
+use Rattle.rules.specs.Number.{Fits, half-range, range, bits, signed, fitting, same, truth, equal, less, mean}
 use Rattle.rules.proofs.Tests.{Test, holds, fails, test}
 
 -- ---- bits
@@ -39,6 +39,15 @@ signed-toZ w = by (ltb w half-range)
 
 pub signed-fits : (w : ℕ) → w < range → SFits w32 (signed w)
 signed-fits w h = subst (SFits w32) (sym (signed-toZ w)) (sfits-toZ (record { fits = h }))
+
+-- whatever the bits are
+pub signed-any : (w : ℕ) → Fits (signed w)
+unfolding signed
+signed-any w = go (ltb w half-range) refl
+  where
+    go : (t : Bool) → ltb w half-range ≡ t → mag (cond t (pos w) (negsuc (range - 1 - w))) < half-range
+    go true e = ltb-true w half-range e
+    go false e = let z = ltb-false w half-range e in omega arith
 
 pub signed-bits : {v : ℤ} → SFits w32 v → signed (bits v) ≡ v
 signed-bits {v} h = signed-toZ (bits v) ∙ ap (toZ w32) (bits-ofZ h) ∙ toZ-ofZ h

@@ -4,24 +4,24 @@ use Prim.Native.Nat.{ℕ, zero, suc, _+_, _-_, _*_, _%_, _/_, _≤_, _<_}
 use native.Mathlib.Omega.{arith}
 use mathlib.Core.Bool.{Bool, true, false}
 use mathlib.Core.List.{List, [], _∷_, _++_, flatMap}
-use lib.ListN.{length, getD, length-append}
+use lib.ListN.{length, getD, drop, length-append}
 use lib.Seq.{getD-append-add}
 use lib.IntN.{ℤ, pos}
-use lib.Dec.{eqb·suc-zero}
-use borrow.Author.Tests.{eq-eqb, le-leb, lt-ltb}
-use Rattle.rules.specs.Limits.{noParent, trailerSize, badFollowOn, badArea}
+use lib.Dec.{leb, eqb·suc-zero}
+use borrow.Author.Tests.{eq-eqb, le-leb, lt-leb, leb-true, leb-false, lt-ltb}
+use Rattle.rules.specs.Limits.{maxNodes, noParent, trailerSize, badBuffers, badFollowOn, badArea}
 use Rattle.rules.specs.Level.{Level, isLevel}
 use Rattle.rules.specs.Number as Number
 use Rattle.rules.specs.Number.{bits, signed}
 use Rattle.rules.specs.Tree.{Label, Forest, nil, tree, size, count, noLabel, TreeRules}
 use Rattle.rules.specs.Blocks.{blockRule, parts}
 use Rattle.rules.specs.Bytes.{byte, full, two, variablesAt, nodesAt, scriptAt, trailerAt, variableCount, nodeCount, recordCount, variablePlace, nodePlace}
-use Rattle.rules.specs.Check.{Checked, accepted, refused, lengthRule, whole, offsetRule, countRule, variableRule, parent, existence, content, structure, parentRule, variableReads, nodeReads, spareRule, variableClean, nodeClean, today}
+use Rattle.rules.specs.Check.{Checked, accepted, refused, require, lengthRule, whole, offsetRule, countRule, variableRule, parent, existence, content, structure, parentRule, variableReads, nodeReads, spareRule, variableClean, nodeClean, today}
 use Rattle.rules.specs.Job.{Variable, allLevels, listed, variableOf, variables, labelOf, jobTree, script, scriptOf}
 use Rattle.rules.specs.Public.{Agree, Alike}
 use Rattle.rules.specs.History.{Store, storeRule}
-use Rattle.rules.specs.Write.{four, variable, node, trailer, Entry, listing, nodeBytes, variableBytes, writtenSize, written, checkWrite, writeAnswer, RangedVariables, Ranged, Writes, WriterRight}
-use Rattle.rules.proofs.Tests.{both, joined}
+use Rattle.rules.specs.Write.{four, variable, node, trailer, Entry, listing, nodeBytes, variableBytes, writtenSize, written, checkWrite, writeAnswer, leftWritten, RangedVariables, Ranged, Writes, WriterRight}
+use Rattle.rules.proofs.Tests.{Test, holds, fails, test, both, joined}
 use Rattle.rules.proofs.Number.{bits-below, signed-bits}
 use Rattle.rules.proofs.Checks.{passed-one}
 use Rattle.rules.proofs.Decode.{listed-from-zero}
@@ -41,11 +41,11 @@ noEntry = record { parent = 0; label = noLabel }
 abbrev noVariable : Variable
 noVariable = record { level = 0; value = pos 0 }
 
-variable-size : (v : Variable) → length (variableBytes v) ≡ 8
+pub variable-size : (v : Variable) → length (variableBytes v) ≡ 8
 unfolding variableBytes variable four two
 variable-size v = refl
 
-entry-size : (e : Entry) → length (nodeBytes e) ≡ 12
+pub entry-size : (e : Entry) → length (nodeBytes e) ≡ 12
 unfolding nodeBytes node four two
 entry-size e = refl
 
@@ -345,12 +345,66 @@ unfolding count size
 rooted nil e = absurd (omega arith)
 rooted (tree l c r) e = omega arith
 
+pub ruled : (s : Store) (places area : ℕ) → checkWrite s places area ≡ accepted → storeRule s ≡ true
+unfolding checkWrite
+ruled s places area e = passed-one badFollowOn (storeRule s) _ e .0
+
 far : (s : Store) (places area : ℕ) → checkWrite s places area ≡ accepted → badArea < writeAnswer s places area
 unfolding checkWrite writeAnswer writtenSize
 far s places area e =
-    let h = holdable s (passed-one badFollowOn (storeRule s) _ e .0) in
+    let h = holdable s (ruled s places area e) in
     let n = rooted (s .tree) (h .rooted) in
     subst (λ (c : Checked). badArea < elim c [ accepted ↦ writtenSize s + trailerSize | refused k i ↦ k ]) (sym e) (omega arith)
+
+-- the checks, one by one, with what they leave of an area
+module _ (s : Store) (places : ℕ) (area : List ℕ) where
+  pub write-refused : (k i : ℕ) → checkWrite s places (length area) ≡ refused k i
+      → (writeAnswer s places (length area) ≡ k) × (leftWritten s places area ≡ area)
+  unfolding writeAnswer leftWritten
+  write-refused k i e = (
+    ap (λ (c : Checked). elim c [ accepted ↦ writtenSize s + trailerSize | refused k i ↦ k ]) e,
+    ap (λ (c : Checked). elim c [ accepted ↦ written s ++ drop (writtenSize s + trailerSize) area | refused k i ↦ area ]) e,
+  )
+
+  pub write-accepted : checkWrite s places (length area) ≡ accepted
+      → (writeAnswer s places (length area) ≡ writtenSize s + trailerSize) × (leftWritten s places area ≡ written s ++ drop (writtenSize s + trailerSize) area)
+  unfolding writeAnswer leftWritten
+  write-accepted e = (
+    ap (λ (c : Checked). elim c [ accepted ↦ writtenSize s + trailerSize | refused k i ↦ k ]) e,
+    ap (λ (c : Checked). elim c [ accepted ↦ written s ++ drop (writtenSize s + trailerSize) area | refused k i ↦ area ]) e,
+  )
+
+  pub no-store : storeRule s ≡ false → checkWrite s places (length area) ≡ refused badFollowOn 0
+  unfolding checkWrite require
+  no-store e = rw e
+
+  module _ (good : storeRule s ≡ true) where
+    pub many-places : maxNodes < places → checkWrite s places (length area) ≡ refused badBuffers 0
+    unfolding checkWrite require
+    many-places lt = rw (good, lt-leb places maxNodes lt)
+
+    module _ (few : places ≤ maxNodes) where
+      pub no-room : length area < writtenSize s + trailerSize → checkWrite s places (length area) ≡ refused badArea 0
+      unfolding checkWrite require
+      no-room lt = rw (good, le-leb places maxNodes few, lt-leb (writtenSize s + trailerSize) (length area) lt)
+
+      pub has-room : writtenSize s + trailerSize ≤ length area → checkWrite s places (length area) ≡ accepted
+      unfolding checkWrite require
+      has-room le = rw (good, le-leb places maxNodes few, le-leb (writtenSize s + trailerSize) (length area) le)
+
+  -- an answer that is none of the numbers is that of an accepted store
+  pub write-told : badArea < writeAnswer s places (length area) → checkWrite s places (length area) ≡ accepted
+  write-told lt = go (test (storeRule s)) (test (leb places maxNodes)) (test (leb (writtenSize s + trailerSize) (length area)))
+    where
+      number : (k : ℕ) → k ≤ badArea → checkWrite s places (length area) ≡ refused k 0 → checkWrite s places (length area) ≡ accepted
+      number k le e = absurd (let z = write-refused k 0 e .0 in omega arith)
+
+      go : Test (storeRule s) → Test (leb places maxNodes) → Test (leb (writtenSize s + trailerSize) (length area)) → checkWrite s places (length area) ≡ accepted
+      go (fails e) p q = number badFollowOn (omega arith) (no-store e)
+      go (holds e) (fails p) q = number badBuffers (omega arith) (many-places e (leb-false places maxNodes p))
+      go (holds e) (holds p) (fails q) =
+          number badArea (omega arith) (no-room e (leb-true places maxNodes p) (leb-false (writtenSize s + trailerSize) (length area) q))
+      go (holds e) (holds p) (holds q) = has-room e (leb-true places maxNodes p) (leb-true (writtenSize s + trailerSize) (length area) q)
 
 pub writer-right : WriterRight
 writer-right =

@@ -2,13 +2,13 @@
 pub mod Behind
 pub mod Children
 pub mod Copies
+pub mod Counting
 pub mod Moves
 pub mod Once
 pub mod Remembering
 pub mod Resuming
 pub mod Unique
 pub mod Walking
-mod Counting
 mod Frames
 mod Ways
 mod Focus
