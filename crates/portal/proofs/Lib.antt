@@ -4,3 +4,4 @@ pub mod Handed
 pub mod Secret
 pub mod Bounds
 pub mod Standing
+pub mod Written

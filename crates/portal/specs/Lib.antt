@@ -3,3 +3,4 @@ pub mod Portal
 pub mod Secrecy
 pub mod Bound
 pub mod Standing
+pub mod Written

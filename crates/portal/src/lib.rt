@@ -3,12 +3,14 @@ use monitor::Outcome;
 use monitor::follow_words;
 use monitor::run_lines;
 use monitor::run_words;
+use writer::write_words;
 ghost use mathlib.Core.Path.{_≡_};
 ghost use Prim.Native.Nat.{_+_, _*_, _≤_};
 ghost use Rattle.rules.specs.Limits.{maxBudget};
 ghost use Rattle.monitor.specs.Promises.{answerOf, lent};
 ghost use Rattle.portal.specs.Portal.{numberOf, handed, portal};
 ghost use Rattle.portal.specs.Standing.{Started, Followed};
+ghost use Rattle.portal.specs.Written.{WrittenBack};
 
 // The ending in the upper half, the line count in the lower one.
 fn packed(ending: u8, lines: usize) -> u64
@@ -75,4 +77,12 @@ pub extern "C" fn portal_follow(
         (lent (now (table .exit)) (now (levels .entry)) (now (values .exit)) (now (lines .exit))) r ⌝ }
 {
     number(follow_words(script, budget, table, levels, values, lines))
+}
+
+// The tree and the variables are written into an area as a job with an empty script: the job's length, or the number. They may hold anything, as above.
+#[no_mangle]
+pub extern "C" fn portal_write(table: &[u32], levels: &[u8], values: &[i32], area: &mut [u8]) -> u64
+    ensures { λ r. ⌜ WrittenBack (lent (now (table .entry)) (now (levels .entry)) (now (values .entry)) (now (area .entry))) (now (area .exit)) r ⌝ }
+{
+    write_words(table, levels, values, area) as u64
 }
