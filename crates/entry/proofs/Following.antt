@@ -49,10 +49,10 @@ module _ (ns : List Node) (c : ℕ) (few : c ≡ min (length ns) maxNodes) (w w�
     all : c ≡ length ns
     all = omega (arith, few, le)
 
-    same-cells : (x : ℕ) → x < length ns → cells w′ x ≡ nodesTable ns x
+    pub same-cells : (x : ℕ) → x < length ns → cells w′ x ≡ nodesTable ns x
     same-cells x lt = ap (λ v. cells v x) (l .words) ∙ loaded-at ns w c (omega (arith, few, long)) (l .fit) x (omega (arith, all, lt))
 
-    reach : min (length ns) gone ≡ length ns
+    pub reach : min (length ns) gone ≡ length ns
     reach = omega (arith, le)
 
     surveyed : {marks : List ℕ} {stands : Bool} → Surveys ns marks stands → Surveyed w′ (length ns) stands marks

@@ -3,6 +3,7 @@ pub mod Secret
 pub mod Children
 mod Runs
 mod Following
+mod Written
 mod Owning
 mod Surveying
 mod Callees

@@ -10,6 +10,8 @@ use Rattle.monitor.specs.Secrecy.{SecretCalls}
 use Rattle.monitor.proofs.Histories.{secret-histories-of}
 use Rattle.monitor.proofs.JobHistories.{secret-job-histories-of}
 use Rattle.monitor.proofs.Secret.{secret-of}
+use Rattle.writer.specs.Secrecy.{WritesJob, AreaKept, SameJobs, SecretWrites}
+use Rattle.writer.proofs.Secret.{writes-job-of, area-kept-of, same-jobs-of, secret-writes-of}
 use Rattle.entry.specs.Promises.{Tree}
 use Rattle.entry.specs.Records.{StandsIn}
 
@@ -23,3 +25,16 @@ pub secret-job-histories : (o : Level) → SecretJobHistories length Tree Stands
 secret-job-histories o =
     secret-job-histories-of length Tree StandsIn (λ w k m t u p q h g. one-tree (h .holds) (g .holds)) (λ w t u h k. stands-one (omega arith) h k)
     (λ w k t u p h s. held-one (omega arith) (h .holds) s) o
+
+-- what a call of `write_job` has written, and what two of them show
+pub writes-job : WritesJob length Tree StandsIn
+writes-job = writes-job-of length Tree StandsIn (λ w t u h k. stands-one (omega arith) h k)
+
+pub area-kept : AreaKept length Tree StandsIn
+area-kept = area-kept-of length Tree StandsIn (λ w t u h k. stands-one (omega arith) h k)
+
+pub same-jobs : SameJobs length Tree StandsIn
+same-jobs = same-jobs-of length Tree StandsIn (λ w t u h k. stands-one (omega arith) h k)
+
+pub secret-writes : (o : Level) → SecretWrites length Tree StandsIn o
+secret-writes = secret-writes-of length Tree StandsIn (λ w t u h k. stands-one (omega arith) h k)

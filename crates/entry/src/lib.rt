@@ -7,6 +7,7 @@ ghost use Rattle.table.specs.Cells.{cellSize};
 ghost use Rattle.rules.specs.Limits.{maxNodes};
 ghost use Rattle.monitor.specs.Follow.{Follows};
 ghost use Rattle.monitor.specs.Promises.{lent, Promises};
+ghost use Rattle.writer.specs.Writes.{WritesBack};
 ghost use Rattle.entry.specs.Promises.{Tree, keptOf, ownPlaces, copiedOf, Owned};
 ghost use Rattle.entry.specs.Records.{StandsIn};
 use copies::load;
@@ -19,6 +20,7 @@ use standing::held;
 use table::Node;
 use table::WORDS;
 use table::lent::blank;
+use writer::write_places;
 
 mod copies;
 mod standing;
@@ -102,6 +104,20 @@ pub fn follow_job(
     let filled = kept(outcome, n);
     store(table, &words, filled);
     outcome
+}
+
+// The tree and the variables that a caller lends, written into an area as a job with an empty script: the job's length, or the number. The table has a
+// record to a place.
+pub fn write_job(table: &[Node], levels: &[u8], values: &[i32], area: &mut [u8]) -> usize
+    ensures { λ r. ⌜ WritesBack length StandsIn (lent (now (table .entry)) (now (levels .entry)) (now (values .entry)) (now (area .entry))) (now (area .exit)) r ⌝ }
+{
+    let n = table.len();
+    let mut marks = [0u8; MAX_NODES];
+    let stands = held(table, &mut marks);
+    let mut words = [0u32; WORDS];
+    let copied = few(n);
+    load(table, &mut words, copied);
+    write_places(n, stands, &marks, &words, levels, values, area)
 }
 
 // One record more than a table may have places, so that check 10 can be seen to fail.
