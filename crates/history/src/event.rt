@@ -3,6 +3,7 @@ use super::dump;
 use super::poke;
 use super::runs;
 use super::variables::Variables;
+use super::writing;
 use frames::Header;
 use frames::State;
 use frames::outcome::WORDS;
@@ -148,7 +149,28 @@ fn poke(
     }
 }
 
-// A dump (kind 3), or an event of no kind. Of its body nothing is read.
+// What stands, written back (kind 4).
+fn write(
+    buf: &mut [u8; SIZE],
+    words: &[u32; WORDS],
+    s: State,
+    v: Variables,
+    h: Header,
+    k: u64,
+) -> State
+    requires { ⌜ Fits s × Room v ⌝ }
+    ensures { λ r. ⌜ Fits r ⌝ }
+{
+    let span = s.span;
+    let size = h.budget as usize;
+    State {
+        span,
+        out: writing::put(buf, s.out, k, words, h.places, size, v),
+        over: false,
+    }
+}
+
+// A dump (kind 3), a job written (kind 4), or an event of no kind. Of its body nothing is read.
 fn show(
     block: &mut [u8; SIZE],
     buf: &mut [u8; SIZE],
@@ -165,6 +187,9 @@ fn show(
     let t = frames::pass(block, buf, s, h.size);
     if t.over {
         return t;
+    }
+    if kind == 4 {
+        return write(buf, words, t, v, h, k);
     }
     if kind != 3 {
         return head(buf, t, b"unknown ", k);

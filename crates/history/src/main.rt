@@ -6,6 +6,7 @@ mod event;
 mod poke;
 mod runs;
 mod variables;
+mod writing;
 
 use event::AREA;
 use frames::outcome::WORDS;
