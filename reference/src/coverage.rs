@@ -102,9 +102,30 @@ impl Coverage {
     /// hands back what must come.
     pub fn add_event(&mut self, model: &mut Model, event: &Event) -> Expected {
         self.count(event_name(event.kind));
-        if event.kind != history::kind::SCRIPT {
-            return model.expect(event);
+        match event.kind {
+            history::kind::SCRIPT => self.add_script(model, event),
+            history::kind::WRITE => self.add_write(model, event),
+            _ => model.expect(event),
         }
+    }
+
+    /// What stands, written as a job: each answer, and the edges of the area.
+    fn add_write(&mut self, model: &mut Model, event: &Event) -> Expected {
+        let expected = model.expect(event);
+        if let Expected::Written { answer, area } = &expected {
+            let rest = area.len().checked_sub(*answer);
+            self.count(String::from(match (*answer, rest) {
+                (10, _) => WRITE_TURNED_AWAY[0],
+                (11, _) => WRITE_TURNED_AWAY[1],
+                (14, _) => WRITE_TURNED_AWAY[2],
+                (_, Some(0)) => WRITTEN[0],
+                _ => WRITTEN[1],
+            }));
+        }
+        expected
+    }
+
+    fn add_script(&mut self, model: &mut Model, event: &Event) -> Expected {
         let before = model.standing(event.lent());
         let fault = follow::records(&event.body, Mistake::None).err();
         let fault = fault.or(before.and_then(Result::err));
@@ -428,9 +449,20 @@ fn block_name(command: Option<u8>) -> String {
 /// 10 of a follow-on script: 513 places.
 const MORE_PLACES: &str = "script turned away with 10 for 513 places";
 
+/// What stands, written as a job.
+const WRITE_TURNED_AWAY: [&str; 3] = [
+    "writing turned away with 10",
+    "writing turned away with 11",
+    "writing turned away with 14",
+];
+const WRITTEN: [&str; 2] = [
+    "written into an area as long as the job",
+    "written into a longer area",
+];
+
 fn event_name(kind: u32) -> String {
     match kind {
-        0..=3 => format!("event of kind {kind}"),
+        0..=4 => format!("event of kind {kind}"),
         _ => String::from("event of no kind"),
     }
 }
@@ -448,11 +480,11 @@ fn follow_on_name(command: u8) -> String {
 }
 
 /// Everything that histories must reach: every kind of event, every ending that
-/// a script can have, every reason for 11, and every command in a script.
+/// a script can have, every reason for 11, every command in a script, and every answer of writing.
 pub fn wanted_of_histories() -> Vec<String> {
-    let mut names: Vec<String> = (0..=4).map(event_name).collect();
-    // A script has no checks 1 to 6, and none of an order of nodes.
-    let can_end = |ending: &Ending| !(1..=6).contains(&ending.number()) && *ending != Ending::Order;
+    let mut names: Vec<String> = (0..=5).map(event_name).collect();
+    // A script has no checks 1 to 6, none of an order of nodes and none of an area.
+    let can_end = |ending: &Ending| ![1, 2, 3, 4, 5, 6, 13, 14].contains(&ending.number());
     names.extend(
         Ending::ALL
             .into_iter()
@@ -462,6 +494,8 @@ pub fn wanted_of_histories() -> Vec<String> {
     names.extend(Fault::ALL.map(fault_name));
     names.extend((0..command::COUNT as u8).map(follow_on_name));
     names.push(String::from(MORE_PLACES));
+    names.extend(WRITE_TURNED_AWAY.map(String::from));
+    names.extend(WRITTEN.map(String::from));
     names
 }
 
@@ -473,8 +507,8 @@ pub fn wanted_of_histories() -> Vec<String> {
 pub fn wanted() -> Vec<String> {
     let mut names = Vec::new();
     names.extend((0..command::COUNT as u8).map(command_name));
-    // No job is turned back with 11.
-    let reachable = |ending: &Ending| *ending != Ending::Standing;
+    // No job is turned back with 11 or 14.
+    let reachable = |ending: &Ending| ![Ending::Standing, Ending::Area].contains(ending);
     names.extend(Ending::ALL.into_iter().filter(reachable).map(ending_name));
     names.extend(LONG_RUNS.map(length_name));
     let stops: [(Ending, &[u8]); 5] = [

@@ -1,6 +1,6 @@
 //! The ways a job can end, with the paper's numbers.
 
-/// Finished, a job or script turned back (1 to 13), or a run that stopped (21 to 25, 27).
+/// Finished, a job or script turned back (1 to 14), or a run that stopped (21 to 25, 27).
 #[derive(Clone, Copy, Debug, PartialEq, Eq, PartialOrd, Ord)]
 pub enum Ending {
     Finished = 0,
@@ -33,6 +33,8 @@ pub enum Ending {
     /// "a node after record 0 whose parent is neither the record before it nor an
     /// ancestor of that record" (R-10)
     Order = 13,
+    /// "the output area is shorter than the job" (R-11)
+    Area = 14,
     /// "a rule above"
     Rule = 21,
     /// "the node moved to or removed does not exist, or command 12 at the root"
@@ -48,7 +50,7 @@ pub enum Ending {
 }
 
 impl Ending {
-    pub const ALL: [Ending; 20] = [
+    pub const ALL: [Ending; 21] = [
         Ending::Finished,
         Ending::Size,
         Ending::Layout,
@@ -63,6 +65,7 @@ impl Ending {
         Ending::Standing,
         Ending::Spare,
         Ending::Order,
+        Ending::Area,
         Ending::Rule,
         Ending::Missing,
         Ending::TableFull,
@@ -76,8 +79,8 @@ impl Ending {
         self as u32
     }
 
-    /// Endings 1 to 13: no step was made and no lent buffer changed.
+    /// Endings 1 to 14: no step was made and no lent buffer changed.
     pub fn turned_back(self) -> bool {
-        (1..=13).contains(&self.number())
+        (1..=14).contains(&self.number())
     }
 }

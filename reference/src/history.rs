@@ -10,6 +10,7 @@ use crate::mistake::Mistake;
 use crate::run::{self, Limits, Observer, Outcome, Standing, MAX_PLACES};
 use crate::table::{self, Fault, Lent, NO_LINK};
 use crate::tree::Tree;
+use crate::writer;
 use crate::Level;
 
 /// "The program has 513 node records, all blank at first, 65 places for
@@ -17,12 +18,17 @@ use crate::Level;
 pub const RECORDS: usize = MAX_PLACES + 1;
 pub const VARIABLES: usize = MAX_VARIABLES + 1;
 
+/// "an area of `budget` bytes (at most 24,000), each of which was 170 before"
+pub const MAX_AREA: usize = 24_000;
+pub const AREA_BYTE: u8 = 170;
+
 /// Kinds of events.
 pub mod kind {
     pub const JOB: u32 = 0;
     pub const SCRIPT: u32 = 1;
     pub const POKE: u32 = 2;
     pub const DUMP: u32 = 3;
+    pub const WRITE: u32 = 4;
 }
 
 /// "a header of 16 bytes (kind u32, length u32, budget u32, places u16, line
@@ -79,6 +85,11 @@ impl Event {
     /// Records lent: "at most 513".
     pub fn lent(&self) -> usize {
         usize::from(self.places).min(RECORDS)
+    }
+
+    /// The area that what stands is written into.
+    pub fn area(&self) -> Vec<u8> {
+        vec![AREA_BYTE; (self.budget as usize).min(MAX_AREA)]
     }
 
     /// What the run of a job or script is lent.
@@ -256,6 +267,11 @@ pub enum Expected {
         records: Option<Vec<Lent>>,
         variables: Vec<(Level, i32)>,
     },
+    /// Of what stands, written as a job: the answer, and the whole area.
+    Written {
+        answer: usize,
+        area: Vec<u8>,
+    },
     /// Of an event of no kind.
     Unknown,
     /// What comes depends on places that only the program knows.
@@ -305,6 +321,7 @@ impl Model {
             }
             kind::POKE => return self.poke(&event.body),
             kind::DUMP => return self.dump(event.lent()),
+            kind::WRITE => return self.write(event),
             _ => return Expected::Unknown,
         };
         if let Some(standing) = after {
@@ -367,6 +384,15 @@ impl Model {
             records,
             variables: self.held.variables().to_vec(),
         }
+    }
+
+    fn write(&self, event: &Event) -> Expected {
+        let Some(standing) = self.standing(event.lent()) else {
+            return Expected::Open;
+        };
+        let mut area = event.area();
+        let answer = writer::write(&standing, event.lent(), &mut area, self.mistake);
+        Expected::Written { answer, area }
     }
 
     /// Takes over a table that a dump of all records shows, or says what is

@@ -5,8 +5,8 @@
 //! - [`job`]: the job's bytes, checks 1 to 8, 12 and 13; [`clean`] and [`arrange`]: the
 //!   programs for stored jobs.
 //! - [`run`]: checks 9 and 10, the steps, the whole outcome.
-//! - [`follow`] and [`table`]: a script over a lent tree; [`history`]: the events
-//!   of the `history` program.
+//! - [`follow`] and [`table`]: a script over a lent tree; [`writer`]: such a tree as a job
+//!   again; [`history`]: the events of the `history` program.
 //! - [`portal`]: the two programs around a run, as functions.
 //! - [`public`]: public parts, agreement, and what a leak is.
 //! - [`generate`]: cases and pairs of cases from a seed.
@@ -32,6 +32,7 @@ pub mod shrink;
 pub mod source;
 pub mod table;
 pub mod tree;
+pub mod writer;
 
 /// "A level is 0 (public) or 1 (house)."
 pub type Level = u8;

@@ -169,6 +169,23 @@ pub enum Mistake {
     FreePlacesChecked,
     /// Spare bytes of a bare section hold anything.
     SectionSpareUnchecked,
+    // Writing what stands back.
+    /// The nodes are written level after level.
+    WrittenByLevels,
+    /// A value that only house may know is written as 0.
+    WrittenHouseValuesDropped,
+    /// Bytes of the area beyond the job become 0.
+    WrittenRestCleared,
+    /// An area that is too short gets the beginning of the job.
+    ShortAreaFilled,
+    /// An area as long as the job is too short.
+    AreaMustBeLonger,
+    /// 14 is given before 11 where the area is too short for any job.
+    AreaBeforeStanding,
+    /// 14 is given before 10.
+    AreaBeforePlaces,
+    /// A tree in a table of more than 512 places is written.
+    WrittenFromMorePlaces,
 }
 
 /// The commands that have a rule.
@@ -266,6 +283,18 @@ impl Mistake {
         Mistake::LinkOutsideIsNone,
         Mistake::FreePlacesChecked,
         Mistake::SectionSpareUnchecked,
+    ];
+
+    /// The mistakes that only a tree that is written back shows.
+    pub const WRITING: [Mistake; 8] = [
+        Mistake::WrittenByLevels,
+        Mistake::WrittenHouseValuesDropped,
+        Mistake::WrittenRestCleared,
+        Mistake::ShortAreaFilled,
+        Mistake::AreaMustBeLonger,
+        Mistake::AreaBeforeStanding,
+        Mistake::AreaBeforePlaces,
+        Mistake::WrittenFromMorePlaces,
     ];
 
     /// The mistakes that leak from one script of a history to the next.

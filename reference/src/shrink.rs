@@ -494,6 +494,9 @@ fn smaller_events(event: &Event) -> Box<dyn Iterator<Item = Event> + '_> {
                 .collect();
             Box::new(bodies.into_iter().map(with_body))
         }
+        history::kind::WRITE if !event.body.is_empty() => {
+            Box::new(std::iter::once(with_body(Vec::new())))
+        }
         _ => Box::new(std::iter::empty()),
     }
 }

@@ -63,12 +63,18 @@ pub fn follow(
     answer
 }
 
+/// Whether an accepted job could hold these variables.
+pub(crate) fn variables_stand(levels: &[u8], values: &[i32]) -> bool {
+    levels.len() == values.len()
+        && levels.len() <= MAX_VARIABLES
+        && levels.iter().all(|&level| level <= 1)
+}
+
 fn load_variables(buffers: &mut Buffers, levels: &[u8], values: &[i32]) -> bool {
-    let count = levels.len();
-    if count != values.len() || count > MAX_VARIABLES || levels.iter().any(|&level| level > 1) {
+    if !variables_stand(levels, values) {
         return false;
     }
-    buffers.variable_count = count;
+    buffers.variable_count = levels.len();
     let variables = buffers.variables.iter_mut().zip(levels.iter().zip(values));
     for (variable, (&level, &value)) in variables {
         *variable = Variable { level, value };
@@ -101,14 +107,19 @@ fn load_table(arena: &mut Arena, table: &[Record]) -> bool {
         }
         return good;
     }
+    holds_tree(table)
+}
+
+/// Whether a table of any length holds a tree.
+pub(crate) fn holds_tree(table: &[Record]) -> bool {
     let (mut live, mut counted) = (vec![false; table.len()], vec![0; table.len()]);
     walk(table, &mut live, &mut counted, |_, _| {})
 }
 
-/// Goes once through what `first` and `right` reach from the root. `counted` is
-/// how many children of an open node were met.
+/// Goes once through what `first` and `right` reach from the root, each node before
+/// its children. `counted` is how many children of an open node were met.
 #[inline(always)]
-fn walk(
+pub(crate) fn walk(
     table: &[Record],
     live: &mut [bool],
     counted: &mut [u32],

@@ -4,7 +4,8 @@
 //! - [`check`]: checks 1 to 8; what an accepted job holds goes into [`Buffers`].
 //! - [`arena`]: the nodes; insertion and removal in constant time.
 //! - [`run`]: checks 9 and 10, and the steps.
-//! - [`follow`]: a script over a lent table of node records.
+//! - [`follow`]: a script over a lent table of node records; [`write`](mod@write): such a
+//!   table as a job again.
 //! - [`entry`]: the portal's call, also for C.
 
 pub mod arena;
@@ -12,6 +13,7 @@ pub mod check;
 pub mod entry;
 pub mod follow;
 pub mod run;
+pub mod write;
 
 use arena::Arena;
 
@@ -38,6 +40,7 @@ pub mod ending {
     pub const STANDING: u8 = 11;
     pub const SPARE: u8 = 12;
     pub const ORDER: u8 = 13;
+    pub const AREA: u8 = 14;
     pub const RULE: u8 = 21;
     pub const MISSING: u8 = 22;
     pub const TABLE_FULL: u8 = 23;

@@ -77,6 +77,7 @@ impl Arguments {
 pub fn mistake_named(name: &str) -> Mistake {
     let all = all_mistakes()
         .chain(Mistake::FOLLOWING)
+        .chain(Mistake::WRITING)
         .chain(Mistake::CLEANING)
         .chain(Mistake::ARRANGING);
     let mut named = all.chain([Mistake::None]);

@@ -10,6 +10,7 @@ use reference::history::{self, kind, store, what, Entry, Event, Expected, Held, 
 use reference::mistake::Mistake;
 use reference::run::{self, Outcome, Standing};
 use reference::table::Lent;
+use reference::writer;
 use reference::Level;
 
 use crate::differential::Unlike;
@@ -24,9 +25,22 @@ pub fn heading(event: &Event, number: usize) -> String {
         kind::SCRIPT => "script",
         kind::POKE => "poke",
         kind::DUMP => "table",
+        kind::WRITE => "written",
         _ => "unknown",
     };
     format!("{name} {number}\n")
+}
+
+/// "`written K ANSWER`, then `area ` and the whole area in hexadecimal"
+fn written_text(number: usize, answer: usize, area: &[u8]) -> String {
+    let mut text = format!("written {number} {answer}\narea ");
+    for byte in area {
+        for digit in [byte >> 4, byte & 15] {
+            text.push(char::from(b"0123456789abcdef"[usize::from(digit)]));
+        }
+    }
+    text.push('\n');
+    text
 }
 
 /// "`record P FIRST RIGHT PARENT CHILDREN VALUE EXISTENCE CONTENT LIST`, further
@@ -122,11 +136,12 @@ fn parse_table(text: &str) -> Option<(Vec<Lent>, String)> {
 
 /// The parts of an output, one for each event.
 pub fn split(text: &str) -> Vec<String> {
-    const HEADS: [&str; 6] = [
+    const HEADS: [&str; 7] = [
         "job ",
         "script ",
         "poke ",
         "table ",
+        "written ",
         "unknown ",
         "truncated",
     ];
@@ -172,6 +187,7 @@ pub fn check(
         let expected = match coverage.add_event(&mut model, event) {
             Expected::Outcome(outcome) => head + &frame::text(&outcome),
             Expected::Poked | Expected::Unknown => head,
+            Expected::Written { answer, area } => written_text(told.first + place, answer, &area),
             Expected::Table {
                 records: Some(records),
                 variables,
@@ -260,6 +276,7 @@ impl Standin {
                 let records = &self.held.table[..event.lent()];
                 return head + &table_text(records, self.held.variables());
             }
+            (kind::WRITE, player) => return self.write(event, player),
             (kind::JOB, Player::Fast) => self.fast_job(event),
             (kind::SCRIPT, Player::Fast) => self.fast_script(event),
             (kind::JOB, Player::Reference(mistake)) => {
@@ -272,6 +289,24 @@ impl Standin {
             _ => return head,
         };
         head + &frame::text(&outcome)
+    }
+
+    /// What stands, written as a job; the event has its number already.
+    fn write(&self, event: &Event, player: Player) -> String {
+        let mut area = event.area();
+        let table = &self.held.table[..event.lent()];
+        let variables = self.held.variables();
+        let answer = match player {
+            Player::Reference(mistake) => {
+                let standing = follow::standing(table, variables, mistake);
+                writer::write(&standing, event.lent(), &mut area, mistake)
+            }
+            Player::Fast => {
+                let (levels, values): (Vec<u8>, Vec<i32>) = variables.iter().copied().unzip();
+                fast::write::write(&records(table), &levels, &values, &mut area)
+            }
+        };
+        written_text(self.number - 1, answer, &area)
     }
 
     /// Stores what stands now: its nodes from the last place lent on, but for
@@ -463,6 +498,7 @@ pub fn show(events: &[Event]) -> String {
                 }
             }
             kind::DUMP => writeln!(text, ", places {places}").unwrap(),
+            kind::WRITE => writeln!(text, ", places {places}, area {budget}").unwrap(),
             other => writeln!(text, ", kind {other}, {} bytes", body.len()).unwrap(),
         }
     }

@@ -80,6 +80,7 @@ fn name(ending: Ending) -> &'static str {
         Ending::Budget => "budget out of range",
         Ending::Buffer => "buffers do not fit",
         Ending::Standing => unreachable!("only a follow-on script gets 11"),
+        Ending::Area => unreachable!("only a tree that is written back gets 14"),
         Ending::Spare => "spare byte not zero",
         Ending::Order => "node out of order",
         Ending::Rule => "flow rule broken",

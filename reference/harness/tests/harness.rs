@@ -167,7 +167,7 @@ fn outcomes_can_be_read_back() {
         assert_eq!(frame::parse(&frame::text(&outcome)), Some(outcome));
     }
     assert_eq!(frame::parse("ending 0 index 0 steps 0 lines 1\n"), None);
-    assert_eq!(frame::parse("ending 14 index 0 steps 0 lines 0\n"), None);
+    assert_eq!(frame::parse("ending 20 index 0 steps 0 lines 0\n"), None);
     assert_eq!(frame::parse("index 0 ending 0 steps 0 lines 0\n"), None);
     assert_eq!(frame::parse(""), None);
 }
@@ -407,6 +407,23 @@ fn histories_through_a_stand_in() {
         .output()
         .expect("the program starts");
     assert_eq!(other.status.code(), Some(0));
+}
+
+/// What stands is written back, loaded and gone on with; a mistake in that is found.
+#[test]
+fn moved_histories_through_a_stand_in() {
+    let words = ["--history", HISTORY_STANDIN, "--moved", "--histories"];
+    let text = ended(HISTORIES, &[&words[..], &["1000"]].concat(), 0);
+    assert!(
+        text.contains("1000 histories") && text.contains("no difference"),
+        "{text}"
+    );
+    let wrong = ["100", "--mistake", "WrittenByLevels"];
+    let text = ended(HISTORIES, &[&words[..], &wrong[..]].concat(), 1);
+    assert!(
+        text.contains("the smallest history that shows it"),
+        "{text}"
+    );
 }
 
 /// A history that shows a mistake becomes small, but for the nodes of a table

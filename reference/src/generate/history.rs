@@ -1,4 +1,5 @@
-//! Histories: jobs, follow-on scripts, pokes at what stands, and dumps.
+//! Histories: jobs, follow-on scripts, pokes at what stands, dumps, and what stands
+//! written as a job.
 //!
 //! Pokes put in whole tables, at scattered places and with anything in the free
 //! ones, and break them: so what comes does not hang on the places that a
@@ -7,26 +8,22 @@
 
 use super::nodes::{self, Growth};
 use super::{damaged, levels_of, likely_mistake, script, trial_ending, valid_job};
+use crate::arrange::in_order;
 use crate::ending::Ending;
 use crate::history::{kind, store, what, Entry, Event, Expected, Model, RECORDS, VARIABLES};
-use crate::job::{self, Record, MAX_RECORDS, MAX_VARIABLES, RECORD_BYTES};
+use crate::job::{self, command, Record, MAX_RECORDS, MAX_VARIABLES, RECORD_BYTES};
 use crate::mistake::Mistake;
 use crate::random::Random;
-use crate::run::{Standing, MAX_BUDGET, MAX_PLACES};
-use crate::source::nothing;
+use crate::run::{Limits, Monitor, Standing, MAX_BUDGET, MAX_PLACES};
+use crate::source::{nothing, remove_first_child};
 use crate::table::{Lent, NO_LINK};
 use crate::tree::Tree;
+use crate::writer;
 
 /// The history of a seed.
 pub fn history(seed: u64) -> Vec<Event> {
     let mut random = Random::new(seed ^ 0x0068_6973_746f_7279);
-    let mut writer = Writer {
-        random: &mut random,
-        model: Model::new(Mistake::None),
-        events: Vec::new(),
-        shown: true,
-        least: 0,
-    };
+    let mut writer = Writer::new(&mut random);
     match writer.random.below(8) {
         0 => {}
         1 | 2 => writer.new_table(),
@@ -35,6 +32,25 @@ pub fn history(seed: u64) -> Vec<Event> {
     for _ in 0..writer.random.between(1, 7) {
         writer.turn();
     }
+    writer.events
+}
+
+/// The history of a seed in which nodes are removed, and what stands then is
+/// written, loaded into a fresh table and gone on with.
+pub fn moved(seed: u64) -> Vec<Event> {
+    let mut random = Random::new(seed ^ 0x006d_6f76_6564);
+    let mut writer = Writer::new(&mut random);
+    writer.resort();
+    for _ in 0..writer.random.between(1, 2) {
+        writer.prune();
+        for _ in 0..writer.random.below(3) {
+            writer.script();
+        }
+        writer.write_whole();
+        writer.load_written();
+    }
+    writer.script();
+    writer.write_whole();
     writer.events
 }
 
@@ -49,7 +65,17 @@ struct Writer<'a> {
     least: usize,
 }
 
-impl Writer<'_> {
+impl<'a> Writer<'a> {
+    fn new(random: &'a mut Random) -> Writer<'a> {
+        Writer {
+            random,
+            model: Model::new(Mistake::None),
+            events: Vec::new(),
+            shown: true,
+            least: 0,
+        }
+    }
+
     fn push(&mut self, event: Event) {
         let expected = self.model.expect(&event);
         debug_assert_ne!(expected, Expected::Open);
@@ -91,7 +117,7 @@ impl Writer<'_> {
     }
 
     fn turn(&mut self) {
-        match self.random.weighted(&[9, 4, 5, 2, 2, 3, 2, 1, 2, 1]) {
+        match self.random.weighted(&[9, 4, 5, 2, 2, 3, 2, 1, 2, 1, 3]) {
             0 => self.script(),
             1 => self.damaged_script(),
             2 => self.hostile_table(),
@@ -101,7 +127,8 @@ impl Writer<'_> {
             6 => self.poke_variables(),
             7 => self.job(),
             8 => self.push(Event::dump()),
-            _ => self.odd_event(),
+            9 => self.odd_event(),
+            _ => self.write_back(),
         }
     }
 
@@ -117,6 +144,111 @@ impl Writer<'_> {
             places: limits.places as u16,
             lines: limits.lines as u16,
             body: bytes,
+        });
+    }
+
+    /// A job with a tree in which there is something to remove.
+    fn resort(&mut self) {
+        let (mut job, _) = valid_job(self.random);
+        let count = match self.random.below(50) {
+            0 => MAX_PLACES,
+            _ => self.random.between(4, 30),
+        };
+        let growth = Growth::some(self.random, Random::value);
+        job.nodes = in_order(&nodes::grown(self.random, growth, count));
+        job.script.clear();
+        let places = match self.random.below(3) {
+            0 => (count + self.random.below(5)).min(MAX_PLACES),
+            _ => MAX_PLACES,
+        };
+        self.push(Event {
+            kind: kind::JOB,
+            budget: 1,
+            places: places as u16,
+            lines: 0,
+            body: job.encode(),
+        });
+    }
+
+    /// A script by which a node is removed.
+    fn prune(&mut self) {
+        let standing = self.standing();
+        let levels = levels_of(&standing.variables);
+        let goes_on = &mut |script: &[Record]| {
+            let ending = trial_ending(&standing, script, Mistake::None);
+            ![Ending::Rule, Ending::Missing, Ending::OutOfRange].contains(&ending)
+        };
+        let mut event = Event {
+            kind: kind::SCRIPT,
+            budget: 2_000,
+            places: self.places().min(MAX_PLACES as u16),
+            lines: 256,
+            body: Vec::new(),
+        };
+        let mut drawn = (0..8).map(|_| script::pruning(self.random, &levels, goes_on));
+        let script = drawn
+            .find(|script| removes(&standing, script, &event.limits()))
+            .unwrap_or_else(|| vec![remove_first_child()]);
+        event.body = job::section(&script);
+        self.push(event);
+    }
+
+    /// What stands, written into an area that is long enough mostly, over places that
+    /// hold it mostly; then often the job that comes of it.
+    fn write_back(&mut self) {
+        let length = writer::written(&self.standing()).len();
+        let area = match self.random.below(8) {
+            0 => length - 1,
+            1 => self.random.below(length),
+            2 => self.random.pick(&[0, 1, 19, 24_000, 24_001, 70_000]),
+            3 | 4 => length,
+            _ => length + self.random.below(40),
+        };
+        let places = match self.random.below(8) {
+            0 => RECORDS as u16,
+            1 if self.shown => self.random.pick(&[0, 1, 2, 3]),
+            _ => self.places(),
+        };
+        let body = vec![9; self.random.pick(&[0, 0, 0, 5])];
+        self.write(area, places, body);
+        if self.random.chance(1, 3) {
+            self.load_written();
+        }
+    }
+
+    /// The same, whole.
+    fn write_whole(&mut self) {
+        let length = writer::written(&self.standing()).len();
+        let area = length + self.random.pick(&[0, 0, 1, 25]);
+        let places = self.places().min(MAX_PLACES as u16);
+        self.write(area, places, Vec::new());
+    }
+
+    fn write(&mut self, area: usize, places: u16, body: Vec<u8>) {
+        self.push(Event {
+            kind: kind::WRITE,
+            budget: area as u32,
+            places,
+            lines: 0,
+            body,
+        });
+    }
+
+    /// The job that what stands is written as, in a fresh table.
+    fn load_written(&mut self) {
+        let standing = self.standing();
+        let live = standing.tree.count();
+        let places = match self.random.below(3) {
+            0 => live,
+            1 => (live + self.random.below(4)).min(MAX_PLACES),
+            _ => MAX_PLACES,
+        };
+        self.push(Event {
+            kind: kind::JOB,
+            budget: 1,
+            places: places as u16,
+            lines: 0,
+            body: writer::written(&standing),
         });
     }
 
@@ -432,6 +564,17 @@ impl Writer<'_> {
         };
         self.push(event);
     }
+}
+
+/// Whether a script over what stands carries a removal out.
+fn removes(standing: &Standing, script: &[Record], limits: &Limits) -> bool {
+    let mut found = false;
+    let monitor = Monitor::new(script, standing, limits, Mistake::None);
+    monitor.run(&mut |_, record| {
+        found |=
+            [command::REMOVE_FIRST_CHILD, command::REMOVE_RIGHT_SIBLING].contains(&record.command);
+    });
+    found
 }
 
 fn alone() -> Tree {

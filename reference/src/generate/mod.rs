@@ -11,7 +11,7 @@ mod shuffled;
 
 pub use damage::damaged;
 pub use dirty::{dirty, full_of_notes};
-pub use history::history;
+pub use history::{history, moved};
 pub use history_pairs::{history_pair, HistoryPair};
 use nodes::Growth;
 pub use pairs::{pair, pair_with, Pair};

@@ -38,6 +38,26 @@ const DRAWS: usize = 6;
 /// Tells whether a script may stay as it has become.
 pub type Accept<'a> = &'a mut dyn FnMut(&[Record]) -> bool;
 
+/// A script that adds and removes nodes here and there.
+pub fn pruning(random: &mut Random, levels: &[Level], accept: Accept) -> Vec<Record> {
+    let mut writer = Writer::new(random, levels, accept);
+    for _ in 0..writer.random.between(3, 12) {
+        for _ in 0..writer.random.below(3) {
+            writer.put_some(&mut Writer::some_move);
+        }
+        match writer.random.below(4) {
+            0 | 1 => writer.put_some(&mut Writer::some_change),
+            2 => {
+                writer.put(&[remove_first_child()]);
+            }
+            _ => {
+                writer.put(&[remove_right_sibling()]);
+            }
+        }
+    }
+    writer.script
+}
+
 /// A script of any size for variables of these levels.
 pub fn any(random: &mut Random, levels: &[Level], accept: Accept) -> Vec<Record> {
     let statements = match random.below(100) {

@@ -68,7 +68,7 @@ fn every_kind_number_and_reason_comes_up() {
 
 #[test]
 fn every_mistake_shows() {
-    for mistake in Mistake::FOLLOWING {
+    for mistake in Mistake::FOLLOWING.into_iter().chain(Mistake::WRITING) {
         let found = (0..SEEDS).find(|&seed| {
             let events = generate::history(seed);
             let outcomes = |mistake| play(&events, mistake, IN_ORDER, &mut Coverage::new());

@@ -10,6 +10,7 @@ mod follow;
 mod moves;
 mod readings;
 mod trials;
+mod writer;
 
 use reference::job::{Job, Node, Record};
 use reference::run::{self, Limits, Outcome};

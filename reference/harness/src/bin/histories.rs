@@ -17,9 +17,11 @@ use reference::shrink;
 
 const USAGE: &str =
     "histories [--history PATH | --no-history] [--no-fast] [--histories N] [--seconds S] [--seed N]
-    [--forever] [--mistake NAME] [--each-mistake] [--coverage]";
+    [--forever] [--mistake NAME] [--each-mistake] [--coverage] [--moved]
 
-const KNOWN: [&str; 10] = [
+--moved: histories in which nodes are removed, and what stands is written, loaded and gone on with";
+
+const KNOWN: [&str; 11] = [
     "--history",
     "--no-history",
     "--no-fast",
@@ -30,6 +32,7 @@ const KNOWN: [&str; 10] = [
     "--mistake",
     "--each-mistake",
     "--coverage",
+    "--moved",
 ];
 
 /// Enough to reach everything.
@@ -64,13 +67,19 @@ fn compare(sides: &[Through], arguments: &Arguments) -> bool {
     let bounds = Bounds::read(arguments, "--histories", MANY);
     let seed = bounds.seed;
     let mistake = arguments.mistake();
+    let moved = arguments.has("--moved");
+    let make = if moved {
+        generate::moved
+    } else {
+        generate::history
+    };
     let mut coverage = Coverage::new();
     let mut progress = Progress::new("histories");
     let (mut done, mut events) = (0, 0);
     println!("seed {seed}");
     while bounds.go_on(done) {
         let first = seed + done;
-        let histories = generated(first, BATCH.min(bounds.most - done));
+        let histories = generated(make, first, BATCH.min(bounds.most - done));
         for side in sides {
             for (place, told) in told(side, &histories).iter().enumerate() {
                 let history = &histories[place];
@@ -93,7 +102,7 @@ fn compare(sides: &[Through], arguments: &Arguments) -> bool {
         println!("{coverage}");
     }
     let missing = coverage.missing_of_histories();
-    if !missing.is_empty() && done >= MANY {
+    if !missing.is_empty() && done >= MANY && !moved {
         println!("never reached: {missing:?}");
         return false;
     }
@@ -102,8 +111,8 @@ fn compare(sides: &[Through], arguments: &Arguments) -> bool {
     true
 }
 
-fn generated(first: u64, count: u64) -> Vec<Vec<Event>> {
-    (first..first + count).map(generate::history).collect()
+fn generated(make: fn(u64) -> Vec<Event>, first: u64, count: u64) -> Vec<Vec<Event>> {
+    (first..first + count).map(make).collect()
 }
 
 fn told(side: &Through, histories: &[Vec<Event>]) -> Vec<Told> {
@@ -176,12 +185,12 @@ fn cuts(sides: &[Through], seed: u64) -> bool {
 /// Whether each planted mistake shows in what each side prints.
 fn each_mistake(sides: &[Through], arguments: &Arguments) -> bool {
     let bounds = Bounds::read(arguments, "--histories", MANY);
-    let histories = generated(bounds.seed, bounds.most);
+    let histories = generated(generate::history, bounds.seed, bounds.most);
     let mut all = true;
     for side in sides {
         let batches = histories.chunks(BATCH as usize);
         let printed: Vec<Told> = batches.flat_map(|batch| told(side, batch)).collect();
-        for mistake in Mistake::FOLLOWING {
+        for mistake in Mistake::FOLLOWING.into_iter().chain(Mistake::WRITING) {
             let found = histories.iter().zip(&printed).position(|(history, told)| {
                 let wrong = check(history, told, mistake, &mut Coverage::new());
                 matches!(wrong, Err(Wrong::Unlike(..)))
