@@ -6,7 +6,7 @@ use fast::follow::{self, Lent, Record};
 use fast::{Answer, Buffers, Limits};
 
 use crate::portal::{Lending, Portal};
-use crate::workloads::{Unit, Workload};
+use crate::workloads::{Task, Unit, Workload};
 
 #[derive(Clone, Copy, Debug, PartialEq, Eq)]
 pub enum Side {
@@ -34,16 +34,41 @@ impl Bench {
 
     /// Whether both sides can do it.
     pub fn can(&self, workload: &Workload) -> bool {
-        workload.table.is_empty() || self.portal.follows()
+        workload.task == Task::Run || self.portal.follows()
     }
 
     /// The answer for a call of a workload, with a budget, over an area.
     pub fn call(&mut self, side: Side, workload: &Workload, budget: u64, area: &mut [u8]) -> u64 {
         let job = black_box(&workload.job[..]);
-        match (side, workload.table.is_empty()) {
-            (Side::Ours, true) => self.portal.call(job, budget, area),
-            (Side::Fast, true) => fast::entry::portal_in(&mut self.buffers, job, budget, area),
-            (_, false) => self.follow(side, job, workload, budget, area),
+        match (side, workload.task) {
+            (Side::Ours, Task::Run) => self.portal.call(job, budget, area),
+            (Side::Fast, Task::Run) => fast::entry::portal_in(&mut self.buffers, job, budget, area),
+            (_, Task::Follow) => self.follow(side, job, workload, budget, area),
+            (_, Task::Write) => self.write(side, workload, area),
+        }
+    }
+
+    /// The records of a workload, which stay from call to call.
+    fn lend(&mut self, workload: &Workload) {
+        if self.table.len() != workload.table.len() || self.lent != workload.name {
+            self.table = workload.table.clone();
+            self.lent = workload.name.clone();
+        }
+    }
+
+    /// What stands, written as a job.
+    fn write(&mut self, side: Side, workload: &Workload, area: &mut [u8]) -> u64 {
+        self.lend(workload);
+        match side {
+            Side::Ours => {
+                let lent = Lending {
+                    words: words(&mut self.table),
+                    levels: &[],
+                    values: &mut [],
+                };
+                self.portal.write(lent, area)
+            }
+            Side::Fast => fast::write::write(&self.table, &[], &[], area) as u64,
         }
     }
 
@@ -56,10 +81,7 @@ impl Bench {
         budget: u64,
         area: &mut [u8],
     ) -> u64 {
-        if self.table.len() != workload.table.len() || self.lent != workload.name {
-            self.table = workload.table.clone();
-            self.lent = workload.name.clone();
-        }
+        self.lend(workload);
         let table = &mut self.table[..];
         match side {
             Side::Ours => {
@@ -95,7 +117,7 @@ impl Bench {
 
     /// The steps of a call.
     pub fn steps(&mut self, workload: &Workload) -> u32 {
-        if !workload.table.is_empty() {
+        if workload.task != Task::Run {
             return 0;
         }
         let limits = Limits {

@@ -26,6 +26,17 @@ extern "C" {
         lines: *mut u8,
         lines_len: usize,
     ) -> u64;
+
+    fn portal_write(
+        table: *const u32,
+        table_len: usize,
+        levels: *const u8,
+        levels_len: usize,
+        values: *const i32,
+        values_len: usize,
+        area: *mut u8,
+        area_len: usize,
+    ) -> u64;
 }
 
 /// Where this is in the environment, a program is as one that was built without
@@ -88,8 +99,8 @@ fn call_linked(_: &[u8], _: u64, _: &mut [u8]) -> u64 {
     unreachable!("no portal is linked")
 }
 
-/// What a follow-on script is lent besides its lines: ten words for each
-/// place, in the order of the fast version's records.
+/// What a follow-on script is lent besides its lines, and writing besides its area: ten
+/// words for each place, in the order of the fast version's records.
 pub struct Lending<'a> {
     pub words: &'a mut [u32],
     pub levels: &'a [u8],
@@ -109,6 +120,37 @@ impl Portal {
             _ => unreachable!("only the linked portal is measured"),
         }
     }
+
+    /// What stands, written as a job: its length, or the number.
+    pub fn write(self, lent: Lending, area: &mut [u8]) -> u64 {
+        match self {
+            Portal::Linked => write_linked(lent, area),
+            _ => unreachable!("only the linked portal is measured"),
+        }
+    }
+}
+
+#[cfg(portal_linked)]
+fn write_linked(lent: Lending, area: &mut [u8]) -> u64 {
+    // SAFETY: all slices are valid for their lengths and do not overlap; the
+    // portal keeps none.
+    unsafe {
+        portal_write(
+            lent.words.as_ptr(),
+            lent.words.len(),
+            lent.levels.as_ptr(),
+            lent.levels.len(),
+            lent.values.as_ptr(),
+            lent.values.len(),
+            area.as_mut_ptr(),
+            area.len(),
+        )
+    }
+}
+
+#[cfg(not(portal_linked))]
+fn write_linked(_: Lending, _: &mut [u8]) -> u64 {
+    unreachable!("no portal is linked")
 }
 
 #[cfg(portal_linked)]

@@ -20,14 +20,26 @@ pub enum Unit {
     Call,
 }
 
+/// Which call it is.
+#[derive(Clone, Copy, Debug, PartialEq, Eq)]
+pub enum Task {
+    /// A job.
+    Run,
+    /// A follow-on script over a lent table.
+    Follow,
+    /// What stands in a lent table, written as a job.
+    Write,
+}
+
 pub struct Workload {
     pub name: String,
-    /// A job; over a table, a bare script section.
+    pub task: Task,
+    /// A job, or a bare script section.
     pub job: Vec<u8>,
-    /// The lent records of a follow-on script; none for a job.
+    /// The lent records; none for a job.
     pub table: Vec<LentRecord>,
     pub budget: u64,
-    /// Bytes lent for lines.
+    /// Bytes lent for lines, or for the job that is written.
     pub area: usize,
     pub unit: Unit,
 }
@@ -42,6 +54,7 @@ fn long(name: &str, variables: &[Variable], nodes: &[Node], script: &[Record]) -
     Workload {
         name: String::from(name),
         job: job(variables, nodes, script).encode(),
+        task: Task::Run,
         table: Vec::new(),
         budget: STEPS,
         area: 0,
@@ -104,6 +117,14 @@ pub fn table() -> Vec<Workload> {
         ),
         standing(
             "a script of no records over 512 nodes, each below the last",
+            |index| index - 1,
+        ),
+        written(
+            "512 scattered nodes written as a job, all below the root",
+            |_| 0,
+        ),
+        written(
+            "512 scattered nodes written as a job, each below the last",
             |index| index - 1,
         ),
     ]
@@ -353,6 +374,7 @@ fn once(name: &str, script: &[Record]) -> Workload {
     Workload {
         name: String::from(name),
         job: job(&[], &wide(20), &script).encode(),
+        task: Task::Run,
         table: Vec::new(),
         budget: STEPS,
         area: 0,
@@ -399,6 +421,7 @@ fn checking(name: &str, parts: &Job) -> Workload {
     Workload {
         name: String::from(name),
         job: parts.encode(),
+        task: Task::Run,
         table: Vec::new(),
         budget: 0,
         area: 0,
@@ -478,6 +501,7 @@ pub fn small_job() -> Workload {
     Workload {
         name: String::from("whole small job (20 nodes, 50 steps)"),
         job: small_parts().encode(),
+        task: Task::Run,
         table: Vec::new(),
         budget: 100,
         area: 64,
@@ -487,16 +511,36 @@ pub fn small_job() -> Workload {
 
 /// A follow-on script of no records: the checks of the lent table alone.
 fn standing(name: &str, parent: fn(u16) -> u16) -> Workload {
-    let tree = Tree::from_records(&full(parent).nodes);
-    let mut table = vec![Lent::default(); MAX_NODES];
-    let places: Vec<usize> = (0..MAX_NODES).collect();
-    store(&tree, &places, &mut table);
     Workload {
         name: String::from(name),
+        task: Task::Follow,
         job: Vec::new(),
-        table: records(&table),
+        table: lent(parent, (0..MAX_NODES).collect()),
         budget: 1,
         area: 0,
         unit: Unit::Call,
     }
+}
+
+/// 512 nodes whose places are scattered, written as a job.
+fn written(name: &str, parent: fn(u16) -> u16) -> Workload {
+    // 387 is prime to 512, so that each place comes once.
+    let scattered = (0..MAX_NODES).map(|index| 387 * index % MAX_NODES);
+    Workload {
+        name: String::from(name),
+        task: Task::Write,
+        job: Vec::new(),
+        table: lent(parent, scattered.collect()),
+        budget: 1,
+        area: 12 * MAX_NODES + 8,
+        unit: Unit::Call,
+    }
+}
+
+/// A tree of 512 nodes at these places, in preorder.
+fn lent(parent: fn(u16) -> u16, places: Vec<usize>) -> Vec<LentRecord> {
+    let tree = Tree::from_records(&full(parent).nodes);
+    let mut table = vec![Lent::default(); MAX_NODES];
+    store(&tree, &places, &mut table);
+    records(&table)
 }
