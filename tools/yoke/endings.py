@@ -15,6 +15,7 @@ ENDINGS = {
     11: "follow-on not whole",
     12: "spare byte not zero",
     13: "node out of order",
+    14: "area too short",
     21: "flow rule broken",
     22: "node does not exist",
     23: "table full",

@@ -14,6 +14,9 @@ MAX_DEPTH = 16
 MAX_BUDGET = 1_000_000
 NO_PARENT = 65_535
 
+# The longest job without a script.
+MAX_WRITTEN = 8 * MAX_VARIABLES + 12 * MAX_NODES + 8
+
 # What the program replay can be asked for: fields of 32 and 16 bits, and what it has.
 ASKED_BUDGET = 2**32 - 1
 ASKED_PLACES = MAX_NODES + 1

@@ -136,6 +136,13 @@ section of bytes. A script that is stopped leaves what it did; one that is
 refused changes nothing; the next goes on. A node that script 2 adds in line 4
 is called new2_4. The program for this is history, in target/bin or $HISTORY.
 
+  tools/job run examples/season.yoke examples/season-1.yoke --save monday.job
+
+--save writes the variables and the tree that stand in the end as a job without
+a script, after a stop, too; the program for this is history. The file has all
+house numbers. `list` shows it, `run` goes on with it: the job runs nothing, and
+scripts behind it find what stood.
+
 It shows house numbers: it is for whoever owns them. The public sees the board.
 """,
     "probe": """\

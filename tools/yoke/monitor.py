@@ -9,12 +9,12 @@ from pathlib import Path
 from typing import NamedTuple
 
 from .errors import JobError, visible
-from .limits import HOME
+from .limits import HOME, MAX_WRITTEN
 from .pictures import Picture
 
 FRAME = struct.Struct("<IIHH")
 EVENT = struct.Struct("<IIIHH")
-JOB, SCRIPT = 0, 1  # kinds of events
+JOB, SCRIPT, WRITE = 0, 1, 4  # kinds of events
 
 
 class Outcome(NamedTuple):
@@ -155,14 +155,33 @@ def replay(frames, brief=False):
     return outcomes("replay", frames, "job", brief)
 
 
+def events_of(job, sections, limits):
+    return [EVENT.pack(kind, len(data), limits.budget, limits.places, limits.lines) + data
+            for kind, data in [(JOB, job)] + [(SCRIPT, data) for data in sections]]
+
+
 def history(job, sections, limits):
     """The outcome of a job and of each bare section behind it, over what stands then."""
-    events = [EVENT.pack(kind, len(data), limits.budget, limits.places, limits.lines) + data
-              for kind, data in [(JOB, job)] + [(SCRIPT, data) for data in sections]]
+    events = events_of(job, sections, limits)
     answers = list(outcomes("history", events, "script"))
     if len(answers) != len(events):
         raise misread("history", f"{len(events)} answers expected", 0, f"there are {len(answers)}")
     return answers
+
+
+def written(job, sections, limits):
+    """What stands behind a job and the sections after it, as a job; by history, too."""
+    events = events_of(job, sections, limits)
+    child = start("history")
+    output, _ = child.communicate(b"".join(events) + EVENT.pack(WRITE, 0, MAX_WRITTEN, limits.places, 0))
+    text = output.decode("utf-8", "replace")
+    match = re.search(r"^written (\d+) (\d+)\narea ((?:[0-9a-f]{2})*)\n\Z", text, re.M)
+    if not match or int(match.group(1)) != len(events):
+        raise misread("history", "what stands was not written", child.returncode, text[-200:])
+    length, area = int(match.group(2)), bytes.fromhex(match.group(3))
+    if not 20 <= length <= len(area):
+        raise misread("history", f"what stands was turned away with {length}", child.returncode, "")
+    return area[:length]
 
 
 def outcomes(name, parts, heads, brief=False):

@@ -18,7 +18,7 @@ from .history import History, Part, read_part
 from .limits import ASKED_BUDGET, ASKED_LINES, ASKED_PLACES, HOME, PROGRAM, Limits
 from .listing import listing, preorder, record_text, script_lines
 from .manual import DESCRIPTIONS, LANGUAGE, STATUS
-from .monitor import history, outcome, stored
+from .monitor import history, outcome, stored, written
 from .pictures import pictured, text_picture
 from .probe import Variations, boards, probe_report, terminal_progress
 from .run import Run
@@ -197,6 +197,8 @@ def limits_of(options):
 
 def do_run(options):
     need_one_stdin(options.job, options.tree, *options.scripts)
+    if options.save == "-":
+        raise JobError("--save needs a file: standard output has the account of the run")
     source, data = read_either(options.job, options.tree)
     path = source.path if source else shown(options.job)
     limits, asked = limits_of(options)
@@ -209,6 +211,8 @@ def do_run(options):
         print("\n".join(refusal_lines(path, source, answer, fault)) + (no_tree(source) if source else ""))
         if options.scripts:
             print(NO_SCRIPT)
+        if options.save:
+            print(NOT_SAVED)
         return 1
     if fault:
         raise JobError(f"{path}: the monitor ran this job, and this tool holds that it is {describe(fault)}\n"
@@ -219,10 +223,25 @@ def do_run(options):
             print(row)
         print()
     print("\n".join(report(run.go(), answer, options.all)))
+    save(options, data, [], limits)
     return 0 if answer.ending == FINISHED else 1
 
 
 NO_SCRIPT = "\nThere is no tree for the scripts, so none was run."
+NOT_SAVED = "\nThere is no tree to save, so no file was written."
+
+
+def save(options, job, sections, limits):
+    """Writes what stands in the end as a job, where that is asked for."""
+    if not options.save:
+        return
+    data = written(job, sections, limits)
+    fault = check(data)
+    if fault:
+        raise JobError(f"history wrote a job that this tool holds to be {describe(fault)}\nPlease report this job.")
+    write_bytes(options.save, data)
+    left = decode(data)
+    print(f"\nsaved: {shown(options.save)}, a job of {plural(len(left.variables), 'variable')} and {plural(len(left.nodes), 'node')} without a script")
 
 
 def run_history(first, options, limits):
@@ -235,9 +254,10 @@ def run_history(first, options, limits):
         for row in past.rows(part, answer, options.trace):
             print(row)
         if past.standing is None:
-            print(NO_SCRIPT)
+            print(NO_SCRIPT + (NOT_SAVED if options.save else ""))
             return 1
     print("\n".join(past.left(first.source.names.variables, options.all)))
+    save(options, first.data, [script.data for script in scripts], limits)
     return 0 if past.finished else 1
 
 
@@ -330,6 +350,7 @@ def parser():
     add_limits(one)
     one.add_argument("--trace", action="store_true", help="first a line for each step")
     one.add_argument("--all", action="store_true", help="leave nothing out of the last tree, however long a row is")
+    one.add_argument("--save", metavar="FILE", help="write the variables and the tree that stand in the end to FILE, as a job without a script")
     one = verb("probe", "run it with many house numbers and compare the boards", do_probe)
     one.add_argument("job", metavar="SOURCE|JOB", help="a source or a job, or - for standard input")
     add_limits(one)
