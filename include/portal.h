@@ -1,4 +1,5 @@
-/* The monitor, for a portal in C or C++: hand over a job, get its board lines and how it ended. Or keep the job's tree, and run script after script over it.
+/* The monitor, for a portal in C or C++: hand over a job, get its board lines and how it ended. Or keep the job's tree, run script after script over it, and write
+   it as a job again.
 
    `make lib` builds libportal.a beside this file; `make install` puts both where a compiler finds them. To compile and link, in the repository or after
    an installation:
@@ -20,9 +21,9 @@
 #include <stdint.h>
 
 /* The version of this header and of the library beside it. The first number changes where a program must be changed. */
-#define PORTAL_VERSION "1.8.0"
+#define PORTAL_VERSION "1.9.0"
 #define PORTAL_VERSION_MAJOR 1
-#define PORTAL_VERSION_MINOR 8
+#define PORTAL_VERSION_MINOR 9
 #define PORTAL_VERSION_PATCH 0
 
 /* The largest job, in bytes. Read up to one byte more, so that a longer one is seen and turned back. */
@@ -44,6 +45,9 @@
 
 /* The most variables that a job may have. */
 #define PORTAL_MAX_VARIABLES 64
+
+/* The longest job that portal_write writes, in bytes: 64 variables of 8, 512 nodes of 12, and 8 more. */
+#define PORTAL_MAX_WRITTEN 6664
 
 /* A cast that both C and C++ take without a warning. */
 #ifdef __cplusplus
@@ -70,6 +74,7 @@ enum {
     PORTAL_BAD_FOLLOW_ON = 11,      /* the script is no whole records or more than 1,024, or no accepted job could hold what stands in table and variables */
     PORTAL_SPARE_BYTE = 12,         /* a byte that nobody reads is not zero */
     PORTAL_BAD_ORDER = 13,          /* a node's parent is neither the record before it nor above that record */
+    PORTAL_BAD_AREA = 14,           /* from portal_write alone: the area is shorter than the job */
     PORTAL_FLOW = 21,               /* a command would have let house data flow to the public */
     PORTAL_NO_NODE = 22,            /* the node to go to, to remove or to come back to does not exist */
     PORTAL_TABLE_FULL = 23,         /* a new node, where there are as many as places */
@@ -150,6 +155,36 @@ uint64_t portal_start(const uint8_t *job, size_t job_len, uint64_t budget, uint3
 uint64_t portal_follow(const uint8_t *script, size_t script_len, uint64_t budget, uint32_t *table, size_t table_len, const uint8_t *levels,
                        size_t levels_len, int32_t *values, size_t values_len, uint8_t *lines, size_t lines_len);
 
+/* Writes the tree and the variables that stand as a job with an empty script: to put them away, to send them, or to load them into a fresh table with portal_start.
+   The nodes are listed the way they hang, closed up, whatever places they stand at: the same tree and variables give the same bytes.
+
+   table       the table in which the tree stands, which is read only
+   table_len   how many words: not more than PORTAL_MAX_PLACES places, and every place of a node among them
+   levels      the variables' levels, which are read only
+   levels_len  how many variables there are: exactly portal_variables(job, job_len) of the job that began
+   values      the variables' values, which are read only
+   values_len  the same number as levels_len
+   area        bytes for the job
+   area_len    how many: PORTAL_MAX_WRITTEN is always enough. The job has 8 for each variable, 12 for each node and 8 more
+
+   Returns how many bytes the job has, 20 or more, or below 20 the number by which the call was turned back: PORTAL_BAD_FOLLOW_ON where no accepted job could hold
+   what stands in table and variables, then PORTAL_BAD_BUFFERS for more than PORTAL_MAX_PLACES places, then PORTAL_BAD_AREA where the area is shorter than the job.
+   There is no budget and there are no lines: portal_ending is not for this answer, portal_wrote tells the two apart. The job stands at the beginning of the area;
+   every byte behind it is as it was, and every byte where the call was turned back. portal_start accepts the job, and leaves the same variables and the same tree.
+
+   What to show. The job has every house number. Its public parts depend on public parts alone.
+
+   NULL: each pointer may be NULL where its length is 0. Otherwise it points to as many numbers as its length says, aligned as C asks for.
+
+   Overlap: the area must overlap nothing else that is lent; the others may overlap each other.
+
+   Threads: calls that only read a tree may go on at the same time. */
+uint64_t portal_write(const uint32_t *table, size_t table_len, const uint8_t *levels, size_t levels_len, const int32_t *values, size_t values_len, uint8_t *area,
+                      size_t area_len);
+
+/* Whether portal_write wrote a job: the answer is its length then, else the number by which the call was turned back. */
+static inline int portal_wrote(uint64_t answer) { return answer >= 20; }
+
 /* How many variables a job has, if it is not turned back with 1 to 8: its trailer says where the nodes begin, and each variable before them has 8 bytes.
    For other bytes, some number up to PORTAL_MAX_VARIABLES. */
 static inline size_t portal_variables(const uint8_t *job, size_t job_len) {
@@ -187,6 +222,7 @@ static inline const char *portal_ending_name(int ending) {
     case PORTAL_BAD_FOLLOW_ON: return "follow-on not whole";
     case PORTAL_SPARE_BYTE: return "spare byte not zero";
     case PORTAL_BAD_ORDER: return "node out of order";
+    case PORTAL_BAD_AREA: return "area too short";
     case PORTAL_FLOW: return "flow rule broken";
     case PORTAL_NO_NODE: return "node does not exist";
     case PORTAL_TABLE_FULL: return "table full";

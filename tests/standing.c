@@ -1,6 +1,7 @@
-/* portal_start and portal_follow from C. Every lent area lies between two pages that nobody may touch, and touches one of them. First come endings and lines
-   and each way in which a table holds no tree; then so many rounds with table and variables filled with random numbers, and as many with what a job and a
-   script left, as it is or changed in one place. What a table must be is written here once more, from the paper.
+/* portal_start, portal_follow and portal_write from C. Every lent area lies between two pages that nobody may touch, and touches one of them. First come endings and
+   lines, each way in which a table holds no tree, and a job that is written; then so many rounds with table and variables filled with random numbers, and as many
+   with what a job and a script left, as it is or changed in one place; in each of them what stands is written, too. What a table must be is written here once more,
+   from the paper.
 
        standing ROUNDS
 
@@ -35,7 +36,8 @@ struct area {
 };
 
 static struct area script = {.room = 6 * PAGE}, table = {.room = 6 * PAGE}, levels = {.room = PAGE}, values = {.room = PAGE}, lines = {.room = PAGE};
-static struct area *const areas[] = {&script, &table, &levels, &values, &lines};
+static struct area output = {.room = 2 * PAGE};
+static struct area *const areas[] = {&script, &table, &levels, &values, &lines, &output};
 
 static void build(struct area *a) {
     uint8_t *pages = mmap(NULL, a->room + 2 * PAGE, PROT_NONE, MAP_PRIVATE | MAP_ANONYMOUS, -1, 0);
@@ -102,6 +104,23 @@ static uint64_t run(uint64_t (*call)(uint64_t), uint64_t budget) {
     stays("the levels", &levels, turned_back || call == follow ? 0 : named);
     stays("the values", &values, turned_back ? 0 : 4 * named);
     stays("the lines", &lines, 4 * put_out);
+    stays("the area", &output, 0);
+    return answer;
+}
+
+/* What stands, written as a job into an area of so many bytes: the answer. Nothing has changed but the job's bytes. */
+static uint64_t write_back(size_t room, int at_end) {
+    memset(output.all, MARK, output.room);
+    cut(&output, room, at_end);
+    for (size_t i = 0; i < sizeof areas / sizeof areas[0]; i++) {
+        memcpy(areas[i]->copy, areas[i]->all, areas[i]->room);
+    }
+    uint64_t answer = portal_write(table.length ? place(0) : NULL, table.length / 4, levels.length ? levels.at : NULL, levels.length,
+                                   values.length ? variables() : NULL, values.length / 4, output.length ? output.at : NULL, output.length);
+    for (size_t i = 0; areas[i] != &output; i++) {
+        stays("what is read only", areas[i], 0);
+    }
+    stays("the area", &output, portal_wrote(answer) ? (size_t)answer : 0);
     return answer;
 }
 
@@ -465,7 +484,9 @@ static void lent_tables(void) {
     }
 }
 
-/* Whether a tree stands in the table: what first and right reach from place 0, level after level. */
+/* Whether a tree stands in the table: what first and right reach from place 0, level after level. How many nodes it has goes to live. */
+static size_t live;
+
 static int tree_stands(void) {
     static uint32_t queue[PORTAL_MAX_PLACES];
     static uint8_t seen[PORTAL_MAX_PLACES + 1];
@@ -498,6 +519,7 @@ static int tree_stands(void) {
             return 0;
         }
     }
+    live = found;
     return 1;
 }
 
@@ -508,6 +530,97 @@ static int variables_stand(void) {
         }
     }
     return levels.length <= PORTAL_MAX_VARIABLES && values.length == 4 * levels.length;
+}
+
+/* A fresh table and variables, into which a written job is loaded. */
+static uint32_t fresh[PORTAL_MAX_WORDS];
+static uint8_t fresh_levels[PORTAL_MAX_VARIABLES];
+static int32_t fresh_values[PORTAL_MAX_VARIABLES];
+
+/* The node behind a node of a tree, each before its children; NONE behind the last. */
+static uint32_t onward(const uint32_t *words, uint32_t x) {
+    if (words[PORTAL_PLACE_WORDS * x + FIRST] != NONE) {
+        return words[PORTAL_PLACE_WORDS * x + FIRST];
+    }
+    while (x != NONE && words[PORTAL_PLACE_WORDS * x + RIGHT] == NONE) {
+        x = words[PORTAL_PLACE_WORDS * x + PARENT];
+    }
+    return x == NONE ? NONE : words[PORTAL_PLACE_WORDS * x + RIGHT];
+}
+
+/* The written job is accepted, and leaves the same variables and the same tree in a fresh table, which give the same bytes. */
+static void loads(size_t length) {
+    static uint8_t again[PORTAL_MAX_WRITTEN];
+    static const int fields[] = {EXISTENCE, CONTENT, LIST, VALUE, CHILDREN};
+    size_t vars = levels.length;
+    uint64_t answer = portal_start(output.at, length, 1, fresh, PORTAL_MAX_WORDS, fresh_levels, PORTAL_MAX_VARIABLES, fresh_values, PORTAL_MAX_VARIABLES, NULL, 0);
+    same("a written job's answer", 0, (long long)answer);
+    same("its variables", (long long)vars, (long long)portal_variables(output.at, length));
+    same("its levels", 0, vars == 0 ? 0 : memcmp(fresh_levels, levels.at, vars));
+    same("its values", 0, vars == 0 ? 0 : memcmp(fresh_values, values.at, 4 * vars));
+    uint32_t x = 0, y = 0;
+    while (x != NONE && y != NONE) {
+        for (size_t i = 0; i < sizeof fields / sizeof fields[0]; i++) {
+            same("a node of the fresh table", place(x)[fields[i]], fresh[PORTAL_PLACE_WORDS * y + (size_t)fields[i]]);
+        }
+        x = onward(place(0), x);
+        y = onward(fresh, y);
+    }
+    same("as many nodes", x, y);
+    answer = portal_write(fresh, PORTAL_MAX_WORDS, fresh_levels, vars, fresh_values, vars, again, sizeof again);
+    same("as long when it is written again", (long long)length, (long long)answer);
+    same("the same bytes", 0, memcmp(again, output.at, length));
+}
+
+/* The tree by hand, whose places are scattered, byte for byte. */
+static void written_by_hand(void) {
+    doing = "a tree written by hand";
+    put(0, 4);
+    put(0xffffffff, 4);
+    put(1, 4);
+    put(7, 4);
+    node(NONE, 0, 0, 1, 10);
+    node(0, 0, 0, 0, 0);
+    node(1, 0, 1, 0, 0xffffffff);
+    node(0, 1, 1, 1, 0);
+    trailer(16, 64);
+    static uint8_t expected[72];
+    same("the job's length", sizeof expected, (long long)written);
+    memcpy(expected, text, written);
+    written = 0;
+    static const uint8_t two[2] = {0, 1};
+    static const int32_t numbers[2] = {-1, 7};
+    fill(&table, by_hand, sizeof by_hand, 1);
+    fill(&levels, two, sizeof two, 1);
+    fill(&values, numbers, sizeof numbers, 1);
+    for (size_t room = 0; room < 80; room++) {
+        uint64_t answer = write_back(room, room % 2 == 0);
+        same("answer", room < sizeof expected ? PORTAL_BAD_AREA : (long long)sizeof expected, (long long)answer);
+        if (portal_wrote(answer)) {
+            same("bytes", 0, memcmp(output.at, expected, sizeof expected));
+        }
+    }
+    loads(sizeof expected);
+    doing = "what is turned back, whatever the area";
+    for (size_t room = 0; room < 200; room += 100) {
+        cut(&table, 513 * PLACE, 1);
+        memcpy(table.at, by_hand, sizeof by_hand);
+        same("513 places", PORTAL_BAD_BUFFERS, (long long)write_back(room, 1));
+        place(0)[CHILDREN] = 3;
+        same("a wrong count, and 513 places", PORTAL_BAD_FOLLOW_ON, (long long)write_back(room, 1));
+        fill(&table, by_hand, sizeof by_hand, 1);
+        levels.at[1] = 2;
+        same("a level of 2", PORTAL_BAD_FOLLOW_ON, (long long)write_back(room, 1));
+        levels.at[1] = 1;
+        cut(&levels, 1, 1);
+        same("a level for one of two values", PORTAL_BAD_FOLLOW_ON, (long long)write_back(room, 1));
+        fill(&levels, two, sizeof two, 1);
+        cut(&table, 9 * 4, 1);
+        same("nine words", PORTAL_BAD_FOLLOW_ON, (long long)write_back(room, 1));
+        cut(&table, 0, 1);
+        same("no table", PORTAL_BAD_FOLLOW_ON, (long long)write_back(room, 1));
+        fill(&table, by_hand, sizeof by_hand, 1);
+    }
 }
 
 /* Random numbers: xorshift, from a fixed seed. */
@@ -606,12 +719,31 @@ static void random_script(int vars) {
     }
 }
 
+/* What stands is written, or turned back where it must be and nowhere else. Which number came, or 0. */
+static int writes(uint32_t choice, int at_end) {
+    int whole = tree_stands() && variables_stand();
+    size_t length = whole ? 8 * levels.length + 12 * live + 8 : 20;
+    size_t room = choice == 0 ? length - 1 : choice == 1 ? length : choice == 2 ? below((uint32_t)length) : PORTAL_MAX_WRITTEN;
+    uint64_t answer = write_back(room, at_end);
+    uint64_t expected = !whole ? PORTAL_BAD_FOLLOW_ON : table.length / PLACE > PORTAL_MAX_PLACES ? PORTAL_BAD_BUFFERS : room < length ? PORTAL_BAD_AREA : length;
+    same("what writing answers", (long long)expected, (long long)answer);
+    if (!portal_wrote(answer)) {
+        return (int)answer;
+    }
+    loads((size_t)answer);
+    return 0;
+}
+
+/* How often what stands was written, at 0, and turned back with each number. */
+static long turned_away[PORTAL_BAD_AREA + 1];
+
 /* A script over what is lent, right or wrong: turned back with 11 where it must be and nowhere else. Which ending came. */
 static int follows(int at_end) {
     if (one_in(12)) {
         written = below((uint32_t)written + 17);
     }
     give(at_end);
+    turned_away[writes(below(4), at_end)]++;
     int whole = script.length % 16 == 0 && tree_stands() && variables_stand();
     int ending = portal_ending(run(follow, one_in(20) ? 0 : 1 + below(60)));
     same("turned back with 11", !whole, ending == PORTAL_BAD_FOLLOW_ON);
@@ -695,6 +827,7 @@ static void *all(void *unused) {
     refusals();
     lent_variables();
     lent_tables();
+    written_by_hand();
     doing = "random numbers";
     for (long i = 0; i < rounds; i++) {
         came[random_round()]++;
@@ -706,6 +839,10 @@ static void *all(void *unused) {
     static const int must[] = {0, 7, 8, 9, 10, 11, 12, 21, 22, 23, 24, 25};
     for (size_t i = 0; rounds >= 10000 && i < sizeof must / sizeof must[0]; i++) {
         same("an ending came often", 1, came[must[i]] >= rounds / 1000);
+    }
+    static const int answers[] = {0, PORTAL_BAD_BUFFERS, PORTAL_BAD_FOLLOW_ON, PORTAL_BAD_AREA};
+    for (size_t i = 0; rounds >= 10000 && i < sizeof answers / sizeof answers[0]; i++) {
+        same("an answer of writing came often", 1, turned_away[answers[i]] >= rounds / 1000);
     }
     printf("standing: %ld comparisons in C, %ld rounds of each kind\n", checked, rounds);
     return unused;

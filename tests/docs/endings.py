@@ -7,10 +7,10 @@ import unittest
 
 from support import HOME, assembled, job, program
 
-# "Ways a job can end" of paper 01, and those of paper 02. No job ends with 11: it is for follow-on scripts alone.
-NUMBERS = [*range(1, 14), 21, 22, 23, 24, 25, 27]
+# "Ways a job can end" of paper 01, and those of paper 02. No job ends with 11, which is for follow-on scripts alone, or 14, for what stands when it is written.
+NUMBERS = [*range(1, 15), 21, 22, 23, 24, 25, 27]
 BY_REPLAY = (9, 10)
-BY_HISTORY = 11
+OF_SCRIPTS, OF_WRITING = BY_HISTORY = (11, 14)
 
 
 def read(path):
@@ -49,9 +49,14 @@ class Page:
         return struct.pack("<IIHH", len(self.job()), *self.limits()) + self.job()
 
     def events(self):
-        """The job and the script behind it as events of history."""
-        parts = enumerate((assembled(self.block("yoke")), self.bytes()))
-        return b"".join(struct.pack("<IIIHH", kind, len(data), *self.limits()) + data for kind, data in parts)
+        """The job as an event of history, and behind it the script, or what stands written into an area."""
+        def event(kind, data, budget, places, lines):
+            return struct.pack("<IIIHH", kind, len(data), budget, places, lines) + data
+        first = event(0, assembled(self.block("yoke")), *self.limits())
+        if self.number == OF_SCRIPTS:
+            return first + event(1, self.bytes(), *self.limits())
+        (area,) = re.findall(r"an area\s+of (\d+) bytes", self.text)
+        return first + event(4, b"", int(area), *self.limits()[1:])
 
 
 PAGES = {path.name: Page(path) for path in sorted((HOME / "docs" / "endings").glob("*.md")) if path.name != "README.md"}
@@ -79,7 +84,7 @@ class Lists(unittest.TestCase):
                          {("PORTAL_FINISHED", 0), *((page.c_name, page.number) for page in PAGES.values())})
 
     def test_names_of_the_programs(self):
-        names = {0: "finished", **{page.number: page.name for page in PAGES.values() if page.number != BY_HISTORY}}
+        names = {0: "finished", **{page.number: page.name for page in PAGES.values() if page.number not in BY_HISTORY}}
         found = re.findall(r'^\s*(\d+) => .*b"([^"]+)"', read("crates/inspect/src/names.rt"), re.M)
         self.assertEqual({int(number): name for number, name in found}, names)
         c_names = {"PORTAL_FINISHED": "finished", **{page.c_name: page.name for page in PAGES.values()}}
@@ -100,7 +105,7 @@ class Lists(unittest.TestCase):
 class Jobs(unittest.TestCase):
     def test_inspect(self):
         for page in PAGES.values():
-            if page.number in (BY_HISTORY, *BY_REPLAY):
+            if page.number in BY_HISTORY + BY_REPLAY:
                 continue
             with self.subTest(page.number):
                 said = page.block("text")
@@ -120,9 +125,11 @@ class Jobs(unittest.TestCase):
                     self.assertIn(f"ending {page.number} ", page.block("text"))
 
     def test_history(self):
-        page = PAGES[f"{BY_HISTORY}.md"]
-        self.assertEqual(answer("history", page.events()), page.block("text"))
-        self.assertIn(f"script 1\nending {page.number} ", page.block("text"))
+        for number, answered in ((OF_SCRIPTS, "script 1\nending 11 "), (OF_WRITING, "written 1 14\n")):
+            with self.subTest(number):
+                page = PAGES[f"{number}.md"]
+                self.assertEqual(answer("history", page.events()), page.block("text"))
+                self.assertIn(answered, page.block("text"))
 
 
 if __name__ == "__main__":

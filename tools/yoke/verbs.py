@@ -174,7 +174,8 @@ def do_explain(options):
         print("   0  finished")
         for number in found:
             print(f"  {number:2}  {ENDINGS.get(number, '')}")
-        print(f"\nA job or a script is refused with {REFUSALS[0]} to {REFUSALS[-1]}, and stopped on its way with {STOPS[0]} to {STOPS[-1]}.\n"
+        print(f"\nA job or a script, or a tree that is to be written, is refused with {REFUSALS[0]} to {REFUSALS[-1]}.\n"
+              f"A job or a script is stopped on its way with {STOPS[0]} to {STOPS[-1]}.\n"
               f"`{PROGRAM} explain 21` tells more.")
         return 0
     if options.number == 0:
