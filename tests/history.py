@@ -31,6 +31,17 @@ def dump(places):
     return event(3, places=places)
 
 
+def write(area, places=512, body=b""):
+    return event(4, body, budget=area, places=places)
+
+
+def wrote(written, area):
+    """What comes where these bytes are written into an area, or where a number turns what stands away."""
+    turned_away = isinstance(written, int)
+    data = b"" if turned_away else written
+    return f"written K {written if turned_away else len(data)}\narea {data.hex()}{'aa' * (area - len(data))}\n"
+
+
 def fields(place, *numbers):
     """The entries that set a whole record."""
     return [(what, place, number) for what, number in zip(FIELDS, numbers)]
@@ -168,7 +179,7 @@ history(
 for size in [16400, 23040, 23048, 23049, 23056, 65536, 70000, 200000]:
     history(f"bodies of {size} bytes", FAMILY_JOB, (event(1, bytes(size)), came(11)), (start(bytes(size)), "job K\n" + answer(1 if size > 23048 else 2)),
             (event(3, bytes(size), places=0), "table K\nvariable 0 0\nvariable 1 -7\n"), (event(9, bytes(size)), "unknown K\n"), STANDS)
-for kind in [4, 5, 2**32 - 1]:
+for kind in [5, 6, 2**32 - 1]:
     history(f"kind {kind}", FAMILY_JOB, (event(kind, bytes(24)), "unknown K\n"), (event(kind), "unknown K\n"), STANDS)
 
 # Line capacities. Each turn of the loop takes three steps, so that the stop in turn n comes after 3 * (n - 1) + 1.
@@ -224,6 +235,7 @@ for broken in [
     shown = "".join(RECORD.format(place, *numbers) for place, numbers in enumerate(changed))
     shown += "".join("variable {} {}\n".format(*variable) for variable in variables[:count])
     history(f"a broken table, {broken}", PUT, (poke(*broken), POKED), (script(NEW_CHILD, places=6), came(11)), (script(STRANGE, budget=0, places=6), came(11)),
+            (write(100, places=6), wrote(11, 100)), (write(0, places=513), wrote(11, 0)),
             (dump(6), "table K\n" + shown), (poke((COUNT, 0, 2)), POKED), PUT, RUNS)
 
 # These do not: what free places hold is nobody's business, and 64 variables are not too many.
@@ -320,6 +332,35 @@ history("pokes that are passed over", PUT, (poke(*PASSED), POKED), (dump(6), SAM
 history("a long poke", PUT, (poke(*[(NUMBER, 0, number) for number in range(10000)], (VALUE, 0, 11)), POKED),
         (script(places=6), came(0, left=(VARIABLES + TREE).replace("variable 0 5", "variable 0 9999").replace("0 1 10", "0 1 11"))))
 
+# What stands, written as a job: the nodes the way they hang, closed up, zero in spare bytes. The rest of the area stays, and all of it where 11, 10 or 14 turns it away.
+FAMILY_BYTES = job(TWO, ROOT + CHILD)
+TABLE_BYTES = job(bytes.fromhex("00000000 05000000 01000000 fbffffff"),
+                  node(65535, 0, 0, 1, 10) + node(0, 0, 1, 0, -3) + node(0, 1, 1, 1, 2147483647) + node(2, 1, 1, 1, -2147483648))
+for area in [len(FAMILY_BYTES), len(FAMILY_BYTES) + 1, 200, 24000]:
+    history(f"written into {area} bytes", FAMILY_JOB, (write(area), wrote(FAMILY_BYTES, area)), (write(area, 2), wrote(FAMILY_BYTES, area)), STANDS)
+for area in [0, 1, 19, 20, len(FAMILY_BYTES) - 1]:
+    history(f"no room in {area} bytes", FAMILY_JOB, (write(area), wrote(14, area)), STANDS)
+for area in [24001, 2**32 - 1]:
+    history(f"an area of {area} bytes", FAMILY_JOB, (write(area), wrote(FAMILY_BYTES, 24000)))
+for area in [0, 100, 24000]:
+    history("more than 512 places", FAMILY_JOB, (write(area, 513), wrote(10, area)), (write(area, 65535), wrote(10, area)), STANDS)
+    history("nothing stands", (write(area), wrote(11, area)), (write(area, 0), wrote(11, area)), (write(area, 513), wrote(11, area)))
+    history("a tree that is not lent whole", PUT, (write(area, 5), wrote(11, area)), (write(area, 0), wrote(11, area)), RUNS)
+for size in [0, 1, 24, 70000]:
+    history(f"a body of {size} bytes", FAMILY_JOB, (write(100, body=bytes(size)), wrote(FAMILY_BYTES, 100)), STANDS)
+history("a root alone", (start(job(b"", ROOT)), "job K\n" + answer(0) + ROOT_TEN), (write(20), wrote(job(b"", ROOT), 20)), (write(20, 1), wrote(job(b"", ROOT), 20)))
+history("nodes out of order", PUT, (write(90, 6), wrote(TABLE_BYTES, 90)), (write(72, 512), wrote(TABLE_BYTES, 72)), (write(71, 6), wrote(14, 71)), RUNS,
+        (start(TABLE_BYTES, places=4), "job K\n" + answer(0) + VARIABLES + TREE), (write(72, 4), wrote(TABLE_BYTES, 72)))
+# A removal, a node in the place that it freed, and a stop: what stands is written, loaded into a fresh table and gone on with.
+AFTER = job(TWO, ROOT + node(0, 0, 1, 1, 4))
+history("removals", FAMILY_JOB, (script(record(13), NEW_CHILD, record(8), places=2), came(22, 2, 2, left=FULL)), (write(100, 2), wrote(AFTER, 100)),
+        (start(AFTER, places=2), "job K\n" + answer(0) + FULL), (script(record(13), places=2), came(0, 0, 1, left="variable 0 0\nvariable 1 -7\n" + ROOT_TEN)),
+        (write(44, 2), wrote(job(TWO, ROOT), 44)))
+MOST = job(bytes(8 * 64), ROOT + b"".join(node(i, 0, 0, 0, i) for i in range(511)))
+MOST_LEFT = "variable 0 0\n" * 64 + ROOT_TEN + "".join(f"node {i + 1} 0 0 0 {i}\n" for i in range(511))
+same("the longest job that is written", 6664, len(MOST))
+history("the most of everything", (start(MOST), "job K\n" + answer(0) + MOST_LEFT), (write(6664), wrote(MOST, 6664)), (write(6663), wrote(14, 6663)))
+
 # Behind the places lent, records stay; behind the last variable, variables do. The root stands in record 0.
 expect("behind what is lent", WHOLE + poke((LEVEL, 2, 1), (NUMBER, 2, 77)) + start(PAPER, places=2) + poke((COUNT, 0, 3)) + dump(1),
        "poke 0\npoke 1\njob 2\n" + PAPER_ANSWER + "poke 3\ntable 4\nrecord 0 65535 65535 65535 0 10 0 0 0 65535 65535\n" + VARIABLES + "variable 1 77\n")
@@ -327,7 +368,7 @@ behind = output(WHOLE + start(PAPER, places=2) + script(NEW_CHILD, places=3) + d
 same("records behind the places lent", "".join(RECORDS[3:]), "".join(behind[-3:]))
 
 # Input that ends within a header or within a body.
-for kind in range(5):
+for kind in range(6):
     whole = event(kind, bytes(24))
     for cut in [1, 4, 15, 16, 17, 24, 39]:
         expect(f"kind {kind} cut after {cut} bytes", start(PAPER) + whole[:cut], "job 0\n" + PAPER_ANSWER + "truncated\n")
