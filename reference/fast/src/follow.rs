@@ -110,7 +110,8 @@ fn load_table(arena: &mut Arena, table: &[Record]) -> bool {
     holds_tree(table)
 }
 
-/// Whether a table of any length holds a tree.
+/// Whether a table of any length holds a tree: one that is too long is rare.
+#[cold]
 pub(crate) fn holds_tree(table: &[Record]) -> bool {
     let (mut live, mut counted) = (vec![false; table.len()], vec![0; table.len()]);
     walk(table, &mut live, &mut counted, |_, _| {})
