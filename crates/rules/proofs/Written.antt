@@ -10,7 +10,7 @@ use lib.IntN.{ℤ, pos}
 use lib.Dec.{leb, eqb·suc-zero}
 use borrow.Author.Tests.{eq-eqb, le-leb, lt-leb, leb-true, leb-false, lt-ltb}
 use Rattle.rules.specs.Limits.{maxNodes, noParent, trailerSize, badBuffers, badFollowOn, badArea}
-use Rattle.rules.specs.Level.{Level, isLevel}
+use Rattle.rules.specs.Level.{isLevel}
 use Rattle.rules.specs.Number as Number
 use Rattle.rules.specs.Number.{bits, signed}
 use Rattle.rules.specs.Tree.{Label, Forest, nil, tree, size, count, noLabel, TreeRules}
@@ -18,7 +18,6 @@ use Rattle.rules.specs.Blocks.{blockRule, parts}
 use Rattle.rules.specs.Bytes.{byte, full, two, variablesAt, nodesAt, scriptAt, trailerAt, variableCount, nodeCount, recordCount, variablePlace, nodePlace}
 use Rattle.rules.specs.Check.{Checked, accepted, refused, require, lengthRule, whole, offsetRule, countRule, variableRule, parent, existence, content, structure, parentRule, variableReads, nodeReads, spareRule, variableClean, nodeClean, today}
 use Rattle.rules.specs.Job.{Variable, allLevels, listed, variableOf, variables, labelOf, jobTree, script, scriptOf}
-use Rattle.rules.specs.Public.{Agree, Alike}
 use Rattle.rules.specs.History.{Store, storeRule}
 use Rattle.rules.specs.Write.{four, variable, node, trailer, Entry, listing, nodeBytes, variableBytes, writtenSize, written, checkWrite, writeAnswer, leftWritten, RangedVariables, Ranged, Writes, WriterRight}
 use Rattle.rules.proofs.Tests.{Test, holds, fails, test, both, joined}

@@ -1,5 +1,5 @@
 -- Where the checks 11 and 10 let a table pass, its tree has as many nodes as there are marks: so 14 is decided, and the job is written. Assumes nothing.
-use mathlib.Core.Path.{_≡_, refl, sym, ap, _∙_}
+use mathlib.Core.Path.{_≡_, sym}
 use mathlib.Core.Bool.{Bool, true}
 use mathlib.Core.List.{List}
 use Prim.Native.Nat.{ℕ, _+_, _*_, _<_, _≤_}

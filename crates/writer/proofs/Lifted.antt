@@ -1,9 +1,9 @@
 -- Writing back, by how far the checks let it come, over what is lent: 11, 10, 14, or the job. And what is promised over words holds of all that
 -- spells the same tree. Assumes nothing.
-use mathlib.Core.Path.{_≡_, refl, sym, ap, subst, _∙_}
+use mathlib.Core.Path.{_≡_, refl, sym, subst, _∙_}
 use mathlib.Core.Bool.{Bool, true, false}
 use mathlib.Core.List.{List, _++_}
-use Prim.Native.Nat.{ℕ, _+_, _*_, _<_, _≤_, min}
+use Prim.Native.Nat.{ℕ, _+_, _<_, _≤_, min}
 use native.Mathlib.Omega.{arith}
 use lib.ListN.{length, drop}
 use lib.IntN.{ℤ}
@@ -18,7 +18,7 @@ use Rattle.rules.proofs.Written.{write-refused, write-accepted, no-store, many-
 use Rattle.table.specs.Cells.{cells, gone}
 use Rattle.table.specs.Stands.{Stands, Decided}
 use Rattle.monitor.specs.Promises.{Lent, lent, placesIn}
-use Rattle.monitor.specs.Follow.{HoldsStore, StandsAmong, StandsIn, Storable, treeless, uneven, many, unlevelled, storable}
+use Rattle.monitor.specs.Follow.{HoldsStore, StandsAmong, StandsIn, Storable, treeless, uneven, many, unlevelled}
 use Rattle.monitor.proofs.Followed.{Fair, Decides, not-few, not-level, stored, held-store, kept-rule}
 use Rattle.monitor.proofs.Taken.{fair}
 use Rattle.writer.specs.Writes.{WritesBack, over, none, WritesOver, unstorable, crowded, known}

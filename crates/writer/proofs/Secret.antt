@@ -7,13 +7,12 @@ use Prim.Native.Nat.{ℕ, _<_, _≤_}
 use native.Mathlib.Omega.{arith}
 use lib.ListN.{length, take, drop}
 use lib.Seq.{take-at, drop-at}
-use Rattle.rules.specs.Limits.{badFollowOn, badArea}
+use Rattle.rules.specs.Limits.{badArea}
 use Rattle.rules.specs.Level.{Level, public}
 use Rattle.rules.specs.Tree.{Forest, Place}
 use Rattle.rules.specs.History.{Store, storeRule}
 use Rattle.rules.specs.Check.{Checked, accepted, refused}
 use Rattle.rules.specs.Write.{written, checkWrite, leftWritten, Ranged}
-use Rattle.rules.proofs.Checks.{passed-one}
 use Rattle.rules.proofs.Written.{write-told, write-refused, write-accepted, writer-right, ruled}
 use Rattle.table.proofs.Resuming.{stands-one}
 use Rattle.monitor.specs.Promises.{Lent, placesIn, Tree}

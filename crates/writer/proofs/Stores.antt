@@ -1,13 +1,13 @@
 -- What stands in an area once the three parts of a job are stored there is the job of every store that is held. Assumes nothing.
 use mathlib.Core.Path.{_≡_, refl, sym, ap, ap₂, subst, _∙_}
-use mathlib.Core.List.{List, [], _∷_, _++_, flatMap, append-assoc}
-use Prim.Native.Nat.{ℕ, zero, suc, _+_, _*_, _<_, _≤_}
+use mathlib.Core.List.{List, _++_, flatMap, append-assoc}
+use Prim.Native.Nat.{ℕ, zero, suc, _+_, _*_, _<_}
 use native.Mathlib.Omega.{arith}
-use lib.ListN.{length, getD, drop, length-append}
-use lib.IntN.{ℤ, pos}
-use Rattle.rules.specs.Limits.{maxNodes, trailerSize, variableSize, nodeSize, noParent}
-use Rattle.rules.specs.Number.{Fits, half-range, range, signed}
-use Rattle.rules.specs.Tree.{Forest, size}
+use lib.ListN.{length, drop, length-append}
+use lib.IntN.{ℤ}
+use Rattle.rules.specs.Limits.{trailerSize, variableSize, nodeSize, noParent}
+use Rattle.rules.specs.Number.{Fits}
+use Rattle.rules.specs.Tree.{size}
 use Rattle.rules.specs.Bytes.{two}
 use Rattle.rules.specs.Job.{Variable, listed}
 use Rattle.rules.specs.History.{Store}

@@ -7,14 +7,14 @@ use native.Mathlib.Omega.{arith}
 use native.Mathlib.Numerals.{add-one}
 use lib.ListN.{length, getD, set, take, drop, length-set, length-drop}
 use lib.Seq.{getD-set-same, getD-set-other, length-take-le, take-suc, drop-cons, take-all}
-use Rattle.rules.specs.Limits.{maxNodes, nodeSize, noParent}
-use Rattle.rules.specs.Tree.{Label, Forest, nil, tree, count, size}
+use Rattle.rules.specs.Limits.{nodeSize, noParent}
+use Rattle.rules.specs.Tree.{Label, Forest, size}
 use Rattle.rules.specs.Write.{Entry, listing, nodeBytes}
 use Rattle.rules.proofs.Listing.{listing-length}
 use Rattle.rules.proofs.Packed.{packed-length}
 use Rattle.rules.proofs.Written.{entry-size}
 use Rattle.table.specs.Cells.{Table, gone, ByteLevels}
-use Rattle.table.specs.Holds.{Placed, empty, node, erase, head, last, Stored}
+use Rattle.table.specs.Holds.{Placed, empty, node, erase, head, Stored}
 use Rattle.table.specs.Lent.{nodeOf, cellOf}
 use Rattle.table.specs.Stands.{Stands}
 use Rattle.table.proofs.Copies.{same-cell}

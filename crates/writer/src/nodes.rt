@@ -5,7 +5,6 @@ ghost use Prim.Native.Nat.{_+_, _<_, _≤_};
 ghost use lib.ListN.{length};
 ghost use Rattle.rules.specs.Limits.{maxNodes};
 ghost use Rattle.table.specs.Cells.{cells};
-ghost use Rattle.table.specs.Lent.{nodeOf};
 ghost use Rattle.writer.specs.Nodes as Nodes;
 ghost use Rattle.writer.specs.Nodes.{parentIn, Ready, Turned, Listable, NodesPut};
 use super::put::put_node;

@@ -1,11 +1,9 @@
 // The checks 11, 10 and 14, and then the job, section after section.
 ghost use mathlib.Core.Path.{_≡_};
-ghost use Prim.Native.Nat.{ℕ, _≤_};
+ghost use Prim.Native.Nat.{_≤_};
 ghost use lib.ListN.{length};
 ghost use Rattle.rules.specs.Limits.{maxNodes};
-ghost use Rattle.rules.specs.Tree.{Forest, size};
-ghost use Rattle.table.specs.Cells.{Table, cells};
-ghost use Rattle.table.specs.Stands.{flag, Stands, Marked};
+ghost use Rattle.table.specs.Stands.{flag};
 ghost use Rattle.monitor.specs.Promises.{lent, placesIn};
 ghost use Rattle.monitor.specs.Follow.{Surveyed, StandsIn};
 ghost use Rattle.writer.specs.Writes.{Counted, Whole, WholePut, WritesOver, WritesBack};

@@ -14,7 +14,6 @@ use Rattle.rules.specs.Job.{listed}
 use Rattle.rules.specs.Write.{variable, variableBytes}
 use Rattle.writer.specs.Area.{replaced, lentVariable}
 use Rattle.writer.proofs.Area.{replaced-none, variables-more}
-use borrow.Author.Needs.{needs}
 use Rattle.writer.proofs.variables.put_variables.Statement.{statement}
 use Rattle.writer.proofs.variables.put_variables.Tie as tie
 

@@ -1,6 +1,5 @@
 -- The three parts of the job are stored one behind the other. Assumes nothing.
-use mathlib.Core.Path.{ap, sym, subst}
-use lib.ListN.{length}
+use mathlib.Core.Path.{sym, subst}
 use Rattle.writer.specs.Nodes.{Listable}
 use Rattle.writer.proofs.Stores.{whole-put}
 use borrow.Author.Needs.{needs}
