@@ -37,7 +37,7 @@ use Rattle.monitor.specs.Promises as Promises
 use Rattle.monitor.specs.Promises.{answerOf, told, lent, lentBy, placesIn, Tree, Ran, Leaves}
 use Rattle.monitor.specs.Starting.{asLent}
 use Rattle.monitor.specs.FromRoot.{Rooted, FromRoot}
-use Rattle.monitor.specs.Follow.{HoldsStore, followOn, Follows, over, Storable, storable, Admits, Surveyed, Declined, FollowsOver, StandsAmong, StandsIn}
+use Rattle.monitor.specs.Follow.{HoldsStore, followOn, Follows, over, Storable, storable, Admits, Surveyed, Declined, FollowsOver, StandsAmong, linkable, StandsIn}
 use Rattle.monitor.proofs.Answered.{answers}
 use Rattle.monitor.proofs.Followed.{many-held, shown, no-others, Fair, Decides, sound, declined, recount}
 
@@ -186,16 +186,16 @@ pub ready : {w : List ℕ} {m′ : Table} {places free : ℕ} {t : Forest} {stan
 unfolding Reclaimed
 ready {t = t} marks known good r h = r (known .marked (stood good)) t h
 
--- a table of words alone, of whose places n were asked for a tree
-module _ (w w′ : List ℕ) (n : ℕ) (asked : n ≡ min (placesIn w) gone) (stands : Bool) (d : Decided (cells w) n stands) where
-  pub surveyed : {marks : List ℕ} → (stands ≡ true → Marked (cells w) n marks) → placesIn w ≤ maxNodes → Surveyed w (placesIn w) stands marks
-  surveyed {marks} marked few =
-      let e : n ≡ placesIn w = omega (arith, asked, few) in
-      record {
-        long = omega arith;
-        decided = subst (λ k. Decided (cells w) k stands) e d;
-        marked = λ a. subst (λ k. Marked (cells w) k marks) e (marked a);
-      }
+-- words that were asked for a tree in n places, all that a link can lead to
+pub asked-all : {w marks : List ℕ} {n : ℕ} {stands : Bool} → n ≡ linkable w → Decided (cells w) n stands → (stands ≡ true → Marked (cells w) n marks)
+    → Surveyed w (linkable w) stands marks
+asked-all {w} {marks} {n} {stands} asked d marked =
+    subst (λ k. Surveyed w k stands marks) asked (record { long = omega (arith, asked); decided = d; marked = marked })
+
+-- a table of words alone, which was asked for a tree
+module _ (w w′ : List ℕ) (stands : Bool) {marks : List ℕ} (asked : Surveyed w (linkable w) stands marks) where
+  pub surveyed : placesIn w ≤ maxNodes → Surveyed w (placesIn w) stands marks
+  surveyed few = subst (λ k. Surveyed w k stands marks) (omega (arith, few)) asked
 
   -- words of one length have the same places
   same-places : length w′ ≡ length w → (t : Forest) → StandsAmong (min (placesIn w) gone) w′ t → StandsIn w′ t
@@ -220,6 +220,6 @@ module _ (w w′ : List ℕ) (n : ℕ) (asked : n ≡ min (placesIn w) gone) (st
             (λ t k. same-places same t (subst (λ m. Stands (cells w′) m t) (sym q) k)) (h .few few)
         go (fails e) =
             let k = h .many (leb-false (placesIn w) maxNodes e) in
-            let all = subst (λ m. Decided (cells w) m stands) asked d in
+            let all = asked .decided in
             subst (λ (y : Promises.Lent (List ℕ)). Follows placesIn Tree StandsIn b budget x y r) (sym (k .1))
             (declined placesIn Tree StandsIn b budget x (record { sound = all .sound; exact = all .exact }) (λ t g. fair g) r (k .0))

@@ -55,9 +55,13 @@ module _ {T : Type 0} (places : T → ℕ) (HoldsTree : T → ℕ → Forest →
 abbrev pub StandsAmong : ℕ → List ℕ → Forest → Type 0
 StandsAmong places words t = Stands (cells words) places t
 
--- in all places that a link can lead to, which 65,535 and what comes after are not
+-- the places of words that a link can lead to, which 65,535 and what comes after are not
+abbrev pub linkable : List ℕ → ℕ
+linkable words = min (placesIn words) gone
+
+-- in all of these
 abbrev pub StandsIn : List ℕ → Forest → Type 0
-StandsIn words t = StandsAmong (min (placesIn words) gone) words t
+StandsIn words t = StandsAmong (linkable words) words t
 
 -- whether variables and a table, in which a tree stands or not, are such as an accepted job could hold
 pub data Storable (stands : Bool) (levels : List ℕ) (values : ℕ) : Bool → Type 0 where

@@ -21,7 +21,7 @@ ghost use Rattle.rules.specs.Limits.{maxNodes};
 ghost use Rattle.table.specs.Cells.{cells};
 ghost use Rattle.table.specs.Promises.{Behind};
 ghost use Rattle.monitor.specs.Promises.{lent, placesIn, Tree};
-ghost use Rattle.monitor.specs.Follow.{Storable, Admits, Surveyed, Follows, FollowsOver, StandsIn};
+ghost use Rattle.monitor.specs.Follow.{Storable, Admits, Surveyed, Follows, FollowsOver, linkable, StandsIn};
 
 // Whether variables and a table, in which a tree stands or not, are such as an accepted job could hold.
 pub fn storable(stands: bool, levels: &[u8], values: usize) -> bool
@@ -130,7 +130,18 @@ pub fn follow_places(
     }
 }
 
-// The same with a table of words alone: it has as many places as there are tens of words, of which links lead to no more than 65,535.
+// Whether a tree stands in a table of words, and at which places: it has as many as there are tens of words, of which links lead to no more than 65,535.
+pub fn survey(words: &[u32], marks: &mut [u8]) -> bool
+    requires { ⌜ maxNodes ≤ length (now marks) ⌝ }
+    ensures { λ r. ⌜ Surveyed (now (words .entry)) (linkable (now (words .entry))) r (now (marks .exit)) ⌝ }
+{
+    let n = smaller(words.len() / table::CELL, table::NIL);
+    let mut dues = [0u32; MAX_NODES];
+    let mut bounds = [0u8; MAX_NODES];
+    standing::held(words, n, &mut dues, &mut bounds, marks)
+}
+
+// The same with a table of words alone.
 pub fn follow_words(
     section: &[u8],
     budget: u64,
@@ -145,11 +156,8 @@ pub fn follow_words(
         × Behind (placesIn (now (words .entry))) (cells (now (words .entry))) (cells (now (words .exit))) ⌝ }
 {
     let places = words.len() / table::CELL;
-    let n = smaller(places, table::NIL);
-    let mut dues = [0u32; MAX_NODES];
-    let mut bounds = [0u8; MAX_NODES];
     let mut marks = [0u8; MAX_NODES];
-    let stands = standing::held(words, n, &mut dues, &mut bounds, &mut marks);
+    let stands = survey(words, &mut marks);
     follow_places(
         section,
         budget,

@@ -9,7 +9,7 @@ pub use entry::Outcome;
 pub use entry::run_lines;
 pub use entry::run_places;
 pub use entry::run_words;
-pub use entry::smaller;
 pub use follow::follow_places;
 pub use follow::follow_words;
 pub use follow::storable;
+pub use follow::survey;

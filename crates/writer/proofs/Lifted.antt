@@ -18,7 +18,7 @@ use Rattle.rules.proofs.Written.{write-refused, write-accepted, no-store, many-
 use Rattle.table.specs.Cells.{cells, gone}
 use Rattle.table.specs.Stands.{Stands, Decided}
 use Rattle.monitor.specs.Promises.{Lent, lent, placesIn}
-use Rattle.monitor.specs.Follow.{HoldsStore, StandsAmong, StandsIn, Storable, treeless, uneven, many, unlevelled}
+use Rattle.monitor.specs.Follow.{HoldsStore, Surveyed, StandsAmong, linkable, StandsIn, Storable, treeless, uneven, many, unlevelled}
 use Rattle.monitor.proofs.Followed.{Fair, Decides, not-few, not-level, stored, held-store, kept-rule}
 use Rattle.monitor.proofs.Taken.{fair}
 use Rattle.writer.specs.Writes.{WritesBack, over, none, WritesOver, unstorable, crowded, known}
@@ -86,11 +86,10 @@ module _ {T U : Type 0} (places : T → ℕ) (counted : U → ℕ) (Here : T →
 pub decides : {w : List ℕ} {n : ℕ} {stands : Bool} → Decided (cells w) n stands → Decides (StandsAmong n) w stands
 decides d = record { sound = d .sound; exact = d .exact }
 
--- words are asked for a tree in all places that a link can lead to
-module _ (w : List ℕ) (n : ℕ) (asked : n ≡ min (placesIn w) gone) {stands : Bool} (d : Decided (cells w) n stands) (levels : List ℕ) (values : List ℤ)
-    (board : List ℕ) where
+-- words that were asked for a tree in all places that a link can lead to
+module _ (w : List ℕ) {stands : Bool} {marks : List ℕ} (asked : Surveyed w (linkable w) stands marks) (levels : List ℕ) (values : List ℤ) (board : List ℕ) where
   decided : Decides StandsIn w stands
-  decided = let q = subst (λ k. Decided (cells w) k stands) asked d in record { sound = q .sound; exact = q .exact }
+  decided = record { sound = asked .decided .sound; exact = asked .decided .exact }
 
   pub over-words : {area′ : List ℕ} {r : ℕ} → WritesOver (placesIn w) stands (lent w levels values board) area′ r
       → WritesBack placesIn StandsIn (lent w levels values board) area′ r

@@ -10,8 +10,8 @@ ghost use Rattle.writer.specs.Writes.{Counted, Whole, WholePut, WritesOv
 use super::nodes::put_nodes;
 use super::put::put_trailer;
 use super::variables::put_variables;
-use monitor::smaller;
 use monitor::storable;
+use monitor::survey;
 use rules::limits::BAD_AREA;
 use rules::limits::BAD_BUFFERS;
 use rules::limits::BAD_FOLLOW_ON;
@@ -19,7 +19,6 @@ use rules::limits::MAX_NODES;
 use rules::limits::NODE_SIZE;
 use rules::limits::TRAILER_SIZE;
 use rules::limits::VARIABLE_SIZE;
-use table::standing;
 
 // 1 for a mark, else 0.
 fn one(mark: u8) -> usize
@@ -90,15 +89,12 @@ pub fn write_places(
     end + TRAILER_SIZE
 }
 
-// The same with a table of words alone: it has as many places as there are tens of words, of which links lead to no more than 65,535.
+// The same with a table of words alone.
 pub fn write_words(words: &[u32], levels: &[u8], values: &[i32], area: &mut [u8]) -> usize
     ensures { λ r. ⌜ WritesBack placesIn StandsIn (lent (now (words .entry)) (now (levels .entry)) (now (values .entry)) (now (area .entry))) (now (area .exit)) r ⌝ }
 {
     let places = words.len() / table::CELL;
-    let n = smaller(places, table::NIL);
-    let mut dues = [0u32; MAX_NODES];
-    let mut bounds = [0u8; MAX_NODES];
     let mut marks = [0u8; MAX_NODES];
-    let stands = standing::held(words, n, &mut dues, &mut bounds, &mut marks);
+    let stands = survey(words, &mut marks);
     write_places(places, stands, &marks, words, levels, values, area)
 }
