@@ -1,21 +1,22 @@
 -- What is known of a job that an edition accepts: every rule holds, as the chain of checks has passed each, and the other way; and its script's command numbers are its bytes, so the
 -- jumps by the bytes are the jumps by the script. The same of a bare section. Assumes nothing.
-use mathlib.Core.Path.{_≡_, sym, ap, _∙_}
-use mathlib.Core.Bool.{true, _&&_}
+use mathlib.Core.Path.{_≡_, refl, sym, ap, _∙_}
+use mathlib.Core.Bool.{Bool, true, false, _&&_, _||_}
 use mathlib.Core.List.{List}
 use Prim.Native.Nat.{ℕ, suc, _<_}
 use native.Mathlib.Omega.{arith}
 use lib.ListN.{length}
-use lib.Dec.{ltb}
+use lib.Dec.{leb, ltb}
 use borrow.Author.Tests.{ne-eqb, ltb-true}
 use Rattle.rules.specs.Limits.{badLength, badOffsets, badCount, badVariable, badParent, badNode, badRecord, badBlock, badSpare, badOrder}
-use Rattle.rules.specs.Bytes.{byte, nodesAt, scriptAt, variableCount, nodeCount, recordCount, recordPlace}
+use Rattle.rules.specs.Bytes.{byte, nodesAt, scriptAt, variableCount, nodeCount, recordCount, variablePlace, recordPlace}
 use Rattle.rules.specs.Script.{number, numberAt}
 use Rattle.rules.specs.Blocks.{blockRule, goesTo}
-use Rattle.rules.specs.Check.{Checked, accepted, lengthRule, offsetRule, countRule, variableRule, parent, parentRule, orderRule, nodeRule, recordRule, code}
-use Rattle.rules.specs.Check.{variableClean, nodeClean, recordClean, Edition, today, recordRuleIn, checkScript, checkRecords, checkBytesBy, checkBytes}
-use Rattle.rules.specs.Job.{script, scriptOf}
+use Rattle.rules.specs.Check.{Checked, accepted, lengthRule, offsetRule, countRule, variableRule, parent, parentRule, orderRule, nodeRule, houseRule, recordRule, code}
+use Rattle.rules.specs.Check.{variableClean, nodeClean, recordClean, Edition, today, variableRuleIn, nodeRuleIn, recordRuleIn, checkScript, checkRecords, checkBytesBy, checkBytes}
+use Rattle.rules.specs.Job.{script, scriptBy, scriptOf}
 use Rattle.rules.proofs.Tests.{both, joined}
+use Rattle.rules.proofs.Ranges.{other}
 use Rattle.rules.proofs.Parts.{byIf}
 use Rattle.rules.proofs.Jumps.{isIn, closed}
 use Rattle.rules.proofs.SameNumbers.{rule-agree, goes-agree}
@@ -23,17 +24,17 @@ use Rattle.rules.proofs.Nests.{parts-done}
 use Rattle.rules.proofs.Checks.{met, passed-one, all-met, passed-each, met-if, passed-if}
 use Rattle.rules.proofs.Decode.{section-spelled, numbered-at}
 
--- the spare bytes of vs variables, ns nodes from tree on and rs records from script on are zero
-pub record Clean (b : List ℕ) (vs tree ns script rs : ℕ) : Type 0 where
+-- the spare bytes of vs variables, ns nodes from tree on and rs records from script on, which hold sets or do not, are zero
+pub record Clean (sets : Bool) (b : List ℕ) (vs tree ns script rs : ℕ) : Type 0 where
   pub variables : (i : ℕ) → i < vs → variableClean b i ≡ true
   pub nodes : (i : ℕ) → i < ns → nodeClean b tree i ≡ true
-  pub records : (i : ℕ) → i < rs → recordClean b script i ≡ true
+  pub records : (i : ℕ) → i < rs → recordClean sets b script i ≡ true
 
 -- what the checks 7, 12 and 8 ask
 pub record ScriptRight (rules : Edition) (b : List ℕ) (vars vs tree ns script rs : ℕ) : Type 0 where
   pub known : (i : ℕ) → i < rs → ltb (byte b (recordPlace script i)) (rules .commands) ≡ true
   pub records : (i : ℕ) → i < rs → recordRule b vars (recordPlace script i) ≡ true
-  pub clean : rules .spare ≡ true → Clean b vs tree ns script rs
+  pub clean : rules .spare ≡ true → Clean (rules .sets) b vs tree ns script rs
   pub blocks : (i : ℕ) → i < suc rs → blockRule (code b script) rs i ≡ true
 
 module _ (rules : Edition) (b : List ℕ) (vars vs tree ns script rs : ℕ) (c : Checked) where
@@ -72,6 +73,11 @@ pub record Right (b : List ℕ) : Type 0 where
   pub records : (i : ℕ) → i < recordCount b → recordRule b (variableCount b) (recordPlace (scriptAt b) i) ≡ true
   pub blocks : (i : ℕ) → i < suc (recordCount b) → blockRule (code b (scriptAt b)) (recordCount b) i ≡ true
 
+-- those that every edition before R-12 has: no level above 1
+pub record House (b : List ℕ) : Type 0 where
+  pub variables : (i : ℕ) → i < variableCount b → leb (byte b (variablePlace i)) 1 ≡ true
+  pub nodes : (i : ℕ) → i < nodeCount b → houseRule b (nodesAt b) i ≡ true
+
 -- the checks 7, 12 and 8 of a job
 abbrev pub JobScript : Edition → List ℕ → Type 0
 JobScript rules b = ScriptRight rules b (variableCount b) (variableCount b) (nodesAt b) (nodeCount b) (scriptAt b) (recordCount b)
@@ -79,10 +85,24 @@ JobScript rules b = ScriptRight rules b (variableCount b) (variableCount b) (nod
 -- the rules of an edition
 pub record RightBy (rules : Edition) (b : List ℕ) : Type 0 where
   pub right : Right b
+  pub house : rules .sets ≡ false → House b
   pub order : rules .order ≡ true → (i : ℕ) → i < nodeCount b → orderRule b (nodesAt b) i ≡ true
   pub script : JobScript rules b
 
+unless : (a c : Bool) → (a ≡ false → c ≡ true) → (a || c) ≡ true
+unless true c h = refl
+unless false c h = h refl
+
 module _ (rules : Edition) (b : List ℕ) where
+  -- the two parts of the checks 4 and 6
+  variable-in : (i : ℕ) → variableRuleIn rules b i ≡ true → ((rules .sets || leb (byte b (variablePlace i)) 1) ≡ true) × (variableRule b i ≡ true)
+  unfolding variableRuleIn
+  variable-in i = both (rules .sets || leb (byte b (variablePlace i)) 1) (variableRule b i)
+
+  node-in : (i : ℕ) → nodeRuleIn rules b (nodesAt b) i ≡ true → ((rules .sets || houseRule b (nodesAt b) i) ≡ true) × (nodeRule b (nodesAt b) i ≡ true)
+  unfolding nodeRuleIn
+  node-in i = both (rules .sets || houseRule b (nodesAt b) i) (nodeRule b (nodesAt b) i)
+
   pub right-by : checkBytesBy rules b ≡ accepted → RightBy rules b
   unfolding checkBytesBy checkRecords
   right-by e =
@@ -100,22 +120,28 @@ module _ (rules : Edition) (b : List ℕ) where
               lengths = x1 .0;
               offsets = x2 .0;
               counts = x3 .0;
-              variables = x4 .0;
+              variables = λ i l. variable-in i (x4 .0 i l) .1;
               parents = x5 .0;
-              nodes = x6 .0;
+              nodes = λ i l. node-in i (x6 .0 i l) .1;
               records = s .records;
               blocks = s .blocks;
+            };
+        house =
+            λ q.
+            record {
+              variables = λ i l. other (rules .sets) _ (variable-in i (x4 .0 i l) .0) q;
+              nodes = λ i l. other (rules .sets) _ (node-in i (x6 .0 i l) .0) q;
             };
         order = x13 .0;
         script = s;
       }
 
   pub accept-by : RightBy rules b → checkBytesBy rules b ≡ accepted
-  unfolding checkBytesBy checkRecords
+  unfolding checkBytesBy checkRecords variableRuleIn nodeRuleIn
   accept-by s =
       let r = s .right in
-      met badLength _ (r .lengths) ∙ met badOffsets _ (r .offsets) ∙ met badCount _ (r .counts) ∙ all-met badVariable _ _ _ (r .variables)
-      ∙ all-met badParent _ _ _ (r .parents) ∙ met-if (rules .order) badOrder _ _ _ (s .order) ∙ all-met badNode _ _ _ (r .nodes)
+      met badLength _ (r .lengths) ∙ met badOffsets _ (r .offsets) ∙ met badCount _ (r .counts) ∙ all-met badVariable _ _ _ (λ i l. joined (unless (rules .sets) _ (λ q. s .house q .variables i l)) (r .variables i l))
+      ∙ all-met badParent _ _ _ (r .parents) ∙ met-if (rules .order) badOrder _ _ _ (s .order) ∙ all-met badNode _ _ _ (λ i l. joined (unless (rules .sets) _ (λ q. s .house q .nodes i l)) (r .nodes i l))
       ∙ script-met rules b _ _ _ _ _ _ _ (s .script)
 
 pub right : (b : List ℕ) → checkBytes b ≡ accepted → Right b
@@ -147,9 +173,9 @@ module _ (b : List ℕ) (vars base n : ℕ) (records : (i : ℕ) → i < n → r
 -- a job's own script
 module _ (b : List ℕ) (r : Right b) where
   pub blocks-right : (i : ℕ) → i < suc (recordCount b) → blockRule (numberAt (script b)) (recordCount b) i ≡ true
-  unfolding script
+  unfolding scriptBy
   blocks-right = section-blocks b (variableCount b) (scriptAt b) (recordCount b) (r .records) (r .blocks)
 
   pub jumps-agree : (k : ℕ) → k < recordCount b → goesTo (code b (scriptAt b)) (recordCount b) k ≡ goesTo (numberAt (script b)) (recordCount b) k
-  unfolding script
+  unfolding scriptBy
   jumps-agree = section-jumps b (variableCount b) (scriptAt b) (recordCount b) (r .records) (r .blocks)

@@ -13,7 +13,7 @@ use Rattle.rules.specs.Limits.{noParent}
 use Rattle.rules.specs.Number.{signed}
 use Rattle.rules.specs.Tree.{Forest, tree, size, TreeRules}
 use Rattle.rules.specs.Bytes.{byte, half, two, nodesAt, scriptAt, variableCount, nodeCount, recordCount, variablePlace, nodePlace, recordPlace}
-use Rattle.rules.specs.Check.{accepted, parent, existence, content, structure, parentRule, orderRule, variableReads, nodeReads, recordReads, variableClean, nodeClean, recordClean}
+use Rattle.rules.specs.Check.{accepted, parent, existence, content, structure, parentRule, houseRule, orderRule, variableReads, nodeReads, recordReads, variableClean, nodeClean, recordClean}
 use Rattle.rules.specs.Check.{unordered, ordered, checkBytesBy}
 use Rattle.rules.specs.Job.{listed, labelOf, childrenOf, treeOf, jobTree}
 use Rattle.rules.specs.Arrange.{Moved, moves, movedBytes, arranged, Arranges, ArrangerRight}
@@ -22,9 +22,9 @@ use Rattle.rules.proofs.Checks.{Sections}
 use Rattle.rules.proofs.Decode.{listed-at, listed-from-zero}
 use Rattle.rules.proofs.Packed.{listed-is, packed-length, field-at, half-is, full-agree}
 use Rattle.rules.proofs.ReadBytes.{spare-all, spare-zero, records-16, variables-8, nodes-12}
-use Rattle.rules.proofs.Accepted.{Clean, Right, right-by, accept-by}
+use Rattle.rules.proofs.Accepted.{Clean, Right, House, right-by, accept-by}
 use Rattle.rules.proofs.Loaded.{tree-rules, node-rules}
-use Rattle.rules.proofs.SameReads.{Laid, laid, Around, same-nodes-at, same-node-count, record-reads, around-right, around-script, around-runs}
+use Rattle.rules.proofs.SameReads.{Laid, laid, Around, same-nodes-at, same-node-count, record-reads, around-right, around-house, around-script, around-runs}
 use Rattle.rules.specs.Write.{Entry, listing}
 use Rattle.rules.proofs.Listing.{listing-length, before-root}
 use Rattle.rules.proofs.Entries.{entryOf, treeList, tree-list, listed-tree}
@@ -199,6 +199,14 @@ module _ (b : List ℕ) (r : Right b) where
       (node-rules new (nodesAt b) n (f .few) new-parents (f .some)
       (subst TreeRules (sym new-tree) (tree-rules b (nodesAt b) n (f .few) (r .parents) (r .nodes) (f .some))))
 
+  new-house : House b → House new
+  unfolding houseRule existence content structure
+  new-house g =
+      around-house b new r new-around g λ i h.
+      let y = records-length in
+      let w : (getD records i noMove) .from < n = below-at n records noMove (moves-below b (nodesAt b) n (laid b r .some)) i (omega arith) in
+      rw (label-byte i h 0 (omega arith), label-byte i h 1 (omega arith), label-byte i h 2 (omega arith)) (g .nodes _ w)
+
   new-order : (i : ℕ) → i < n → orderRule new (nodesAt b) i ≡ true
   unfolding treeOf
   new-order =
@@ -229,8 +237,8 @@ module _ (b : List ℕ) (r : Right b) where
           ∙ ap (byte b) {x = nodePlace (nodesAt b) from + (2 + j)} {y = nodePlace (nodesAt b) from + suc (suc j)} (omega arith)
           ∙ spare-zero nodeReads b (nodePlace (nodesAt b) from) (g from w) (suc (suc j)) l e
 
-  new-clean : Clean b (variableCount b) (nodesAt b) (nodeCount b) (scriptAt b) (recordCount b)
-      → Clean new (variableCount b) (nodesAt b) (nodeCount b) (scriptAt b) (recordCount b)
+  new-clean : Clean false b (variableCount b) (nodesAt b) (nodeCount b) (scriptAt b) (recordCount b)
+      → Clean false new (variableCount b) (nodesAt b) (nodeCount b) (scriptAt b) (recordCount b)
   unfolding variableClean recordClean
   new-clean g =
       record {
@@ -240,8 +248,8 @@ module _ (b : List ℕ) (r : Right b) where
         nodes = clean-nodes (g .nodes);
         records =
             λ i h. rw (record-reads b new r new-around i h)
-            (spare-all (recordReads b (recordPlace (scriptAt b) i)) new (recordPlace (scriptAt b) i)
-            (λ j l e. behind _ (omega arith) ∙ spare-zero (recordReads b (recordPlace (scriptAt b) i)) b (recordPlace (scriptAt b) i) (g .records i h) j l e));
+            (spare-all (recordReads b (recordPlace (scriptAt b) i) false) new (recordPlace (scriptAt b) i)
+            (λ j l e. behind _ (omega arith) ∙ spare-zero (recordReads b (recordPlace (scriptAt b) i) false) b (recordPlace (scriptAt b) i) (g .records i h) j l e));
       }
 
   -- a job in the new order, where bytes are bytes
@@ -293,6 +301,7 @@ arranged-taken b e =
     accept-by ordered (arranged b)
     (record {
       right = new-right b r;
+      house = λ q. new-house b r (s .house refl);
       order = λ q. rw (same-nodes-at b (arranged b) r a, same-node-count b (arranged b) r a) (new-order b r);
       script = around-script b (arranged b) r a unordered ordered refl (s .script) (λ q. new-clean b r (s .script .clean refl));
     })
@@ -307,7 +316,7 @@ arranger-right =
           record {
             taken = arranged-taken b e;
             tree = same-tree b r;
-            runs = around-runs b (arranged b) r (new-around b r) unordered ordered e (arranged-taken b e) (same-tree b r);
+            runs = around-runs b (arranged b) r (new-around b r) unordered ordered refl refl e (arranged-taken b e) (same-tree b r);
             long = same-length b r;
             front = in-front b r;
             behind = behind b r;

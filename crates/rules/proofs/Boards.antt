@@ -8,7 +8,7 @@ use mathlib.Core.List.{List, [], _∷_, _++_, map, IsPrefix, append-nil, append-
 use lib.ListN.{length, length-append, length-map}
 use Rattle.rules.specs.Level.{Level}
 use Rattle.rules.specs.Outcome.{boardLines}
-use Rattle.rules.specs.Public.{Comparable, Indistinguishable, Noninterference}
+use Rattle.rules.specs.Public.{Comparable, seenLines, Indistinguishable, Noninterference}
 use Rattle.rules.specs.Board.{Begin, Differs, Different, Bounded, Family, outcome, board, Finished, BoardBound}
 use Rattle.rules.proofs.Distinct.{Apart, Distinct, at-most}
 use Rattle.rules.proofs.Noninterference.{noninterference}
@@ -82,7 +82,7 @@ module _ {ℓ} (o : Level) {I : Type ℓ} (F : Family o I) where
   finished-alike i j a b =
       let p = finishes (F .job i) (F .budget i) (F .lent i) a in
       let q = finishes (F .job j) (F .budget j) (F .lent j) b in
-      ap boardLines (p .1) ∙ ((untold i j) .finish (p .0) (q .0) (p .1) (q .1)) .lines ∙ sym (ap boardLines (q .1))
+      ap (λ w. seenLines o (boardLines w)) (p .1) ∙ ((untold i j) .finish (p .0) (q .0) (p .1) (q .1)) .lines ∙ sym (ap (λ w. seenLines o (boardLines w)) (q .1))
 
   by-length : (i j : I) → length (board F i) ≡ length (board F j) → board F i ≡ board F j
   by-length i j e = comparable-equal _ _ (chained i j) e

@@ -2,7 +2,7 @@
 -- Assumes nothing.
 use mathlib.Core.Path.{_≡_, refl}
 use Prim.Native.Nat.{ℕ}
-use mathlib.Core.Bool.{true, false}
+use mathlib.Core.Bool.{Bool, true, false}
 use mathlib.Core.List.{List, [], _∷_, map}
 use lib.ListN.{set}
 use lib.IntN.{pos}
@@ -52,12 +52,27 @@ pub later-command :
 unfolding computed
 later-command = (refl, refl, refl, refl)
 
--- what records read: target, expression, right side, left number, right number. Root; v0 := v1; new first child of value, mark 3; print 1 plus children; write the mean
--- of value and v0; left sibling; last child; command 200
+-- what records read: target, expression, right side, the bytes 5 and 6, left number, right number. Root; v0 := v1; new first child of value, mark 3; print 1 plus children;
+-- write the mean of value and v0; cover; left sibling; last child; command 200
+unfoldable pub readers : List (List ℕ)
+readers =
+    bare 7 ∷ one 1 0 (v 1) ∷ one 11 3 value ∷ both 6 0 1 (number (pos 1)) children ∷ both 15 0 5 value (v 0) ∷ bare 16 ∷ bare 18 ∷ bare 19 ∷ bare 200 ∷ []
+
+unfoldable pub nothing : List Bool
+nothing = fieldReads false false false false false false false
+
 pub reads-hold :
-    map (λ (r : List ℕ). recordReads r 0)
-    (bare 7 ∷ one 1 0 (v 1) ∷ one 11 3 value ∷ both 6 0 1 (number (pos 1)) children ∷ both 15 0 5 value (v 0) ∷ bare 18 ∷ bare 19 ∷ bare 200 ∷ [])
-    ≡ fieldReads false false false false false ∷ fieldReads true true false true false ∷ fieldReads true true false false false ∷ fieldReads false true true true false
-    ∷ fieldReads false true true false true ∷ fieldReads false false false false false ∷ fieldReads false false false false false ∷ fieldReads false false false false false ∷ []
-unfolding computed
+    map (λ (r : List ℕ). recordReads r 0 true) readers
+    ≡ nothing ∷ fieldReads true true false false false true false ∷ fieldReads true true false true true false false
+    ∷ fieldReads true true true false false true false ∷ fieldReads false true true false false false true
+    ∷ fieldReads false false false true false false false ∷ nothing ∷ nothing ∷ nothing ∷ []
+unfolding computed readers nothing
 reads-hold = refl
+
+-- and to the cleaner, which knows no sets
+pub reads-held :
+    map (λ (r : List ℕ). recordReads r 0 false) readers
+    ≡ nothing ∷ fieldReads true true false false false true false ∷ fieldReads true true false false false false false
+    ∷ fieldReads false true true false false true false ∷ fieldReads false true true false false false true ∷ nothing ∷ nothing ∷ nothing ∷ nothing ∷ []
+unfolding computed readers nothing
+reads-held = refl

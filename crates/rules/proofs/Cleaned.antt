@@ -22,7 +22,7 @@ use Rattle.rules.proofs.Decode.{listed-length, listed-from-zero}
 use Rattle.rules.proofs.ReadBytes.{spare-all, spare-zero, records-16, variables-8, nodes-12}
 use Rattle.rules.proofs.Accepted.{Clean, Right, RightBy, right-by, accept-by}
 use Rattle.rules.proofs.SameReads.{Laid, laid, Lies, in-variable, in-node, in-record, in-trailer, lies, read-variable, read-node, read-record, read-trailer, Agreed}
-use Rattle.rules.proofs.SameReads.{around, around-script, around-runs, record-reads, same-tree, same-right}
+use Rattle.rules.proofs.SameReads.{around, around-script, around-runs, record-reads, same-tree, same-right, same-house}
 
 -- the bytes of a job that is cleaned as far as byte n
 pub record Partly (b : List ℕ) (n : ℕ) (c : List ℕ) : Type 0 where
@@ -92,7 +92,7 @@ module _ (b : List ℕ) (r : Right b) where
   abbrev new : List ℕ
   new = cleaned b
 
-  new-clean : Clean new (variableCount b) (nodesAt b) (nodeCount b) (scriptAt b) (recordCount b)
+  new-clean : Clean false new (variableCount b) (nodesAt b) (nodeCount b) (scriptAt b) (recordCount b)
   unfolding variableClean nodeClean recordClean
   new-clean =
       let s = laid b r in
@@ -105,8 +105,8 @@ module _ (b : List ℕ) (r : Right b) where
             (λ j l e. let z = nodes-12 in cleaned-spare b _ (omega arith) (read-node b r i j _ h (omega arith) refl ∙ e));
         records =
             λ i h. rw (record-reads b new r (around (cleaned-agreed b)) i h)
-            (spare-all (recordReads b (recordPlace (scriptAt b) i)) new (recordPlace (scriptAt b) i)
-            (λ j l e. let z = records-16 b (recordPlace (scriptAt b) i) in cleaned-spare b _ (omega arith) (read-record b r i j _ h (omega arith) refl ∙ e)));
+            (spare-all (recordReads b (recordPlace (scriptAt b) i) false) new (recordPlace (scriptAt b) i)
+            (λ j l e. let z = records-16 false b (recordPlace (scriptAt b) i) in cleaned-spare b _ (omega arith) (read-record b r i j _ h (omega arith) refl ∙ e)));
       }
 
 -- "A job with such a byte not zero is refused from now on.", and the cleaned one is not
@@ -119,6 +119,7 @@ cleaned-taken b e =
     accept-by clean (cleaned b)
     (record {
       right = same-right b (cleaned b) r a;
+      house = λ q. same-house b (cleaned b) r a (s .house refl);
       order = λ q. clash q refl;
       script = around-script b (cleaned b) r (around a) first clean refl (s .script) (λ q. new-clean b r);
     })
@@ -126,14 +127,15 @@ cleaned-taken b e =
 -- "The cleaned job runs exactly as the old one did."
 pub cleaned-runs : (b : List ℕ) → checkBytesBy first b ≡ accepted → (budget : ℕ) (lent : Buffers)
     → runJobBy clean (cleaned b) budget lent ≡ runJobBy first b budget lent
+unfolding first clean
 cleaned-runs b e =
     let r = right-by first b e .right in
     let a = cleaned-agreed b in
-    around-runs b (cleaned b) r (around a) first clean e (cleaned-taken b e) (same-tree b (cleaned b) r a)
+    around-runs b (cleaned b) r (around a) first clean refl refl e (cleaned-taken b e) (same-tree b (cleaned b) r a)
 
 -- the spare bytes of a clean job are zero
 module _ (b : List ℕ) (s : RightBy clean b) where
-  is-clean : Clean b (variableCount b) (nodesAt b) (nodeCount b) (scriptAt b) (recordCount b)
+  is-clean : Clean false b (variableCount b) (nodesAt b) (nodeCount b) (scriptAt b) (recordCount b)
   unfolding clean
   is-clean = s .script .clean refl
 
@@ -150,9 +152,9 @@ module _ (b : List ℕ) (s : RightBy clean b) where
           ap (byte b) q
           ∙ spare-zero nodeReads b (nodePlace (nodesAt b) i) (is-clean .nodes i h) j (omega arith) (sym (read-node b (s .right) i j x h l q) ∙ e)
       by (in-record i j h l q) =
-          let z = records-16 b (recordPlace (scriptAt b) i) in
+          let z = records-16 false b (recordPlace (scriptAt b) i) in
           ap (byte b) q
-          ∙ spare-zero (recordReads b (recordPlace (scriptAt b) i)) b (recordPlace (scriptAt b) i) (is-clean .records i h) j (omega arith)
+          ∙ spare-zero (recordReads b (recordPlace (scriptAt b) i) false) b (recordPlace (scriptAt b) i) (is-clean .records i h) j (omega arith)
           (sym (read-record b (s .right) i j x h l q) ∙ e)
       by (in-trailer h) = clash (read-trailer b (s .right) x h) e
 

@@ -24,13 +24,23 @@ use Rattle.rules.proofs.Ends.{nest-not-empty}
 use Rattle.rules.proofs.Exits.{if-exit, while-exit, else-exit, end-exit, goes-within}
 use Rattle.rules.proofs.Results.{Good, good-given, good-map, good-leave}
 use Rattle.rules.proofs.Runs.{more}
-use Rattle.rules.proofs.Sound.{Sound, moved, effect-sound, expression-level}
+use Rattle.rules.proofs.Sound.{Sound, Sets, moved, effect-sound, expression-level}
 use Rattle.rules.proofs.Places.{no-some}
 use Rattle.rules.proofs.Relocate.{Restorable, AllRestorable, remembers, remembers-on, blocks-skip, blocks-length, context-on, restorable-after}
 
--- what check 8 gives of a script
+-- the sets of a command are levels
+abbrev pub CommandSets : Command → Type 0
+CommandSets (act a) = Sets a
+CommandSets (Command.if e) = Unit {0}
+CommandSets (Command.while e) = Unit {0}
+CommandSets (Command.ifBack e) = Unit {0}
+CommandSets Command.else = Unit {0}
+CommandSets Command.end = Unit {0}
+
+-- what check 8 gives of a script, and that its sets are levels
 pub record Closed (cs : List Command) : Type 0 where
   pub blocks : (i : ℕ) → i < suc (length cs) → blockRule (numberAt cs) (length cs) i ≡ true
+  pub sets : (i : ℕ) → CommandSets (fetch cs i)
 
 -- record i is an if that comes back
 abbrev pub returns-at : List Command → ℕ → Bool
@@ -56,17 +66,17 @@ action-plain : (a : Action) → Plain (actionNumber a)
 unfolding actionNumber branches
 action-plain Action.skip = plain-number 0 refl refl refl refl
 action-plain (Action.assign i e) = plain-number 1 refl refl refl refl
-action-plain (Action.output e) = plain-number 6 refl refl refl refl
+action-plain (Action.output r e) = plain-number 6 refl refl refl refl
 action-plain Action.goRoot = plain-number 7 refl refl refl refl
 action-plain Action.goParent = plain-number 8 refl refl refl refl
 action-plain (Action.go child) = plain-number 9 refl refl refl refl
 action-plain (Action.go sibling) = plain-number 10 refl refl refl refl
-action-plain (Action.insert child mark e) = plain-number 11 refl refl refl refl
-action-plain (Action.insert sibling mark e) = plain-number 12 refl refl refl refl
+action-plain (Action.insert child c l e) = plain-number 11 refl refl refl refl
+action-plain (Action.insert sibling c l e) = plain-number 12 refl refl refl refl
 action-plain (Action.remove child) = plain-number 13 refl refl refl refl
 action-plain (Action.remove sibling) = plain-number 14 refl refl refl refl
 action-plain (Action.write e) = plain-number 15 refl refl refl refl
-action-plain Action.raise = plain-number 16 refl refl refl refl
+action-plain (Action.raise l) = plain-number 16 refl refl refl refl
 action-plain Action.goLeft = plain-number 18 refl refl refl refl
 action-plain Action.goLast = plain-number 19 refl refl refl refl
 
@@ -196,7 +206,8 @@ module _ (lent : Buffers) (cs : List Command) (closed : Closed cs) (s : State) (
 
   land : (c : Command) → fetch cs (s .at) ≡ c → Good Lands (carried s lent jump c)
   unfolding carried enterIf number jump pushed remembers Option·elim
-  land (act a) f = land-act a _ refl (effect-sound (s .memory) (valid .memory) _ (valid .guards) lent a) (numbered (act a) f)
+  land (act a) f =
+      land-act a _ refl (effect-sound (s .memory) (valid .memory) _ (valid .guards) lent a (subst CommandSets f (closed .sets (s .at)))) (numbered (act a) f)
   land (Command.if e) f =
       good-given Lands _ _ λ z.
       land-if e (isZero z) _ _ refl (plainly refl refl) (valid .memory) (sym (ap (λ (j : ℕ). eqb j 17) (numbered _ f))) (is-if _ (numbered _ f))

@@ -8,10 +8,11 @@ use native.Mathlib.Nat.{zero-add}
 use native.Mathlib.Omega.{arith}
 use lib.ListN.{length, getD, List·getD-map}
 use Rattle.rules.specs.Limits.{commandCount}
+use Rattle.rules.specs.Level.{Level}
 use Rattle.rules.specs.Bytes.{byte, scriptAt, variableCount, recordCount, variablePlace, recordPlace}
 use Rattle.rules.specs.Script.{Expression, act, Action, commands, actionNumber, number, fetch}
 use Rattle.rules.specs.Check.{recordRule}
-use Rattle.rules.specs.Job.{Variable, listed, variableOf, variables, script, scriptOf, commandOf, expressionOf}
+use Rattle.rules.specs.Job.{Variable, listed, variableOf, variables, setAt, script, scriptBy, scriptOf, scriptFrom, commandOf, commandBy, expressionOf}
 use Rattle.rules.proofs.Ranges.{record-in}
 
 module _ {A : Type 0} (f : ℕ → A) where
@@ -40,25 +41,26 @@ variable-at b d i h = listed-from-zero (λ (k : ℕ). variableOf b (variablePlac
 -- what a run goes by: record i of a section's script is what its bytes spell
 module _ (b : List ℕ) (base n : ℕ) where
   pub section-length : length (scriptOf b base n) ≡ n
-  unfolding scriptOf
+  unfolding scriptFrom
   section-length = listed-length _ n 0
 
   pub section-spelled : (i : ℕ) → i < n → fetch (scriptOf b base n) i ≡ commandOf b (recordPlace base i)
-  unfolding scriptOf fetch
+  unfolding scriptFrom fetch
   section-spelled i h = listed-from-zero (λ (k : ℕ). commandOf b (recordPlace base k)) (act Action.skip) n i h
 
 pub script-length : (b : List ℕ) → length (script b) ≡ recordCount b
-unfolding script
+unfolding scriptBy
 script-length b = section-length b (scriptAt b) (recordCount b)
 
 pub spelled : (b : List ℕ) (i : ℕ) → i < recordCount b → fetch (script b) i ≡ commandOf b (recordPlace (scriptAt b) i)
-unfolding script
+unfolding scriptBy
 spelled b = section-spelled b (scriptAt b) (recordCount b)
 
-numbered : (t : ℕ) (e : Expression) (k : ℕ) → k < commandCount → number (getD (commands t e) k (act Action.skip)) ≡ k
+numbered : (t : ℕ) (r p q : Level) (e : Expression) (k : ℕ) → k < commandCount → number (getD (commands t r p q e) k (act Action.skip)) ≡ k
 unfolding commands actionNumber number listed
-numbered t e k h = sym (List·getD-map number (commands t e) k (act Action.skip)) ∙ listed-from-zero (λ (n : ℕ). n) 0 commandCount k h
+numbered t r p q e k h = sym (List·getD-map number (commands t r p q e) k (act Action.skip)) ∙ listed-from-zero (λ (n : ℕ). n) 0 commandCount k h
 
 pub numbered-at : (b : List ℕ) (vars at : ℕ) → recordRule b vars at ≡ true → number (commandOf b at) ≡ byte b at
-unfolding commandOf
-numbered-at b vars at e = numbered (byte b (at + 1)) (expressionOf b at) (byte b at) (record-in b vars at e .command)
+unfolding commandBy
+numbered-at b vars at e =
+    numbered (byte b (at + 1)) (setAt true b (at + 1)) (setAt true b (at + 5)) (setAt true b (at + 6)) (expressionOf b at) (byte b at) (record-in b vars at e .command)

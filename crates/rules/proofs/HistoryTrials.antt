@@ -64,12 +64,12 @@ store-holds = refl
 -- stores that no accepted job could hold, and the empty script over each
 pub unholdable : List Store
 unholdable =
-    -- no root; two roots; a root of the house; a child below its parent's existence; a level 2; 65 variables
+    -- no root; two roots; a root of the house; a child below its parent's existence; a level that is no byte; 65 variables
     record { variables = []; tree = nil }
     ∷ record { variables = []; tree = leaf (pos 1) (leaf (pos 2) nil) }
     ∷ record { variables = []; tree = tree (labelled secret secret secret (pos 1)) nil nil }
     ∷ record { variables = []; tree = over (tree (labelled public public secret (pos 1)) (tree (labelled secret public secret (pos 2)) nil nil) nil) }
-    ∷ record { variables = record { level = 2; value = pos 0 } ∷ []; tree = same }
+    ∷ record { variables = record { level = 256; value = pos 0 } ∷ []; tree = same }
     ∷ record { variables = listed (λ i. noVariable) 65 0; tree = same } ∷ []
 
 pub unholdable-turned-away : map (λ s. seen (follow s (script 100 512 []))) unholdable ≡ map (λ s. came 11 0 []) unholdable

@@ -25,6 +25,7 @@ pub mod Trees
 pub mod Places
 pub mod Cut
 pub mod Results
+pub mod Seen
 pub mod Sound
 pub mod View
 pub mod Relocate
@@ -66,3 +67,4 @@ pub mod History
 pub mod HistoryTrials
 pub mod Written
 pub mod WriteTrials
+pub mod Summary

@@ -4,19 +4,20 @@ use mathlib.Core.Path.{_≡_, refl, sym, _∙_, ap}
 use Prim.Native.Nat.{ℕ, zero, suc}
 use mathlib.Core.Bool.{true, false}
 use mathlib.Core.Option.{Option, none, some, Option·some-injective}
-use mathlib.Core.List.{List, [], _∷_, _++_, map}
+use mathlib.Core.List.{List, [], _∷_, map}
 use lib.ListN.{set}
 use lib.IntN.{ℤ}
-use Rattle.rules.specs.Level.{Level, public, secret, join, notAbove, visible}
+use Rattle.rules.specs.Level.{Level, join, notAbove, visible}
 use Rattle.rules.specs.Tree as Tree
 use Rattle.rules.specs.Tree.{Forest, Side, Place, root, to, up, leftOf, sub, lastOf, label, exists, change, setValue, withValue}
 use Rattle.rules.specs.Script.{Expression, Action}
 use Rattle.rules.specs.Job.{Variable}
-use Rattle.rules.specs.Run.{Memory, Buffers, absent, Result, variableAt, current, levelOf, value, withVariables, withTree, withCursor, withLine, secretIf, position, flowOf, contextFlow, assign, output, moveTo, goJoining, goTo, goToLast, newLabel, insertAt, removeAt, write, effect}
+use Rattle.rules.specs.Run.{Memory, Buffers, absent, Result, variableAt, current, levelOf, value, withVariables, withTree, withCursor, withLine, position, flowOf, contextFlow, assign, output, moveTo, goJoining, goTo, goToLast, newLabel, insertAt, removeAt, write, effect}
 use Rattle.rules.specs.Public.{seenVariable, seenValue}
 use Rattle.rules.proofs.Tests.{Test, holds, fails, test}
-use Rattle.rules.proofs.Lattice.{level-secret, vis-public, vis-down, vis-both, vis-left, hid-up, hid-right}
+use Rattle.rules.proofs.Lattice.{vis-down, vis-both, vis-left, hid-left, hid-right}
 use Rattle.rules.proofs.Cut.{mask, cutLabel, cut, cut-change, insert-seen, remove-seen, set-seen, Heads, seen, hidden, heads}
+use Rattle.rules.proofs.Seen.{seen-same}
 use Rattle.rules.proofs.Results.{Good, Good₂, good₂-need, good₂-given, good₂-stop, good₂-of}
 use Rattle.rules.proofs.Sound.{Sound, there}
 use Rattle.rules.proofs.View.{view, seenAt, seenCursor, Kept, kept-go, kept-insert, kept-remove, kept-write}
@@ -97,12 +98,12 @@ module _ (o : Level) where
           λ j. record { variables = k j; tree = (v j) .tree; cursor = (v j) .cursor; lines = (v j) .lines }
 
       -- 6
-      lock-output : (n₁ n₂ : ℕ) (e : Expression) → Good₂ SameView (output pc m₁ n₁ e) (output pc m₂ n₂ e)
+      lock-output : (n₁ n₂ : ℕ) (r : Level) (e : Expression) → Good₂ SameView (output pc m₁ n₁ r e) (output pc m₂ n₂ r e)
       unfolding output contextFlow SameView view withLine
-      lock-output n₁ n₂ e =
+      lock-output n₁ n₂ r e =
           good₂-need SameView _ _ _ _ _ _ λ h _. good₂-given SameView _ _ _ _ λ y z a b. good₂-need SameView _ _ _ _ _ _ λ _ _.
-          let w = value-eq e y z a b _ public h (vis-public o) in
-          λ j. record { variables = (v j) .variables; tree = (v j) .tree; cursor = (v j) .cursor; lines = (v j) .lines ++ (w j ∷ []) }
+          let w = seen-same o (m₁ .lines) (m₂ .lines) y z r (ap (λ x. x .lines) v) (value-eq e y z a b _ r h) in
+          λ j. record { variables = (v j) .variables; tree = (v j) .tree; cursor = (v j) .cursor; lines = w j }
 
       -- 7
       lock-root : Good₂ SameView (moveTo pc m₁ root pc) (moveTo pc m₂ root pc)
@@ -110,13 +111,13 @@ module _ (o : Level) where
       lock-root = good₂-need SameView _ _ _ _ _ _ λ _ _. view-cursor _ _ _ _ refl
 
       -- 16: where the cursor is not seen, neither is the level that it is raised to
-      lock-raise : Good₂ SameView (moveTo pc m₁ (m₁ .cursor) secret) (moveTo pc m₂ (m₂ .cursor) secret)
+      lock-raise : (k : Level) → Good₂ SameView (moveTo pc m₁ (m₁ .cursor) (join (m₁ .level) k)) (moveTo pc m₂ (m₂ .cursor) (join (m₂ .level) k))
       unfolding moveTo seenCursor seenAt
-      lock-raise = good₂-need SameView _ _ _ _ _ _ λ _ _. view-cursor _ _ _ _ (pick (cursors o m₁ m₂ s₁ s₂ v))
+      lock-raise k = good₂-need SameView _ _ _ _ _ _ λ _ _. view-cursor _ _ _ _ (pick (cursors o m₁ m₂ s₁ s₂ v))
         where
-          pick : Cursors o m₁ m₂ s₁ s₂ v → seenCursor o (m₁ .cursor) secret ≡ seenCursor o (m₂ .cursor) secret
-          pick (seenBoth e p l) = ap (λ c. seenCursor o c secret) p
-          pick (seenNeither e f) = rw (hid-up o _ _ (level-secret _ (s₁ .cursor)) e)
+          pick : Cursors o m₁ m₂ s₁ s₂ v → seenCursor o (m₁ .cursor) (join (m₁ .level) k) ≡ seenCursor o (m₂ .cursor) (join (m₂ .level) k)
+          pick (seenBoth e p l) = λ i. seenCursor o (p i) (join (l i) k)
+          pick (seenNeither e f) = rw (hid-left o _ k e, hid-left o _ k f)
 
       -- two moves to nodes, where the cursors look the same behind them
       lock-joining : (j k : Place → Level) (a b : Option Place)
@@ -180,37 +181,36 @@ module _ (o : Level) where
       position-hidden m e = hid-right o _ _ e
 
       -- 11 and 12
-      new-eq : visible o (m₁ .level) ≡ true → m₁ .cursor ≡ m₂ .cursor → m₁ .level ≡ m₂ .level → (mark : ℕ) (e : Expression) (y z : ℤ)
-          → value m₁ e ≡ some y → value m₂ e ≡ some z → cutLabel o (newLabel pc m₁ mark e y) ≡ cutLabel o (newLabel pc m₂ mark e z)
+      new-eq : visible o (m₁ .level) ≡ true → m₁ .cursor ≡ m₂ .cursor → m₁ .level ≡ m₂ .level → (b k : Level) (e : Expression) (y z : ℤ)
+          → value m₁ e ≡ some y → value m₂ e ≡ some z → cutLabel o (newLabel pc m₁ b k e y) ≡ cutLabel o (newLabel pc m₂ b k e z)
       unfolding cutLabel withValue newLabel flowOf
-      new-eq a p l mark e y z d g =
+      new-eq a p l b k e y z d g =
           let h = position-eq l in
-          let c : join (flowOf pc m₁ e) (secretIf _) ≡ join (flowOf pc m₂ e) (secretIf _) =
-          λ i. join (join (levels-eq o m₁ m₂ s₁ s₂ v a p l e i) (h i)) (secretIf (lib.Dec.eqb (Prim.Native.Nat._%_ mark 2) 1)) in
+          let c : join (flowOf pc m₁ e) b ≡ join (flowOf pc m₂ e) b = λ i. join (join (levels-eq o m₁ m₂ s₁ s₂ v a p l e i) (h i)) b in
           let w = mask-eq _ _ y z c (λ q. one-value e y z d g (vis-left o _ _ (vis-left o _ _ q))) in
-          λ i. record { value = w i; existence = h i; content = c i; structure = join (h i) (secretIf (lib.Dec.leb 2 mark)) }
+          λ i. record { value = w i; existence = h i; content = c i; structure = join (h i) k }
 
-      new-seen : (m : Memory) (mark : ℕ) (e : Expression) (z : ℤ) → visible o (position pc m) ≡ true → visible o ((newLabel pc m mark e z) .existence) ≡ true
+      new-seen : (m : Memory) (b k : Level) (e : Expression) (z : ℤ) → visible o (position pc m) ≡ true → visible o ((newLabel pc m b k e z) .existence) ≡ true
       unfolding newLabel
-      new-seen m mark e z h = h
+      new-seen m b k e z h = h
 
-      insert-seen-at : (n₁ n₂ : ℕ) (p q : Place) (c d : Option Place) (mark : ℕ) (e : Expression) → p ≡ q → visible o (m₁ .level) ≡ true
-          → m₁ .cursor ≡ m₂ .cursor → m₁ .level ≡ m₂ .level → Good₂ SameView (insertAt pc m₁ n₁ p c mark e) (insertAt pc m₂ n₂ q d mark e)
+      insert-seen-at : (n₁ n₂ : ℕ) (p q : Place) (c d : Option Place) (b k : Level) (e : Expression) → p ≡ q → visible o (m₁ .level) ≡ true
+          → m₁ .cursor ≡ m₂ .cursor → m₁ .level ≡ m₂ .level → Good₂ SameView (insertAt pc m₁ n₁ p c b k e) (insertAt pc m₂ n₂ q d b k e)
       unfolding insertAt
-      insert-seen-at n₁ n₂ p q none d mark e w a u l = tt
-      insert-seen-at n₁ n₂ p q (some c) none mark e w a u l = good₂-stop SameView (insertAt pc m₁ n₁ p (some c) mark e) absent
-      insert-seen-at n₁ n₂ p q (some c) (some d) mark e w a u l =
+      insert-seen-at n₁ n₂ p q none d b k e w a u l = tt
+      insert-seen-at n₁ n₂ p q (some c) none b k e w a u l = good₂-stop SameView (insertAt pc m₁ n₁ p (some c) b k e) absent
+      insert-seen-at n₁ n₂ p q (some c) (some d) b k e w a u l =
           good₂-need SameView _ _ _ _ _ _ λ _ _. good₂-need SameView _ _ _ _ _ _ λ _ _. good₂-given SameView _ _ _ _ λ y z f g.
           good₂-need SameView _ _ _ _ _ _ λ _ _.
           view-tree _ _
-          (cut-eq p q _ _ _ _ w (ap Tree.insert (new-eq a u l mark e y z f g)) (insert-seen o _ _ (new-seen m₁ mark e y (position-seen a)))
-          (insert-seen o _ _ (new-seen m₂ mark e z (rw (← position-eq l) (position-seen a)))))
+          (cut-eq p q _ _ _ _ w (ap Tree.insert (new-eq a u l b k e y z f g)) (insert-seen o _ _ (new-seen m₁ b k e y (position-seen a)))
+          (insert-seen o _ _ (new-seen m₂ b k e z (rw (← position-eq l) (position-seen a)))))
 
-      lock-insert : (d : Side) (mark : ℕ) (e : Expression) → Good₂ SameView (effect lent₁ pc m₁ (Action.insert d mark e)) (effect lent₂ pc m₂ (Action.insert d mark e))
+      lock-insert : (d : Side) (b k : Level) (e : Expression) → Good₂ SameView (effect lent₁ pc m₁ (Action.insert d b k e)) (effect lent₂ pc m₂ (Action.insert d b k e))
       unfolding effect
-      lock-insert d mark e =
-          by-cursor (λ lent m. insertAt pc m (lent .places) (to d (m .cursor)) (up (to d (m .cursor))) mark e)
-          (λ a p l. insert-seen-at _ _ _ _ _ _ mark e (ap (to d) p) a p l) (λ lent m s a. kept-insert o pc m s (position-hidden m a) _ _ _ mark e)
+      lock-insert d b k e =
+          by-cursor (λ lent m. insertAt pc m (lent .places) (to d (m .cursor)) (up (to d (m .cursor))) b k e)
+          (λ a p l. insert-seen-at _ _ _ _ _ _ b k e (ap (to d) p) a p l) (λ lent m s a. kept-insert o pc m s (position-hidden m a) _ _ _ b k e)
 
       -- 13 and 14
       lock-remove : (d : Side) → Good₂ SameView (removeAt pc m₁ (to d (m₁ .cursor))) (removeAt pc m₂ (to d (m₂ .cursor)))
@@ -239,13 +239,13 @@ module _ (o : Level) where
       unfolding effect SameView
       lockstep Action.skip = v
       lockstep (Action.assign i e) = lock-assign i e
-      lockstep (Action.output e) = lock-output _ _ e
+      lockstep (Action.output r e) = lock-output _ _ r e
       lockstep Action.goRoot = lock-root
       lockstep Action.goParent = lock-go up
       lockstep (Action.go d) = lock-go (λ p. some (to d p))
       lockstep Action.goLeft = lock-go leftOf
       lockstep Action.goLast = lock-last
-      lockstep (Action.insert d mark e) = lock-insert d mark e
+      lockstep (Action.insert d b k e) = lock-insert d b k e
       lockstep (Action.remove d) = lock-remove d
       lockstep (Action.write e) = lock-write e
-      lockstep Action.raise = lock-raise
+      lockstep (Action.raise k) = lock-raise k

@@ -6,14 +6,14 @@ use Prim.Native.Nat.{ℕ}
 use native.Mathlib.Omega.{arith}
 use mathlib.Core.Bool.{true, false}
 use mathlib.Core.List.{List}
-use Rattle.rules.specs.Level.{Level, public}
+use Rattle.rules.specs.Level.{Level}
 use Rattle.rules.specs.Tree.{exists}
 use Rattle.rules.specs.Bytes.{variablePlace, nodesAt, scriptAt, variableCount, nodeCount, recordCount}
-use Rattle.rules.specs.Check.{Checked, accepted, refused, checkBytes, variableRule}
-use Rattle.rules.specs.Job.{variables, variableOf, treeOf, jobTree, script}
+use Rattle.rules.specs.Check.{Checked, accepted, refused, today, checkBytes, variableRule}
+use Rattle.rules.specs.Job.{variables, variableOf, treeOf, jobTree, script, scriptBy}
 use Rattle.rules.specs.Run.{State, Buffers, run}
 use Rattle.rules.specs.Outcome.{andThen, checkJobBy, checkJob, Outcome, rejected, ran, runJobBy, runJob, begin, boardLines}
-use Rattle.rules.specs.Public.{Alike, Finishes, Indistinguishable, Noninterference, Demand3}
+use Rattle.rules.specs.Public.{Alike, seenLines, Finishes, Indistinguishable, Noninterference, Demand3}
 use Rattle.rules.proofs.Tests.{clash}
 use Rattle.rules.proofs.Loaded.{tree-rules, all-levels}
 use Rattle.rules.proofs.Accepted.{right}
@@ -28,7 +28,7 @@ pub record Loads (b : List ℕ) : Type 0 where
   pub script : Closed (script b)
 
 pub loads : (b : List ℕ) → checkBytes b ≡ accepted → Loads b
-unfolding jobTree treeOf exists variables variableOf variableRule script
+unfolding jobTree treeOf exists variables variableOf variableRule scriptBy
 loads b e =
     let r = right b e in
     let n = counts _ _ _ (r .counts) in
@@ -67,7 +67,7 @@ unfolding runJob checkJob runJobBy
 turned-back b n lent e = rw (e, runJobBy)
 
 pub runs : (b : List ℕ) (n : ℕ) (lent : Buffers) → checkJob b n lent ≡ accepted → runJob b n lent ≡ ran (run lent (script b) n (begin b))
-unfolding runJob checkJob runJobBy
+unfolding runJob checkJob runJobBy today
 runs b n lent e = rw (e, runJobBy)
 
 -- a job that is turned back has no lines, and does not finish
@@ -76,12 +76,12 @@ not-run k i s e = let z : true ≡ false = cc in clash refl z
 
 module _ (o : Level) where
   pub back-left : (k i : ℕ) (w : Outcome) → Indistinguishable o (rejected k i) w
-  unfolding boardLines
-  back-left k i w = record { lines = inl (boardLines w, refl); finish = λ s t a b. absurd (not-run k i s a) }
+  unfolding boardLines seenLines
+  back-left k i w = record { lines = inl (seenLines o (boardLines w), refl); finish = λ s t a b. absurd (not-run k i s a) }
 
   pub back-right : (k i : ℕ) (w : Outcome) → Indistinguishable o w (rejected k i)
-  unfolding boardLines
-  back-right k i w = record { lines = inr (boardLines w, refl); finish = λ s t a b. absurd (not-run k i t b) }
+  unfolding boardLines seenLines
+  back-right k i w = record { lines = inr (seenLines o (boardLines w), refl); finish = λ s t a b. absurd (not-run k i t b) }
 
   module _ (a b : List ℕ) (n m : ℕ) (lent lent′ : Buffers) (ha : checkBytes a ≡ accepted) (hb : checkBytes b ≡ accepted) (alike : Alike o a b) where
     -- both are run
@@ -103,12 +103,12 @@ module _ (o : Level) where
         pick accepted (refused k i) p q = rw (turned-back b m lent′ q) (back-right k i _)
         pick accepted accepted p q = rw (runs a n lent p, runs b m lent′ q) both-run
 
--- demand 3 for every reader
+-- demand 3 for a reader
 pub noninterference : (o : Level) → Noninterference o
 unfolding Noninterference
 noninterference o = told o
 
--- and as the paper has it
+-- and for every reader
 pub demand3 : Demand3
 unfolding Demand3
-demand3 = noninterference public
+demand3 = noninterference

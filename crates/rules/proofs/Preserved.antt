@@ -117,17 +117,17 @@ module _ (lent : Buffers) (places : lent .places ≤ maxNodes) (v : ℕ) (pc : L
   go-held l none = tt
   go-held l (some p) = good-need (Held v) _ _ _ λ _. good-need (Held v) _ _ _ λ _. moved v m _ _ h
 
-  insert-held : (d : Side) (q : Option Place) (mark : ℕ) (e : Expression) → up (to d (m .cursor)) ≡ q
-      → Good (Held v) (insertAt pc m (lent .places) (to d (m .cursor)) q mark e)
+  insert-held : (d : Side) (q : Option Place) (b k : Level) (e : Expression) → up (to d (m .cursor)) ≡ q
+      → Good (Held v) (insertAt pc m (lent .places) (to d (m .cursor)) q b k e)
   unfolding insertAt withTree
-  insert-held d none mark e w = tt
-  insert-held d (some q) mark e w =
+  insert-held d none b k e w = tt
+  insert-held d (some q) b k e w =
       good-need (Held v) _ _ _ λ _. good-need (Held v) _ _ _ λ _. good-given (Held v) _ _ λ z. good-need (Held v) _ _ _ λ u.
       record {
         variables = h .variables;
         rooted = under-count (to d (m .cursor)) q _ (m .tree) w ∙ h .rooted;
         small =
-            let a = ltb-true (size (m .tree)) (lent .places) u in let c = change-size 1 (to d (m .cursor)) (Tree.insert (newLabel pc m mark e z)) (m .tree) (insert-size _) in omega (arith, a, c, places);
+            let a = ltb-true (size (m .tree)) (lent .places) u in let c = change-size 1 (to d (m .cursor)) (Tree.insert (newLabel pc m b k e z)) (m .tree) (insert-size _) in omega (arith, a, c, places);
       }
 
   remove-held : (d : Side) → Good (Held v) (removeAt pc m (to d (m .cursor)))
@@ -155,17 +155,17 @@ module _ (lent : Buffers) (places : lent .places ≤ maxNodes) (v : ℕ) (pc : L
   effect-held Action.skip = h
   effect-held (Action.assign i e) =
       good-need (Held v) _ _ _ λ _. good-given (Held v) _ _ λ _. record { variables = length-set (m .variables) i _ ∙ h .variables; rooted = h .rooted; small = h .small }
-  effect-held (Action.output e) =
+  effect-held (Action.output r e) =
       good-need (Held v) _ _ _ λ _. good-given (Held v) _ _ λ _. good-need (Held v) _ _ _ λ _. record { variables = h .variables; rooted = h .rooted; small = h .small }
   effect-held Action.goRoot = good-need (Held v) _ _ _ λ _. moved v m _ _ h
   effect-held Action.goParent = go-held _ _
   effect-held (Action.go d) = go-held _ _
   effect-held Action.goLeft = go-held _ _
   effect-held Action.goLast = go-held _ _
-  effect-held (Action.insert d mark e) = insert-held d _ mark e refl
+  effect-held (Action.insert d b k e) = insert-held d _ b k e refl
   effect-held (Action.remove d) = remove-held d
   effect-held (Action.write e) = write-held e
-  effect-held Action.raise = good-need (Held v) _ _ _ λ _. moved v m _ _ h
+  effect-held (Action.raise l) = good-need (Held v) _ _ _ λ _. moved v m _ _ h
 
 pub run-held : (lent : Buffers) → lent .places ≤ maxNodes → (cs : List Command) (v n : ℕ) (s : State) → Held v (s .memory)
     → Held v ((run lent cs n s) .last .memory)

@@ -10,6 +10,7 @@ use Rattle.rules.specs.Level.{public}
 use Rattle.rules.specs.Trials.{usual, one, both, bare, v, number, value, withPlaces}
 use Rattle.rules.specs.Board.{Different, Family, board}
 use Rattle.rules.proofs.Computed.{computed}
+use Rattle.rules.proofs.Seen.{line}
 
 -- if v1 is z, up (there is nothing above the root, so 22), end, print value
 leave-at : ℤ → List (List ℕ)
@@ -35,7 +36,8 @@ pub numbers : List ℤ
 numbers = pos 0 ∷ pos 1 ∷ pos 2 ∷ pos 3 ∷ []
 
 -- their boards
-pub boards-differ : map (board jobs) numbers ≡ [] ∷ (pos 10 ∷ []) ∷ (pos 10 ∷ pos 10 ∷ []) ∷ (pos 10 ∷ pos 10 ∷ pos 10 ∷ []) ∷ []
+pub boards-differ :
+    let ten = line (pos 10) public in map (board jobs) numbers ≡ [] ∷ (ten ∷ []) ∷ (ten ∷ ten ∷ []) ∷ (ten ∷ ten ∷ ten ∷ []) ∷ []
 unfolding computed leave-at job jobs numbers
 boards-differ = refl
 

@@ -8,11 +8,13 @@ use lib.ListN.{length, getD}
 use lib.Dec.{leb, ltb, eqb}
 use borrow.Author.Tests.{eqb-true, eq-eqb, ne-eqb, lt-ltb, not-true}
 use Rattle.rules.specs.Limits.{commandCount}
+use Rattle.rules.specs.Level.{Level}
+use Rattle.rules.specs.Tree.{child, sibling}
 use Rattle.rules.specs.Bytes.{byte, full}
-use Rattle.rules.specs.Script.{rows, rowOf, Operand, Expression, Command, act, Action, commands}
-use Rattle.rules.specs.Check.{operandRule, expressionRule, fieldsRule, recordRule, variableReads, nodeReads, fieldReads, hasNumber, readsRight, recordReads, spareRule}
-use Rattle.rules.specs.Job.{operand, expression, expressionOf, commandOf}
-use Rattle.rules.proofs.Tests.{both as both-hold, joined, clash}
+use Rattle.rules.specs.Script.{rows, rowOf, Operand, Expression, Command, act, Action, contentSet, listSet, coverSet, commands}
+use Rattle.rules.specs.Check.{operandRule, expressionRule, fieldsRule, recordRule, variableReads, nodeReads, fieldReads, hasNumber, readsRight, readsTarget, recordReads, spareRule}
+use Rattle.rules.specs.Job.{operand, expression, expressionOf, setAt, commandBy}
+use Rattle.rules.proofs.Tests.{Test, holds, fails, test, both as both-hold, joined, clash}
 
 -- what stands behind a test matters only where it holds
 pub and-agree : (a : Bool) {x y : Bool} → (a ≡ true → x ≡ y) → (a && x) ≡ (a && y)
@@ -50,43 +52,69 @@ expression-agree zero l r s h = refl
 expression-agree (suc o) l r s h = ap (expression (suc o) l) (h (ne-eqb (suc o) 0 (λ (e : suc o ≡ 0). omega arith)))
 
 -- each command reads what its row names
-command-reads : (k t u : ℕ) (e f : Expression) → ((rowOf k .target || rowOf k .mark) ≡ true → t ≡ u) → (rowOf k .expression ≡ true → e ≡ f)
-    → getD (commands t e) k (act Action.skip) ≡ getD (commands u f) k (act Action.skip)
+command-reads : (k t u : ℕ) (r s p p′ q q′ : Level) (e f : Expression) → ((rowOf k .target || rowOf k .mark) ≡ true → t ≡ u)
+    → (rowOf k .readers ≡ true → r ≡ s) → (rowOf k .fifth ≡ true → p ≡ p′) → (rowOf k .sixth ≡ true → q ≡ q′) → (rowOf k .expression ≡ true → e ≡ f)
+    → getD (commands t r p q e) k (act Action.skip) ≡ getD (commands u s p′ q′ f) k (act Action.skip)
 unfolding rows commands
-command-reads zero t u e f h g = refl
-command-reads (suc zero) t u e f h g = ap₂ (λ (x : ℕ) (y : Expression). act (Action.assign x y)) (h refl) (g refl)
-command-reads (suc (suc zero)) t u e f h g = ap Command.if (g refl)
-command-reads (suc (suc (suc zero))) t u e f h g = refl
-command-reads (suc (suc (suc (suc zero)))) t u e f h g = ap Command.while (g refl)
-command-reads (suc (suc (suc (suc (suc zero))))) t u e f h g = refl
-command-reads (suc (suc (suc (suc (suc (suc zero)))))) t u e f h g = ap (λ (y : Expression). act (Action.output y)) (g refl)
-command-reads (suc (suc (suc (suc (suc (suc (suc zero))))))) t u e f h g = refl
-command-reads (suc (suc (suc (suc (suc (suc (suc (suc zero)))))))) t u e f h g = refl
-command-reads (suc (suc (suc (suc (suc (suc (suc (suc (suc zero))))))))) t u e f h g = refl
-command-reads (suc (suc (suc (suc (suc (suc (suc (suc (suc (suc zero)))))))))) t u e f h g = refl
-command-reads (suc (suc (suc (suc (suc (suc (suc (suc (suc (suc (suc zero))))))))))) t u e f h g =
-    ap₂ (λ (x : ℕ) (y : Expression). act (Action.insert Rattle.rules.specs.Tree.Side.child x y)) (h refl) (g refl)
-command-reads (suc (suc (suc (suc (suc (suc (suc (suc (suc (suc (suc (suc zero)))))))))))) t u e f h g =
-    ap₂ (λ (x : ℕ) (y : Expression). act (Action.insert Rattle.rules.specs.Tree.Side.sibling x y)) (h refl) (g refl)
-command-reads (suc (suc (suc (suc (suc (suc (suc (suc (suc (suc (suc (suc (suc zero))))))))))))) t u e f h g = refl
-command-reads (suc (suc (suc (suc (suc (suc (suc (suc (suc (suc (suc (suc (suc (suc zero)))))))))))))) t u e f h g = refl
-command-reads (suc (suc (suc (suc (suc (suc (suc (suc (suc (suc (suc (suc (suc (suc (suc zero))))))))))))))) t u e f h g =
+command-reads zero t u r s p p′ q q′ e f h m v w g = refl
+command-reads (suc zero) t u r s p p′ q q′ e f h m v w g = ap₂ (λ (x : ℕ) (y : Expression). act (Action.assign x y)) (h refl) (g refl)
+command-reads (suc (suc zero)) t u r s p p′ q q′ e f h m v w g = ap Command.if (g refl)
+command-reads (suc (suc (suc zero))) t u r s p p′ q q′ e f h m v w g = refl
+command-reads (suc (suc (suc (suc zero)))) t u r s p p′ q q′ e f h m v w g = ap Command.while (g refl)
+command-reads (suc (suc (suc (suc (suc zero))))) t u r s p p′ q q′ e f h m v w g = refl
+command-reads (suc (suc (suc (suc (suc (suc zero)))))) t u r s p p′ q q′ e f h m v w g = ap₂ (λ (x : Level) (y : Expression). act (Action.output x y)) (m refl) (g refl)
+command-reads (suc (suc (suc (suc (suc (suc (suc zero))))))) t u r s p p′ q q′ e f h m v w g = refl
+command-reads (suc (suc (suc (suc (suc (suc (suc (suc zero)))))))) t u r s p p′ q q′ e f h m v w g = refl
+command-reads (suc (suc (suc (suc (suc (suc (suc (suc (suc zero))))))))) t u r s p p′ q q′ e f h m v w g = refl
+command-reads (suc (suc (suc (suc (suc (suc (suc (suc (suc (suc zero)))))))))) t u r s p p′ q q′ e f h m v w g = refl
+command-reads (suc (suc (suc (suc (suc (suc (suc (suc (suc (suc (suc zero))))))))))) t u r s p p′ q q′ e f h m v w g =
+    λ i. act (Action.insert child (contentSet (h refl i) (v refl i)) (listSet (h refl i) (w refl i)) (g refl i))
+command-reads (suc (suc (suc (suc (suc (suc (suc (suc (suc (suc (suc (suc zero)))))))))))) t u r s p p′ q q′ e f h m v w g =
+    λ i. act (Action.insert sibling (contentSet (h refl i) (v refl i)) (listSet (h refl i) (w refl i)) (g refl i))
+command-reads (suc (suc (suc (suc (suc (suc (suc (suc (suc (suc (suc (suc (suc zero))))))))))))) t u r s p p′ q q′ e f h m v w g = refl
+command-reads (suc (suc (suc (suc (suc (suc (suc (suc (suc (suc (suc (suc (suc (suc zero)))))))))))))) t u r s p p′ q q′ e f h m v w g = refl
+command-reads (suc (suc (suc (suc (suc (suc (suc (suc (suc (suc (suc (suc (suc (suc (suc zero))))))))))))))) t u r s p p′ q q′ e f h m v w g =
     ap (λ (y : Expression). act (Action.write y)) (g refl)
-command-reads (suc (suc (suc (suc (suc (suc (suc (suc (suc (suc (suc (suc (suc (suc (suc (suc zero)))))))))))))))) t u e f h g = refl
-command-reads (suc (suc (suc (suc (suc (suc (suc (suc (suc (suc (suc (suc (suc (suc (suc (suc (suc zero))))))))))))))))) t u e f h g = ap Command.ifBack (g refl)
-command-reads (suc (suc (suc (suc (suc (suc (suc (suc (suc (suc (suc (suc (suc (suc (suc (suc (suc (suc k)))))))))))))))))) t u e f h g = refl
+command-reads (suc (suc (suc (suc (suc (suc (suc (suc (suc (suc (suc (suc (suc (suc (suc (suc zero)))))))))))))))) t u r s p p′ q q′ e f h m v w g =
+    ap (λ (x : Level). act (Action.raise (coverSet x))) (v refl)
+command-reads (suc (suc (suc (suc (suc (suc (suc (suc (suc (suc (suc (suc (suc (suc (suc (suc (suc zero))))))))))))))))) t u r s p p′ q q′ e f h m v w g =
+    ap Command.ifBack (g refl)
+command-reads (suc (suc (suc (suc (suc (suc (suc (suc (suc (suc (suc (suc (suc (suc (suc (suc (suc (suc k)))))))))))))))))) t u r s p p′ q q′ e f h m v w g = refl
 
 -- two jobs with the same bytes where the record at a place is read
 module _
-    (b c : List ℕ) (at : ℕ) (agree : (j x : ℕ) → j < 16 → x ≡ at + j → getD (recordReads b at) j true ≡ true → byte c x ≡ byte b x)
+    (sets : Bool) (b c : List ℕ) (at : ℕ) (agree : (j x : ℕ) → j < 16 → x ≡ at + j → getD (recordReads b at sets) j true ≡ true → byte c x ≡ byte b x)
   where
     pub command-same : byte c at ≡ byte b at
     unfolding recordReads fieldReads
     command-same = agree 0 at (omega arith) (omega arith) refl
 
     target-same : (rowOf (byte b at) .target || rowOf (byte b at) .mark) ≡ true → byte c (at + 1) ≡ byte b (at + 1)
+    unfolding recordReads fieldReads readsTarget
+    target-same h = agree 1 (at + 1) (omega arith) refl (or-one _ _ h)
+
+    -- the sets that the record holds
+    set-same : (x : ℕ) → (sets ≡ true → byte c x ≡ byte b x) → setAt sets c x ≡ setAt sets b x
+    unfolding setAt
+    set-same x h = pick (test sets)
+      where
+        pick : Test sets → setAt sets c x ≡ setAt sets b x
+        pick (holds e) = rw (e, h e)
+        pick (fails e) = rw e
+
+    readers-same : rowOf (byte b at) .readers ≡ true → setAt sets c (at + 1) ≡ setAt sets b (at + 1)
+    unfolding recordReads fieldReads readsTarget
+    readers-same h =
+        set-same (at + 1)
+        (λ e. let z : (sets && rowOf (byte b at) .readers) ≡ true = rw (e, h) in agree 1 (at + 1) (omega arith) refl (or-other (rowOf (byte b at) .target || rowOf (byte b at) .mark) _ z))
+
+    fifth-same : rowOf (byte b at) .fifth ≡ true → setAt sets c (at + 5) ≡ setAt sets b (at + 5)
     unfolding recordReads fieldReads
-    target-same h = agree 1 (at + 1) (omega arith) refl h
+    fifth-same h = set-same (at + 5) (λ e. let z : (sets && rowOf (byte b at) .fifth) ≡ true = rw (e, h) in agree 5 (at + 5) (omega arith) refl z)
+
+    sixth-same : rowOf (byte b at) .sixth ≡ true → setAt sets c (at + 6) ≡ setAt sets b (at + 6)
+    unfolding recordReads fieldReads
+    sixth-same h = set-same (at + 6) (λ e. let z : (sets && rowOf (byte b at) .sixth) ≡ true = rw (e, h) in agree 6 (at + 6) (omega arith) refl z)
 
     module _ (h : rowOf (byte b at) .expression ≡ true) where
       operator-same : byte c (at + 2) ≡ byte b (at + 2)
@@ -143,9 +171,9 @@ module _
           (unless-agree (eqb (byte b (at + 2)) 0)
           (λ w. rw (right-same w) (kind-agree vars (byte b (at + 4)) (full c (at + 12)) (full b (at + 12)) (right-number w)))))
 
-    pub same-command : commandOf c at ≡ commandOf b at
-    unfolding commandOf
-    same-command = rw command-same (command-reads (byte b at) _ _ _ _ target-same expression-same)
+    pub same-command : commandBy sets c at ≡ commandBy sets b at
+    unfolding commandBy
+    same-command = rw command-same (command-reads (byte b at) _ _ _ _ _ _ _ _ _ _ target-same readers-same fifth-same sixth-same expression-same)
 
     pub same-rule : (vars : ℕ) → recordRule c vars at ≡ recordRule b vars at
     unfolding recordRule fieldsRule
@@ -166,11 +194,13 @@ module _
     right-kind w =
         let z = both-hold (rowOf (byte b at) .expression) (not (eqb (byte b (at + 2)) 0)) w in right-same (z .0) (not-true _ (z .1))
 
-    pub same-reads : recordReads c at ≡ recordReads b at
-    unfolding recordReads
+    pub same-reads : recordReads c at sets ≡ recordReads b at sets
+    unfolding recordReads readsTarget
     same-reads =
         rw (command-same, reads-right)
-        (ap₂ (fieldReads (rowOf (byte b at) .target || rowOf (byte b at) .mark) (rowOf (byte b at) .expression) (readsRight b at))
+        (ap₂
+        (fieldReads ((rowOf (byte b at) .target || rowOf (byte b at) .mark) || (sets && rowOf (byte b at) .readers)) (rowOf (byte b at) .expression)
+        (readsRight b at) (sets && rowOf (byte b at) .fifth) (sets && rowOf (byte b at) .sixth))
         (and-agree (rowOf (byte b at) .expression) (λ e. ap hasNumber (left-same e)))
         (and-agree (readsRight b at) (λ w. ap hasNumber (right-kind w))))
 
@@ -197,9 +227,9 @@ spare-zero (r ∷ rs) c at h (suc j) l e =
     ∙ spare-zero rs c (suc at) (both-hold (r || eqb (byte c at) 0) (spareRule rs c (suc at)) h .1) j (omega arith) e
 
 -- the sizes of the three records
-pub records-16 : (b : List ℕ) (at : ℕ) → length (recordReads b at) ≡ 16
+pub records-16 : (sets : Bool) (b : List ℕ) (at : ℕ) → length (recordReads b at sets) ≡ 16
 unfolding recordReads fieldReads
-records-16 b at = refl
+records-16 sets b at = refl
 
 pub variables-8 : length variableReads ≡ 8
 unfolding variableReads

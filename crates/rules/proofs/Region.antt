@@ -18,6 +18,7 @@ use Rattle.rules.specs.Tree.{Place}
 use Rattle.rules.specs.Script.{Expression, Action, Command, number, fetch, numberAt}
 use Rattle.rules.specs.Blocks.{goesTo}
 use Rattle.rules.specs.Run.{Memory, Saved, Block, State, Buffers, Stop, spent, next, context, levelOf, withCursor, position, effect, relocate, onBlock, restore, leave, stepped, relocated, pushed, saving, raised, enterIf, enterWhile, enterBack, carried, step, run}
+use Rattle.rules.specs.Public.{seenLines}
 use Rattle.rules.proofs.Tests.{Test, holds, fails, test, clash}
 use Rattle.rules.proofs.Lattice.{hid-left, hid-right}
 use Rattle.rules.proofs.Nests.{nest-done}
@@ -97,7 +98,7 @@ module _ (o : Level) where
 module _ (o : Level) (lent : Buffers) (cs : List Command) (closed : Closed cs) where
   -- the run from s ends with the lines of the view v, or comes to record i with the blocks bs and the view v
   pub data Leaves (n : ℕ) (s : State) (v : View) (bs : List SeenBlock) (i : ℕ) : Type 0 where
-    ends : (k : Stop) (s′ : State) → run lent cs n s ≡ halted k s′ → s′ .memory .lines ≡ v .lines → Leaves n s v bs i
+    ends : (k : Stop) (s′ : State) → run lent cs n s ≡ halted k s′ → seenLines o (s′ .memory .lines) ≡ v .lines → Leaves n s v bs i
     leaves : (j : ℕ) (s′ : State) → j < n → run lent cs n s ≡ run lent cs j s′ → view o (s′ .memory) ≡ v → looks o (s′ .blocks) ≡ bs
         → s′ .at ≡ i → Valid cs s′ → Leaves n s v bs i
 
@@ -147,7 +148,7 @@ module _ (o : Level) (lent : Buffers) (cs : List Command) (closed : Closed cs) w
     context-dark : (s : State) (ts : List SeenBlock) → In s ts → visible o (context (s .blocks)) ≡ false
     context-dark s ts h = rw (← guards-context o (s .blocks), h .blocks) (dark-guards o ts b bs dark)
 
-    in-lines : (s : State) (ts : List SeenBlock) → In s ts → s .memory .lines ≡ v .lines
+    in-lines : (s : State) (ts : List SeenBlock) → In s ts → seenLines o (s .memory .lines) ≡ v .lines
     unfolding view
     in-lines s ts h = sym (unwound-lines ts b (view o (s .memory))) ∙ ap (λ w. w .lines) (h .outside)
 

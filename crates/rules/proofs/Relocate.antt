@@ -44,11 +44,11 @@ module _ (lent : Buffers) (pc : Level) (m : Memory) (sound : Sound m) where
     After : Action → Memory → Type 0
     After a n = Follows (n .tree) (relocate a (m .cursor) q)
 
-    insert-follows : (places : ℕ) (p : Place) (c : Option Place) (mark : ℕ) (e : Expression)
-        → Good (λ n. Follows (n .tree) (some (afterInsert p q))) (insertAt pc m places p c mark e)
+    insert-follows : (places : ℕ) (p : Place) (c : Option Place) (b k : Level) (e : Expression)
+        → Good (λ n. Follows (n .tree) (some (afterInsert p q))) (insertAt pc m places p c b k e)
     unfolding insertAt withTree
-    insert-follows places p none mark e = tt
-    insert-follows places p (some c) mark e =
+    insert-follows places p none b k e = tt
+    insert-follows places p (some c) b k e =
         let P : Memory → Type 0 = λ n. Follows (n .tree) (some (afterInsert p q)) in
         good-need P _ _ _ λ _. good-need P _ _ _ λ h. good-given P _ _ λ _. good-need P _ _ _ λ _.
         by-fate p _ _ h (fate-insert (m .tree) q stands public public (sound .rules) p _)
@@ -64,20 +64,20 @@ module _ (lent : Buffers) (pc : Level) (m : Memory) (sound : Sound m) where
     unfolding effect After relocate assign output moveTo goTo goToLast removeAt write withVariables withTree withCursor withLine
     effect-follows Action.skip = same-tree
     effect-follows (Action.assign i e) = good-need (After (Action.assign i e)) _ _ _ λ _. good-given (After (Action.assign i e)) _ _ λ _. same-tree
-    effect-follows (Action.output e) =
-        good-need (After (Action.output e)) _ _ _ λ _. good-given (After (Action.output e)) _ _ λ _. good-need (After (Action.output e)) _ _ _ λ _. same-tree
+    effect-follows (Action.output r e) =
+        good-need (After (Action.output r e)) _ _ _ λ _. good-given (After (Action.output r e)) _ _ λ _. good-need (After (Action.output r e)) _ _ _ λ _. same-tree
     effect-follows Action.goRoot = good-need (After Action.goRoot) _ _ _ λ _. same-tree
     effect-follows Action.goParent = go-follows _ _
     effect-follows (Action.go d) = go-follows _ _
     effect-follows Action.goLeft = go-follows _ _
     effect-follows Action.goLast = go-follows _ _
-    effect-follows (Action.insert d mark e) = insert-follows _ _ _ mark e
+    effect-follows (Action.insert d b k e) = insert-follows _ _ _ b k e
     effect-follows (Action.remove d) =
         good-need (After (Action.remove d)) _ _ _ λ _. good-need (After (Action.remove d)) _ _ _ λ h.
         by-fate (to d (m .cursor)) _ _ h (fate-remove (m .tree) q stands public public (sound .rules) (to d (m .cursor)))
     effect-follows (Action.write e) =
         good-need (After (Action.write e)) _ _ _ λ _. good-given (After (Action.write e)) _ _ λ _. stays (still-written (m .tree) q stands (m .cursor) _)
-    effect-follows Action.raise = good-need (After Action.raise) _ _ _ λ _. same-tree
+    effect-follows (Action.raise l) = good-need (After (Action.raise l)) _ _ _ λ _. same-tree
 
     pub follows : (a : Action) (n : Memory) → effect lent pc m a ≡ next n → Follows (n .tree) (relocate a (m .cursor) q)
     unfolding After

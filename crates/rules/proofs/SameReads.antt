@@ -4,17 +4,18 @@
 use mathlib.Core.Path.{_≡_, refl, sym, ap, ap₂, _∙_}
 use Prim.Native.Nat.{ℕ, zero, suc, _+_, _-_, _*_, _%_, _/_, _≤_, _<_}
 use native.Mathlib.Omega.{arith}
-use mathlib.Core.Bool.{Bool, true}
+use mathlib.Core.Bool.{Bool, true, false}
 use mathlib.Core.List.{List}
 use lib.ListN.{length, getD}
 use lib.Dec.{ltb}
 use borrow.Author.Tests.{lt-ltb, le-ltb, ltb-true, ltb-false}
 use Rattle.rules.specs.Number.{signed}
+use Rattle.rules.specs.Tree.{Label}
 use Rattle.rules.specs.Bytes.{byte, half, full, variablesAt, nodesAt, scriptAt, trailerAt, variableCount, nodeCount, recordCount, variablePlace, nodePlace, recordPlace}
-use Rattle.rules.specs.Check.{accepted, refused, offsetRule, variableRule, parent, existence, content, structure, parentRule, nodeRule, recordRule, code, variableReads, nodeReads, recordReads}
+use Rattle.rules.specs.Check.{accepted, refused, offsetRule, variableRule, parent, existence, content, structure, parentRule, nodeRule, houseRule, recordRule, code, variableReads, nodeReads, recordReads}
 use Rattle.rules.specs.Check.{Edition, checkBytesBy}
 use Rattle.rules.specs.Blocks.{blockRule}
-use Rattle.rules.specs.Job.{listed, variableOf, variables, labelOf, jobTree, commandOf, script, scriptOf}
+use Rattle.rules.specs.Job.{listed, variableOf, variables, labelOf, jobTree, commandBy, scriptBy, scriptFrom}
 use Rattle.rules.specs.Run.{Buffers, run, start}
 use Rattle.rules.specs.Outcome.{bufferRule, checkJobBy, rejected, ran, begin, runJobBy}
 use Rattle.rules.specs.Clean.{spotIn, spotOf, readsAt, isRead}
@@ -23,7 +24,7 @@ use Rattle.rules.proofs.SameNumbers.{rule-agree}
 use Rattle.rules.proofs.Checks.{Sections, sections, counts, long-enough}
 use Rattle.rules.proofs.Packed.{listed-agree, half-agree, full-agree}
 use Rattle.rules.proofs.ReadBytes.{command-same, same-command, same-rule, same-reads}
-use Rattle.rules.proofs.Accepted.{Clean, Right, JobScript}
+use Rattle.rules.proofs.Accepted.{Clean, Right, House, JobScript}
 use Rattle.rules.proofs.SameNodes.{tree-same, parent-rule, node-rule}
 
 -- where the sections of an accepted job lie
@@ -54,12 +55,12 @@ module _ (b : List ℕ) (r : Right b) where
       (ap (λ (k : ℕ). getD nodeReads k true) {x = (x - nodesAt b) % 12} {y = j} (omega arith))
 
   pub read-record : (i j x : ℕ) → i < recordCount b → j < 16 → x ≡ recordPlace (scriptAt b) i + j
-      → isRead b x ≡ getD (recordReads b (recordPlace (scriptAt b) i)) j true
+      → isRead b x ≡ getD (recordReads b (recordPlace (scriptAt b) i) false) j true
   unfolding isRead readsAt spotOf spotIn
   read-record i j x h l e =
       let s = laid .sections in
       rw (le-ltb x (nodesAt b) (omega arith), le-ltb x (scriptAt b) (omega arith), lt-ltb x (trailerAt b) (omega arith))
-      (ap₂ (λ (m k : ℕ). getD (recordReads b (recordPlace (scriptAt b) m)) k true) {x = (x - scriptAt b) / 16} {y = i} {u = (x - scriptAt b) % 16} {v = j}
+      (ap₂ (λ (m k : ℕ). getD (recordReads b (recordPlace (scriptAt b) m) false) k true) {x = (x - scriptAt b) / 16} {y = i} {u = (x - scriptAt b) % 16} {v = j}
       (omega arith) (omega arith))
 
   pub read-trailer : (x : ℕ) → trailerAt b ≤ x → isRead b x ≡ true
@@ -160,22 +161,23 @@ module _ (b c : List ℕ) (r : Right b) (same : Around b c) where
 
   -- script
   of-record : (i : ℕ) → i < recordCount b → (j x : ℕ) → j < 16 → x ≡ recordPlace (scriptAt b) i + j
-      → getD (recordReads b (recordPlace (scriptAt b) i)) j true ≡ true → byte c x ≡ byte b x
+      → getD (recordReads b (recordPlace (scriptAt b) i) false) j true ≡ true → byte c x ≡ byte b x
   of-record i h j x l e t = same .behind x (omega arith) (read-record b r i j x h l e ∙ t)
 
-  pub same-script : script c ≡ script b
-  unfolding script scriptOf
+  -- the script, where records hold no sets
+  pub same-script : scriptBy false c ≡ scriptBy false b
+  unfolding scriptBy scriptFrom
   same-script =
-      ap₂ (λ (s k : ℕ). listed (λ (i : ℕ). commandOf c (recordPlace s i)) k 0) same-script-at same-record-count
-      ∙ listed-agree _ _ (commandOf b 0) (recordCount b) (λ i l. same-command b c (recordPlace (scriptAt b) i) (of-record i l))
+      ap₂ (λ (s k : ℕ). listed (λ (i : ℕ). commandBy false c (recordPlace s i)) k 0) same-script-at same-record-count
+      ∙ listed-agree _ _ (commandBy false b 0) (recordCount b) (λ i l. same-command false b c (recordPlace (scriptAt b) i) (of-record i l))
 
   pub code-same : (i : ℕ) → i < recordCount b → code c (scriptAt b) i ≡ code b (scriptAt b) i
   unfolding code
-  code-same i h = command-same b c (recordPlace (scriptAt b) i) (of-record i h)
+  code-same i h = command-same false b c (recordPlace (scriptAt b) i) (of-record i h)
 
   -- the rules of the script
   new-records : (i : ℕ) → i < recordCount b → recordRule c (variableCount b) (recordPlace (scriptAt b) i) ≡ true
-  new-records i l = same-rule b c (recordPlace (scriptAt b) i) (of-record i l) (variableCount b) ∙ r .records i l
+  new-records i l = same-rule false b c (recordPlace (scriptAt b) i) (of-record i l) (variableCount b) ∙ r .records i l
 
   new-blocks : (i : ℕ) → i < suc (recordCount b) → blockRule (code c (scriptAt b)) (recordCount b) i ≡ true
   new-blocks i l = rule-agree (code c (scriptAt b)) (code b (scriptAt b)) (recordCount b) code-same i (omega arith) ∙ r .blocks i l
@@ -195,28 +197,38 @@ module _ (b c : List ℕ) (r : Right b) (same : Around b c) where
         blocks = rw (same-record-count, same-script-at) new-blocks;
       }
 
+  pub around-house : House b → ((i : ℕ) → i < nodeCount b → houseRule c (nodesAt b) i ≡ true) → House c
+  around-house h nodes =
+      record {
+        variables = rw same-variable-count (λ i l. rw (level-same i l) (h .variables i l));
+        nodes = rw (same-nodes-at, same-node-count) nodes;
+      }
+
   -- from one edition to another with the same commands
   pub around-script : (old new : Edition) → new .commands ≡ old .commands → JobScript old b
-      → (new .spare ≡ true → Clean c (variableCount b) (nodesAt b) (nodeCount b) (scriptAt b) (recordCount b)) → JobScript new c
+      → (new .spare ≡ true → Clean (new .sets) c (variableCount b) (nodesAt b) (nodeCount b) (scriptAt b) (recordCount b)) → JobScript new c
   unfolding code
   around-script old new k s clean =
       rw (same-variable-count, same-nodes-at, same-node-count, same-script-at, same-record-count)
       (record { known = λ i h. rw (code-same i h, k) (s .known i h); records = new-records; clean = clean; blocks = new-blocks })
 
-  -- where both are accepted and hold the same tree, they run the same
-  module _ (old new : Edition) (x : checkBytesBy old b ≡ accepted) (y : checkBytesBy new c ≡ accepted) (t : jobTree c ≡ jobTree b) (budget : ℕ) (lent : Buffers) where
+  -- where both are accepted, hold no sets and hold the same tree, they run the same
+  module _ (old new : Edition) (p : old .sets ≡ false) (q : new .sets ≡ false) (x : checkBytesBy old b ≡ accepted) (y : checkBytesBy new c ≡ accepted) (t : jobTree c ≡ jobTree b) (budget : ℕ) (lent : Buffers) where
     checks-same : checkJobBy new c budget lent ≡ checkJobBy old b budget lent
     unfolding checkJobBy bufferRule
     checks-same = rw (x, y, same-variable-count, same-node-count)
 
+    scripts-same : scriptBy (new .sets) c ≡ scriptBy (old .sets) b
+    scripts-same = rw (p, q) same-script
+
     pub around-runs : runJobBy new c budget lent ≡ runJobBy old b budget lent
     unfolding runJobBy begin
     around-runs =
-        λ i. elim (checks-same i) [ refused k j ↦ rejected k j | accepted ↦ ran (run lent (same-script i) budget (start (same-variables i) (t i))) ]
+        λ i. elim (checks-same i) [ refused k j ↦ rejected k j | accepted ↦ ran (run lent (scripts-same i) budget (start (same-variables i) (t i))) ]
 
   -- what is read
-  pub record-reads : (i : ℕ) → i < recordCount b → recordReads c (recordPlace (scriptAt b) i) ≡ recordReads b (recordPlace (scriptAt b) i)
-  record-reads i h = same-reads b c (recordPlace (scriptAt b) i) (of-record i h)
+  pub record-reads : (i : ℕ) → i < recordCount b → recordReads c (recordPlace (scriptAt b) i) false ≡ recordReads b (recordPlace (scriptAt b) i) false
+  record-reads i h = same-reads false b c (recordPlace (scriptAt b) i) (of-record i h)
 
 -- bytes that agree with a job's wherever it reads them
 pub record Agreed (b c : List ℕ) : Type 0 where
@@ -256,6 +268,14 @@ module _ (b c : List ℕ) (r : Right b) (same : Agreed b c) where
       around-right b c r (around same) (λ i l. parent-rule b c (nodesAt b) (nodeCount b) parent-same label-same i l ∙ r .parents i l)
       (λ i l. node-rule b c (nodesAt b) (nodeCount b) parent-same label-same i l (r .parents i l) ∙ r .nodes i l)
 
+  pub same-house : House b → House c
+  unfolding houseRule labelOf
+  same-house h =
+      around-house b c r (around same) h
+      (λ i l.
+      let e = label-same i l in
+      rw (ap (λ (k : Label). k .existence) e, ap (λ (k : Label). k .content) e, ap (λ (k : Label). k .structure) e) (h .nodes i l))
+
   -- what is read
   pub same-read : (x : ℕ) → isRead c x ≡ isRead b x
   same-read x = by (lies b r x)
@@ -269,7 +289,7 @@ module _ (b c : List ℕ) (r : Right b) (same : Agreed b c) where
           let z = same-record-count b c r (around same) in
           let y = same-script-at b c r (around same) in
           read-record c same-right i j x (omega arith) l (omega arith)
-          ∙ ap (λ (m : ℕ). getD (recordReads c (recordPlace m i)) j true) y
+          ∙ ap (λ (m : ℕ). getD (recordReads c (recordPlace m i) false) j true) y
           ∙ ap (λ (rs : List Bool). getD rs j true) (record-reads b c r (around same) i h)
           ∙ sym (read-record b r i j x h l e)
       by (in-trailer h) = let z = same-trailer-at b c r (around same) in read-trailer c same-right x (omega arith) ∙ sym (read-trailer b r x h)

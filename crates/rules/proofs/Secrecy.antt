@@ -17,7 +17,7 @@ use Rattle.rules.specs.Script.{Expression, Action, Command, act, fetch, 
 use Rattle.rules.specs.Blocks.{goesTo}
 use Rattle.rules.specs.Run.{Memory, Saved, Block, State, Buffers, Stop, spent, Result, next, stop, context, value, levelOf, withCursor, position, effect, relocate, onBlock, restore, leave, stepped, onward, relocated, pushed, saving, raised, enterIf, enterWhile, enterBack, leaveBlock, carried, step, finished, stopped, Ended, run}
 use Rattle.rules.specs.Outcome.{Outcome, rejected, ran, boardLines}
-use Rattle.rules.specs.Public.{AgreeVariables, Finishes, Same, Indistinguishable}
+use Rattle.rules.specs.Public.{AgreeVariables, seenLines, Finishes, Same, Indistinguishable}
 use Rattle.rules.proofs.Tests.{Test, holds, fails, test, clash}
 use Rattle.rules.proofs.Lattice.{vis-both, vis-right, hid-left, hid-right}
 use Rattle.rules.proofs.ByPlace.{places-agree}
@@ -52,11 +52,11 @@ module _ (o : Level) where
       clash refl z
 
   -- a run that has stopped, with lines that begin the other's
-  stopped-left : (e f : Ended) (k : Stop) → e .ending ≡ stopped k → Extends (e .last .memory .lines) (f .last .memory .lines) → Unseen e f
+  stopped-left : (e f : Ended) (k : Stop) → e .ending ≡ stopped k → Extends (seenLines o (e .last .memory .lines)) (seenLines o (f .last .memory .lines)) → Unseen e f
   unfolding boardLines
   stopped-left e f k h x = record { lines = inl (x .prefix); finish = λ s t a b. absurd (not-stopped e k s h a) }
 
-  stopped-right : (e f : Ended) (k : Stop) → f .ending ≡ stopped k → Extends (f .last .memory .lines) (e .last .memory .lines) → Unseen e f
+  stopped-right : (e f : Ended) (k : Stop) → f .ending ≡ stopped k → Extends (seenLines o (f .last .memory .lines)) (seenLines o (e .last .memory .lines)) → Unseen e f
   unfolding boardLines
   stopped-right e f k h x = record { lines = inr (x .prefix); finish = λ s t a b. absurd (not-stopped f k t h b) }
 
@@ -77,7 +77,7 @@ module _ (o : Level) where
     pub at : s .at ≡ t .at
     pub light : visible o (context (s .blocks)) ≡ true
 
-  lines-same : (s t : State) → Twins s t → s .memory .lines ≡ t .memory .lines
+  lines-same : (s t : State) → Twins s t → seenLines o (s .memory .lines) ≡ seenLines o (t .memory .lines)
   unfolding view
   lines-same s t w = ap (λ v. v .lines) (w .seen)
 
@@ -273,18 +273,18 @@ module _ (o : Level) where
       Told : Type 0
       Told = Unseen (run lent₁ cs n₁ s) (run lent₂ cs n₂ t)
 
-      -- one run has stopped without a line more
-      left-stops : (k : Stop) (s′ : State) → run lent₁ cs n₁ s ≡ halted k s′ → s′ .memory .lines ≡ s .memory .lines → Told
+      -- one run has stopped without a seen line more
+      left-stops : (k : Stop) (s′ : State) → run lent₁ cs n₁ s ≡ halted k s′ → seenLines o (s′ .memory .lines) ≡ seenLines o (s .memory .lines) → Told
       unfolding Told
       left-stops k s′ q l =
           stopped-left _ _ k (ap (λ e. e .ending) q)
-          (extends-trans (extends-refl (ap (λ e. e .last .memory .lines) q ∙ l ∙ lines-same s t w)) (run-lines lent₂ cs n₂ t))
+          (extends-trans (extends-refl (ap (λ e. seenLines o (e .last .memory .lines)) q ∙ l ∙ lines-same s t w)) (run-lines lent₂ cs o n₂ t))
 
-      right-stops : (k : Stop) (t′ : State) → run lent₂ cs n₂ t ≡ halted k t′ → t′ .memory .lines ≡ t .memory .lines → Told
+      right-stops : (k : Stop) (t′ : State) → run lent₂ cs n₂ t ≡ halted k t′ → seenLines o (t′ .memory .lines) ≡ seenLines o (t .memory .lines) → Told
       unfolding Told
       right-stops k t′ q l =
           stopped-right _ _ k (ap (λ e. e .ending) q)
-          (extends-trans (extends-refl (ap (λ e. e .last .memory .lines) q ∙ l ∙ sym (lines-same s t w))) (run-lines lent₁ cs n₁ s))
+          (extends-trans (extends-refl (ap (λ e. seenLines o (e .last .memory .lines)) q ∙ l ∙ sym (lines-same s t w))) (run-lines lent₁ cs o n₁ s))
 
       -- both scripts are over
       both-over : more lent₁ cs s ≡ false → Told

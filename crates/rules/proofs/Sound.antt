@@ -1,21 +1,21 @@
--- What every action keeps, in a context that is a level: the tree rules, a cursor on a node whose existence is not above the cursor level,
+-- What every action whose sets are levels keeps, in a context that is a level: the tree rules, a cursor on a node whose existence is not above the cursor level,
 -- and that all levels are levels. So C is never below the working node's existence. Assumes nothing.
 use mathlib.Core.Path.{_≡_, refl, _∙_, ap}
 use Prim.Native.Nat.{ℕ, zero, suc}
-use mathlib.Core.Bool.{Bool, true, false}
+use mathlib.Core.Bool.{true}
 use mathlib.Core.Option.{Option, none, some}
 use mathlib.Core.List.{List, [], _∷_}
 use lib.ListN.{set}
 use lib.IntN.{ℤ}
-use Rattle.rules.specs.Level.{Level, public, secret, notAbove, isLevel}
+use Rattle.rules.specs.Level.{Level, public, join, notAbove, isLevel}
 use Rattle.rules.specs.Tree as Tree
 use Rattle.rules.specs.Tree.{Forest, nil, tree, Side, child, Place, root, to, up, sub, lastOf, label, exists, change, onSide, remove, setValue, withValue, Levels, Fits, TreeRules}
 use Rattle.rules.specs.Script.{Operand, Expression, alone, Action}
 use Rattle.rules.specs.Script as Script
 use Rattle.rules.specs.Job.{Variable, allLevels}
-use Rattle.rules.specs.Run.{Memory, Buffers, noVariable, variableAt, current, operandLevel, levelOf, value, withVariables, withTree, withCursor, withLine, secretIf, position, flowOf, assign, output, moveTo, goJoining, goTo, goToLast, mayTouch, newLabel, insertAt, removeAt, write, effect}
+use Rattle.rules.specs.Run.{Memory, Buffers, noVariable, variableAt, current, operandLevel, levelOf, value, withVariables, withTree, withCursor, withLine, position, flowOf, assign, output, moveTo, goJoining, goTo, goToLast, mayTouch, newLabel, insertAt, removeAt, write, effect}
 use Rattle.rules.proofs.Tests.{both}
-use Rattle.rules.proofs.Lattice.{na-public, na-refl, na-trans, na-left, na-right, level-secret, level-public, secret-level, level-join}
+use Rattle.rules.proofs.Lattice.{na-public, na-refl, na-trans, na-left, na-right, level-public, level-join}
 use Rattle.rules.proofs.Trees.{loAt, hiOf, hiAt, fits-sub, fits-change, fit-first, hi-parent, last-under, fits-remove, fits-value, sub-change, exists-sub, on-exists, on-label}
 use Rattle.rules.proofs.Results.{Good, good-need, good-given}
 
@@ -38,10 +38,20 @@ pub record Sound (m : Memory) : Type 0 where
   pub cursor : isLevel (m .level) ≡ true
   pub variables : allLevels (m .variables) ≡ true
 
-secret-if : (b : Bool) → isLevel (secretIf b) ≡ true
-unfolding secretIf
-secret-if true = secret-level
-secret-if false = level-public
+-- the sets that an action joins to a node or to the cursor level are levels
+abbrev pub Sets : Action → Type 0
+Sets (Action.insert d c l e) = (isLevel c ≡ true) × (isLevel l ≡ true)
+Sets (Action.raise l) = isLevel l ≡ true
+Sets Action.skip = Unit {0}
+Sets (Action.assign i e) = Unit {0}
+Sets (Action.output r e) = Unit {0}
+Sets Action.goRoot = Unit {0}
+Sets Action.goParent = Unit {0}
+Sets (Action.go d) = Unit {0}
+Sets Action.goLeft = Unit {0}
+Sets Action.goLast = Unit {0}
+Sets (Action.remove d) = Unit {0}
+Sets (Action.write e) = Unit {0}
 
 root-public : (t : Forest) → exists t ≡ true → TreeRules t → notAbove ((label t) .existence) public ≡ true
 root-public t e f = (fit-first _ _ t e f) .under
@@ -127,16 +137,16 @@ module _ (m : Memory) (sound : Sound m) where
         let f = k .0 in
         (record { levels = f .levels; above = h; under = f .under; content = f .content; structure = f .structure }, k .1, k .2)
 
-    new-fits : (lo hi : Level) (mark : ℕ) (e : Expression) (z : ℤ) (x : Forest) → notAbove lo (position pc m) ≡ true → notAbove (position pc m) hi ≡ true
-        → mayTouch pc m x ≡ true → Fits lo hi x → Fits lo hi (Tree.insert (newLabel pc m mark e z) x)
+    new-fits : (lo hi : Level) (b k : Level) (e : Expression) (z : ℤ) (x : Forest) → isLevel b ≡ true → isLevel k ≡ true → notAbove lo (position pc m) ≡ true → notAbove (position pc m) hi ≡ true
+        → mayTouch pc m x ≡ true → Fits lo hi x → Fits lo hi (Tree.insert (newLabel pc m b k e z) x)
     unfolding Tree.insert newLabel flowOf
-    new-fits lo hi mark e z x a u h k = (
+    new-fits lo hi b k e z x i j a u h f = (
       record {
         levels =
             record {
               existence = position-level;
-              content = level-join _ _ (level-join _ _ (expression-level e) position-level) (secret-if _);
-              structure = level-join _ _ position-level (secret-if _);
+              content = level-join _ _ (level-join _ _ (expression-level e) position-level) i;
+              structure = level-join _ _ position-level j;
             };
         above = a;
         under = u;
@@ -144,7 +154,7 @@ module _ (m : Memory) (sound : Sound m) where
         structure = na-left _ _;
       },
       tt,
-      behind lo hi x h k,
+      behind lo hi x h f,
     )
 
     -- C is not below the working node's existence: a test of it would never fail
@@ -152,13 +162,13 @@ module _ (m : Memory) (sound : Sound m) where
     unfolding position
     position-covers = na-trans _ _ _ (sound .covered) (na-right _ _)
 
-    insert-sound : (d : Side) (places mark : ℕ) (e : Expression) (q : Option Place) → up (to d (m .cursor)) ≡ q
-        → Good Sound (insertAt pc m places (to d (m .cursor)) q mark e)
+    insert-sound : (d : Side) (places : ℕ) (b k : Level) (e : Expression) (q : Option Place) → isLevel b ≡ true → isLevel k ≡ true
+        → up (to d (m .cursor)) ≡ q → Good Sound (insertAt pc m places (to d (m .cursor)) q b k e)
     unfolding insertAt
-    insert-sound d places mark e none w = tt
-    insert-sound d places mark e (some q) w =
+    insert-sound d places b k e none i j w = tt
+    insert-sound d places b k e (some q) i j w =
         good-need Sound _ _ _ λ u. good-need Sound _ _ _ λ h. good-given Sound _ _ λ z. good-need Sound _ _ _ λ _.
-        beside d _ (new-fits _ _ mark e z _ position-covers (rw (hi-parent (to d (m .cursor)) q (m .tree) public w) u) h (fits-beside d))
+        beside d _ (new-fits _ _ b k e z _ i j position-covers (rw (hi-parent (to d (m .cursor)) q (m .tree) public w) u) h (fits-beside d))
 
     remove-sound : (d : Side) → Good Sound (removeAt pc m (to d (m .cursor)))
     unfolding removeAt
@@ -183,9 +193,9 @@ module _ (m : Memory) (sound : Sound m) where
           variables = all-set (m .variables) i _ (all-at (m .variables) i (sound .variables)) (sound .variables);
         }
 
-    output-sound : (capacity : ℕ) (e : Expression) → Good Sound (output pc m capacity e)
+    output-sound : (capacity : ℕ) (r : Level) (e : Expression) → Good Sound (output pc m capacity r e)
     unfolding output withLine current
-    output-sound capacity e =
+    output-sound capacity r e =
         good-need Sound _ _ _ λ _. good-given Sound _ _ λ _. good-need Sound _ _ _ λ _.
         record { rules = sound .rules; stands = sound .stands; covered = sound .covered; cursor = sound .cursor; variables = sound .variables }
 
@@ -216,23 +226,23 @@ module _ (m : Memory) (sound : Sound m) where
         let e = exists-sub (m .cursor) (m .tree) (sound .stands) in
         good-need Sound _ _ _ λ _. moved root pc e (na-trans _ _ _ (root-public (m .tree) e (sound .rules)) (na-public pc)) known
 
-    raise-sound : Good Sound (moveTo pc m (m .cursor) secret)
+    raise-sound : (l : Level) → isLevel l ≡ true → Good Sound (moveTo pc m (m .cursor) (join (m .level) l))
     unfolding moveTo current
-    raise-sound =
+    raise-sound l k =
         good-need Sound _ _ _ λ _.
-        moved (m .cursor) secret (sound .stands) (na-trans _ _ _ (sound .covered) (level-secret _ (sound .cursor))) secret-level
+        moved (m .cursor) _ (sound .stands) (na-trans _ _ _ (sound .covered) (na-left _ _)) (level-join _ _ (sound .cursor) k)
 
-    pub effect-sound : (lent : Buffers) (a : Action) → Good Sound (effect lent pc m a)
+    pub effect-sound : (lent : Buffers) (a : Action) → Sets a → Good Sound (effect lent pc m a)
     unfolding effect
-    effect-sound lent Action.skip = sound
-    effect-sound lent (Action.assign i e) = assign-sound i e
-    effect-sound lent (Action.output e) = output-sound _ e
-    effect-sound lent Action.goRoot = root-sound
-    effect-sound lent Action.goParent = go-sound _
-    effect-sound lent (Action.go d) = go-sound _
-    effect-sound lent Action.goLeft = go-sound _
-    effect-sound lent Action.goLast = last-sound
-    effect-sound lent (Action.insert d mark e) = insert-sound d _ mark e _ refl
-    effect-sound lent (Action.remove d) = remove-sound d
-    effect-sound lent (Action.write e) = write-sound e
-    effect-sound lent Action.raise = raise-sound
+    effect-sound lent Action.skip h = sound
+    effect-sound lent (Action.assign i e) h = assign-sound i e
+    effect-sound lent (Action.output r e) h = output-sound _ r e
+    effect-sound lent Action.goRoot h = root-sound
+    effect-sound lent Action.goParent h = go-sound _
+    effect-sound lent (Action.go d) h = go-sound _
+    effect-sound lent Action.goLeft h = go-sound _
+    effect-sound lent Action.goLast h = last-sound
+    effect-sound lent (Action.insert d b k e) h = insert-sound d _ b k e _ (h .0) (h .1) refl
+    effect-sound lent (Action.remove d) h = remove-sound d
+    effect-sound lent (Action.write e) h = write-sound e
+    effect-sound lent (Action.raise l) h = raise-sound l h

@@ -11,11 +11,12 @@ use Rattle.rules.specs.Tree as Tree
 use Rattle.rules.specs.Tree.{Forest, nil, tree, Place, label, exists}
 use Rattle.rules.specs.Script.{Expression, Action}
 use Rattle.rules.specs.Job.{Variable}
-use Rattle.rules.specs.Run.{Memory, Saved, Block, Buffers, noVariable, variableAt, current, withVariables, withTree, withCursor, position, flowOf, contextFlow, assign, output, moveTo, goJoining, goTo, goToLast, mayTouch, newLabel, insertAt, removeAt, write, effect}
-use Rattle.rules.specs.Public.{SeenVariable, seenVariable, seenValue}
+use Rattle.rules.specs.Run.{Line, Memory, Saved, Block, Buffers, noVariable, variableAt, current, withVariables, withTree, withCursor, withLine, position, flowOf, contextFlow, assign, output, moveTo, goJoining, goTo, goToLast, mayTouch, newLabel, insertAt, removeAt, write, effect}
+use Rattle.rules.specs.Public.{SeenVariable, seenVariable, seenValue, seenLines}
 use Rattle.rules.proofs.Tests.{clash}
-use Rattle.rules.proofs.Lattice.{level-secret, vis-public, vis-down, hid-up, hid-left, hid-right}
+use Rattle.rules.proofs.Lattice.{hid-up, hid-left, hid-right}
 use Rattle.rules.proofs.Cut.{cut, cut-kept, insert-hidden, remove-hidden, set-hidden}
+use Rattle.rules.proofs.Seen.{seen-hidden}
 use Rattle.rules.proofs.Results.{Good, good-need, good-given}
 use Rattle.rules.proofs.Sound.{Sound, there}
 
@@ -23,7 +24,7 @@ pub record View : Type 0 where
   pub variables : List SeenVariable
   pub tree : Forest
   pub cursor : Option Saved
-  pub lines : List ℤ
+  pub lines : List Line
 
 -- what is seen of a block: its guard, whether it comes back, and to what if that is seen
 pub record SeenBlock : Type 0 where
@@ -57,7 +58,7 @@ module _ (o : Level) where
 
   unfoldable pub view : Memory → View
   view m =
-      record { variables = map (seenVariable o) (m .variables); tree = cut o (m .tree); cursor = seenCursor (m .cursor) (m .level); lines = m .lines }
+      record { variables = map (seenVariable o) (m .variables); tree = cut o (m .tree); cursor = seenCursor (m .cursor) (m .level); lines = seenLines o (m .lines) }
 
   -- a memory that looks as m does
   unfoldable pub Kept : Memory → Memory → Type 0
@@ -88,20 +89,20 @@ module _ (o : Level) where
     cut-touched nil h = refl
     cut-touched (tree l c r) h = rw (hid-up o _ _ h dark)
 
-    new-hidden : (mark : ℕ) (e : Expression) (z : ℤ) → visible o ((newLabel pc m mark e z) .existence) ≡ false
+    new-hidden : (c l : Level) (e : Expression) (z : ℤ) → visible o ((newLabel pc m c l e z) .existence) ≡ false
     unfolding newLabel
-    new-hidden mark e z = dark
+    new-hidden c l e z = dark
 
     flow-hidden : (e : Expression) → visible o (flowOf pc m e) ≡ false
     unfolding flowOf
     flow-hidden e = hid-right o _ _ dark
 
-    pub kept-insert : (places : ℕ) (p : Place) (q : Option Place) (mark : ℕ) (e : Expression) → Good (Kept m) (insertAt pc m places p q mark e)
+    pub kept-insert : (places : ℕ) (p : Place) (q : Option Place) (c l : Level) (e : Expression) → Good (Kept m) (insertAt pc m places p q c l e)
     unfolding insertAt
-    kept-insert places p none mark e = tt
-    kept-insert places p (some q) mark e =
+    kept-insert places p none c l e = tt
+    kept-insert places p (some q) c l e =
         good-need (Kept m) _ _ _ λ _. good-need (Kept m) _ _ _ λ h. good-given (Kept m) _ _ λ z. good-need (Kept m) _ _ _ λ _.
-        kept-tree m _ (cut-kept o p _ (m .tree) (insert-hidden o _ _ (new-hidden mark e z) (cut-touched _ h)))
+        kept-tree m _ (cut-kept o p _ (m .tree) (insert-hidden o _ _ (new-hidden c l e z) (cut-touched _ h)))
 
     pub kept-remove : (p : Place) → Good (Kept m) (removeAt pc m p)
     unfolding removeAt
@@ -145,24 +146,27 @@ module _ (o : Level) where
     kept-assign i e =
         good-need (Kept m) _ _ _ λ h. good-given (Kept m) _ _ λ _.
         let k = map-set (seenVariable o) (m .variables) i _ noVariable (hidden-variable _ _ (hid-up o _ _ h (context-hidden e))) in
-        λ j. record { variables = k j; tree = (view m) .tree; cursor = (view m) .cursor; lines = m .lines }
+        λ j. record { variables = k j; tree = (view m) .tree; cursor = (view m) .cursor; lines = (view m) .lines }
 
-    kept-output : (capacity : ℕ) (e : Expression) → Good (Kept m) (output pc m capacity e)
-    unfolding output
-    kept-output capacity e = good-need (Kept m) _ _ _ λ h. clash (vis-down o _ _ h (vis-public o)) (context-hidden e)
+    kept-output : (capacity : ℕ) (r : Level) (e : Expression) → Good (Kept m) (output pc m capacity r e)
+    unfolding output Kept view withLine
+    kept-output capacity r e =
+        good-need (Kept m) _ _ _ λ h. good-given (Kept m) _ _ λ z. good-need (Kept m) _ _ _ λ _.
+        let k = seen-hidden o (m .lines) z r (hid-up o _ _ h (context-hidden e)) in
+        λ j. record { variables = (view m) .variables; tree = (view m) .tree; cursor = (view m) .cursor; lines = k j }
 
     -- confinement
     pub confined : (lent : Buffers) (a : Action) → Good (Kept m) (effect lent pc m a)
     unfolding effect Kept goTo goToLast
     confined lent Action.skip = refl
     confined lent (Action.assign i e) = kept-assign i e
-    confined lent (Action.output e) = kept-output _ e
+    confined lent (Action.output r e) = kept-output _ r e
     confined lent Action.goRoot = kept-move pc m _ _ (λ h. (level-hidden h, dark))
     confined lent Action.goParent = kept-go pc m _ _ level-hidden
     confined lent (Action.go d) = kept-go pc m _ _ level-hidden
     confined lent Action.goLeft = kept-go pc m _ _ level-hidden
     confined lent Action.goLast = kept-go pc m _ _ level-hidden
-    confined lent (Action.insert d mark e) = kept-insert pc m sound below _ _ _ mark e
+    confined lent (Action.insert d c l e) = kept-insert pc m sound below _ _ _ c l e
     confined lent (Action.remove d) = kept-remove pc m sound below _
     confined lent (Action.write e) = kept-write pc m sound below e
-    confined lent Action.raise = kept-move pc m _ _ (λ h. (level-hidden h, hid-up o _ _ (level-secret _ (sound .cursor)) (level-hidden h)))
+    confined lent (Action.raise l) = kept-move pc m _ _ (λ h. (level-hidden h, hid-left o _ _ (level-hidden h)))

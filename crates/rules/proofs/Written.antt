@@ -17,10 +17,10 @@ use Rattle.rules.specs.Tree.{Label, Forest, nil, tree, size, count, noLa
 use Rattle.rules.specs.Blocks.{blockRule, parts}
 use Rattle.rules.specs.Bytes.{byte, full, two, variablesAt, nodesAt, scriptAt, trailerAt, variableCount, nodeCount, recordCount, variablePlace, nodePlace}
 use Rattle.rules.specs.Check.{Checked, accepted, refused, require, lengthRule, whole, offsetRule, countRule, variableRule, parent, existence, content, structure, parentRule, variableReads, nodeReads, spareRule, variableClean, nodeClean, today}
-use Rattle.rules.specs.Job.{Variable, allLevels, listed, variableOf, variables, labelOf, jobTree, script, scriptOf}
+use Rattle.rules.specs.Job.{Variable, allLevels, listed, variableOf, variables, labelOf, jobTree, script, scriptOf, scriptBy, scriptFrom}
 use Rattle.rules.specs.History.{Store, storeRule}
 use Rattle.rules.specs.Write.{four, variable, node, trailer, Entry, listing, nodeBytes, variableBytes, writtenSize, written, checkWrite, writeAnswer, leftWritten, RangedVariables, Ranged, Writes, WriterRight}
-use Rattle.rules.proofs.Tests.{Test, holds, fails, test, both, joined}
+use Rattle.rules.proofs.Tests.{Test, holds, fails, test, both, joined, clash}
 use Rattle.rules.proofs.Number.{bits-below, signed-bits}
 use Rattle.rules.proofs.Checks.{passed-one}
 use Rattle.rules.proofs.Decode.{listed-from-zero}
@@ -215,7 +215,7 @@ module _ (vs : List Variable) (l : Label) (c : Forest) (h : Holdable (record { v
       ∙ ap treeList entries-job ∙ listed-tree noParent l c
 
   pub no-script : script job ≡ []
-  unfolding script scriptOf listed
+  unfolding scriptBy scriptFrom listed
   no-script = ap (λ (n : ℕ). scriptOf job (scriptAt job) n) record-count
 
   -- the checks
@@ -290,7 +290,7 @@ module _ (vs : List Variable) (l : Label) (c : Forest) (h : Holdable (record { v
   own-byte rs c h j l e = ap (byte c) {x = j} {y = 0 + j} (omega arith) ∙ spare-zero rs c 0 h j l e
 
   job-by : RightBy today job
-  unfolding written variableClean nodeClean
+  unfolding written variableClean nodeClean today
   job-by =
       let v = variable-count in
       let w = node-count in
@@ -299,6 +299,7 @@ module _ (vs : List Variable) (l : Label) (c : Forest) (h : Holdable (record { v
       let k = record-count in
       record {
         right = job-right;
+        house = λ q. clash {b = today .sets} refl q;
         order = λ q. listing-ordered job (nodesAt job) (nodeCount job) parents-right l c (sym node-count) entries-job;
         script =
             record {

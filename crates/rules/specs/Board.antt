@@ -3,12 +3,11 @@ use mathlib.Core.Path.{_≡_}
 use Prim.Native.Nat.{ℕ, suc, _≤_}
 use mathlib.Core.List.{List, [], _∷_, IsPrefix}
 use lib.ListN.{length}
-use lib.IntN.{ℤ}
 use Rattle.rules.specs.Level.{Level}
 use Rattle.rules.specs.Check.{accepted, checkBytes}
-use Rattle.rules.specs.Run.{Buffers}
+use Rattle.rules.specs.Run.{Line, Buffers}
 use Rattle.rules.specs.Outcome.{Outcome, answer, runJob, boardLines}
-use Rattle.rules.specs.Public.{Alike}
+use Rattle.rules.specs.Public.{Alike, seenLines}
 
 -- boards, each with its number of lines
 module _ {ℓ} {I : Type ℓ} {A : Type 0} (board : I → List A) (lines : I → ℕ) where
@@ -46,9 +45,9 @@ module _ {ℓ} {o : Level} {I : Type ℓ} (F : Family o I) where
   unfoldable pub outcome : I → Outcome
   outcome i = runJob (F .job i) (F .budget i) (F .lent i)
 
-  -- its board
-  unfoldable pub board : I → List ℤ
-  board i = boardLines (outcome i)
+  -- its board, as the reader sees it
+  unfoldable pub board : I → List Line
+  board i = seenLines o (boardLines (outcome i))
 
   -- it finishes
   abbrev pub Finished : I → Type 0

@@ -29,7 +29,7 @@ offsetRule b =
 unfoldable pub countRule : ℕ → ℕ → ℕ → Bool
 countRule vs ns rs = leb vs maxVariables && leb 1 ns && leb ns maxNodes && leb rs maxRecords
 
--- 4: no "variable level above 1"
+-- 4: a level is one byte, so that no byte is faulty
 unfoldable pub variableRule : List ℕ → ℕ → Bool
 variableRule b i = isLevel (byte b (variablePlace i))
 
@@ -54,7 +54,7 @@ module _ (b : List ℕ) (base : ℕ) where
   unfoldable pub parentRule : ℕ → Bool
   parentRule i = cond (eqb i 0) (eqb (parent i) noParent) (ltb (parent i) i)
 
-  -- 6: no "level above 1", and "content and list are not below existence"
+  -- 6: levels, which every byte is, and "content and list are not below existence"
   unfoldable pub labelRule : ℕ → Bool
   labelRule i =
       isLevel (existence i) && isLevel (content i) && isLevel (structure i) && notAbove (existence i) (content i)
@@ -110,6 +110,33 @@ module _ (b : List ℕ) (vars : ℕ) where
   unfoldable pub recordRule : ℕ → Bool
   recordRule at = ltb (byte b at) commandCount && fieldsRule (rowOf (byte b at)) at
 
+-- the rules in force by the requests that have landed; a program that keeps the rules of its landing keeps its edition
+pub record Edition : Type 0 where
+  pub commands : ℕ  -- how many commands there are
+  pub spare : Bool  -- spare bytes are zero
+  pub order : Bool  -- "each node is followed at once by its whole subtree"
+  pub sets : Bool  -- "a level becomes one byte, a set of eight parties", and script records hold sets
+
+-- paper 01 with R-1 to R-3, which the cleaner keeps
+unfoldable pub first : Edition
+first = record { commands = 17; spare = false; order = false; sets = false }
+
+-- with clean spare bytes, R-4
+unfoldable pub clean : Edition
+clean = record { commands = 17; spare = true; order = false; sets = false }
+
+-- paper 01 with R-1 to R-9, which the rearranger keeps
+unfoldable pub unordered : Edition
+unordered = record { commands = commandCount; spare = true; order = false; sets = false }
+
+-- with the nodes listed the way they hang, R-10
+unfoldable pub ordered : Edition
+ordered = record { commands = commandCount; spare = true; order = true; sets = false }
+
+-- with sets of parties, R-12, which the summary keeps: the rules in force today
+unfoldable pub today : Edition
+today = record { commands = commandCount; spare = true; order = true; sets = true }
+
 -- R-4: which bytes of a variable are read, from the first on: "byte 0 level, 1 to 3 ignored, 4 to 7 value"
 unfoldable pub variableReads : List Bool
 variableReads = true ∷ false ∷ false ∷ false ∷ true ∷ true ∷ true ∷ true ∷ []
@@ -118,10 +145,10 @@ variableReads = true ∷ false ∷ false ∷ false ∷ true ∷ true ∷ true �
 unfoldable pub nodeReads : List Bool
 nodeReads = true ∷ true ∷ true ∷ true ∷ true ∷ false ∷ false ∷ false ∷ true ∷ true ∷ true ∷ true ∷ []
 
--- of a script record, by whether it reads its target, its expression, the expression's right side, and the number of either side
-unfoldable pub fieldReads : Bool → Bool → Bool → Bool → Bool → List Bool
-fieldReads target expression right leftNumber rightNumber =
-    true ∷ target ∷ expression ∷ expression ∷ right ∷ false ∷ false ∷ false ∷ leftNumber ∷ leftNumber ∷ leftNumber ∷ leftNumber ∷ rightNumber
+-- of a script record, by whether it reads its target, its expression, the expression's right side, the bytes 5 and 6, and the number of either side
+unfoldable pub fieldReads : Bool → Bool → Bool → Bool → Bool → Bool → Bool → List Bool
+fieldReads target expression right fifth sixth leftNumber rightNumber =
+    true ∷ target ∷ expression ∷ expression ∷ right ∷ fifth ∷ sixth ∷ false ∷ leftNumber ∷ leftNumber ∷ leftNumber ∷ leftNumber ∷ rightNumber
     ∷ rightNumber ∷ rightNumber ∷ rightNumber ∷ []
 
 -- "For kinds 2 and 3 the number is ignored."
@@ -133,11 +160,16 @@ module _ (b : List ℕ) (at : ℕ) where
   unfoldable pub readsRight : Bool
   readsRight = rowOf (byte b at) .expression && not (eqb (byte b (at + 2)) 0)
 
-  -- which bytes of the record at a place are read: those of "the fields that a command or kind" reads
-  unfoldable pub recordReads : List Bool
-  recordReads =
-      fieldReads (rowOf (byte b at) .target || rowOf (byte b at) .mark) (rowOf (byte b at) .expression) readsRight
-      (rowOf (byte b at) .expression && hasNumber (byte b (at + 3))) (readsRight && hasNumber (byte b (at + 4)))
+  module _ (sets : Bool) where
+    -- it reads its target: as a variable's index, as a mark or, where records hold sets, as a reader set
+    unfoldable pub readsTarget : Bool
+    readsTarget = (rowOf (byte b at) .target || rowOf (byte b at) .mark) || (sets && rowOf (byte b at) .readers)
+
+    -- which bytes of the record at a place are read: those of "the fields that a command or kind" reads
+    unfoldable pub recordReads : List Bool
+    recordReads =
+        fieldReads readsTarget (rowOf (byte b at) .expression) readsRight (sets && rowOf (byte b at) .fifth) (sets && rowOf (byte b at) .sixth)
+        (rowOf (byte b at) .expression && hasNumber (byte b (at + 3))) (readsRight && hasNumber (byte b (at + 4)))
 
 -- 12: from a place on, each byte is read or zero
 unfoldable pub spareRule : List Bool → List ℕ → ℕ → Bool
@@ -152,9 +184,9 @@ variableClean b i = spareRule variableReads b (variablePlace i)
 unfoldable pub nodeClean : List ℕ → ℕ → ℕ → Bool
 nodeClean b base i = spareRule nodeReads b (nodePlace base i)
 
--- 12, of record i in the section that starts at base
-unfoldable pub recordClean : List ℕ → ℕ → ℕ → Bool
-recordClean b base i = spareRule (recordReads b (recordPlace base i)) b (recordPlace base i)
+-- 12, of record i in the section that starts at base, where records hold sets or do not
+unfoldable pub recordClean : Bool → List ℕ → ℕ → ℕ → Bool
+recordClean sets b base i = spareRule (recordReads b (recordPlace base i) sets) b (recordPlace base i)
 
 -- "0 command": that of record i in the section that starts at base
 unfoldable pub code : List ℕ → ℕ → ℕ → ℕ
@@ -178,31 +210,17 @@ require k test next = cond test next (refused k 0)
 unfoldable pub requireEach : ℕ → (ℕ → Bool) → ℕ → Checked → Checked
 requireEach k good n next = cond (ltb (firstFault good n 0) n) (refused k (firstFault good n 0)) next
 
--- the rules in force by the requests that have landed; a program that keeps the rules of its landing keeps its edition
-pub record Edition : Type 0 where
-  pub commands : ℕ  -- how many commands there are
-  pub spare : Bool  -- spare bytes are zero
-  pub order : Bool  -- "each node is followed at once by its whole subtree"
+-- 4, in an edition: before R-12 no "variable level above 1"
+unfoldable pub variableRuleIn : Edition → List ℕ → ℕ → Bool
+variableRuleIn rules b i = (rules .sets || leb (byte b (variablePlace i)) 1) && variableRule b i
 
--- paper 01 with R-1 to R-3, which the cleaner keeps
-unfoldable pub first : Edition
-first = record { commands = 17; spare = false; order = false }
+-- before R-12: no "level above 1", of node i in the section that starts at base
+unfoldable pub houseRule : List ℕ → ℕ → ℕ → Bool
+houseRule b base i = leb (existence b base i) 1 && leb (content b base i) 1 && leb (structure b base i) 1
 
--- with clean spare bytes, R-4
-unfoldable pub clean : Edition
-clean = record { commands = 17; spare = true; order = false }
-
--- paper 01 with R-1 to R-9, which the rearranger keeps
-unfoldable pub unordered : Edition
-unordered = record { commands = commandCount; spare = true; order = false }
-
--- with the nodes listed the way they hang, R-10
-unfoldable pub ordered : Edition
-ordered = record { commands = commandCount; spare = true; order = true }
-
--- the rules in force today
-unfoldable pub today : Edition
-today = ordered
+-- 6, in an edition
+unfoldable pub nodeRuleIn : Edition → List ℕ → ℕ → ℕ → Bool
+nodeRuleIn rules b base i = (rules .sets || houseRule b base i) && nodeRule b base i
 
 -- 7, in an edition
 unfoldable pub recordRuleIn : Edition → List ℕ → ℕ → ℕ → Bool
@@ -219,16 +237,16 @@ checkScript rules b vars vs tree ns script rs next =
     requireEach badRecord (λ i. recordRuleIn rules b vars (recordPlace script i)) rs
     (requireIf (rules .spare) badSpare (variableClean b) vs
     (requireIf (rules .spare) badSpare (nodeClean b tree) ns
-    (requireIf (rules .spare) badSpare (recordClean b script) rs
+    (requireIf (rules .spare) badSpare (recordClean (rules .sets) b script) rs
     (requireEach badBlock (blockRule (code b script) rs) (suc rs) next))))
 
 -- the checks 4 to 8, with 13 "checked after 5 and before 6", of vs variables, ns nodes from tree on and rs script records from script on
 unfoldable pub checkRecords : Edition → List ℕ → ℕ → ℕ → ℕ → ℕ → ℕ → Checked
 checkRecords rules b vs tree ns script rs =
-    requireEach badVariable (variableRule b) vs
+    requireEach badVariable (variableRuleIn rules b) vs
     (requireEach badParent (parentRule b tree) ns
     (requireIf (rules .order) badOrder (orderRule b tree) ns
-    (requireEach badNode (nodeRule b tree) ns (checkScript rules b vs vs tree ns script rs accepted))))
+    (requireEach badNode (nodeRuleIn rules b tree) ns (checkScript rules b vs vs tree ns script rs accepted))))
 
 -- "Job checks go in order of number.", but for 12, which is "checked after 7 and before 8", and 13
 unfoldable pub checkBytesBy : Edition → List ℕ → Checked

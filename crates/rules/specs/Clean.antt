@@ -2,7 +2,7 @@
 use mathlib.Core.Path.{_≡_}
 use mathlib.Core.Logic.{_⊎_}
 use Prim.Native.Nat.{ℕ, zero, suc, _-_, _/_, _%_, _<_}
-use mathlib.Core.Bool.{Bool, true, _||_, not, cond}
+use mathlib.Core.Bool.{Bool, true, false, _||_, not, cond}
 use mathlib.Core.List.{List, [], _∷_, List·Memᴰ}
 use lib.ListN.{length, getD}
 use lib.Dec.{ltb, eqb}
@@ -30,9 +30,9 @@ spotOf b at =
     (cond (ltb at (scriptAt b)) (spotIn 1 (nodesAt b) nodeSize at)
     (cond (ltb at (trailerAt b)) (spotIn 2 (scriptAt b) recordSize at) (spotIn 3 (trailerAt b) trailerSize at)))
 
--- which bytes of the record at a spot are read; those of the trailer are
+-- which bytes of the record at a spot are read, by the rules that the cleaner keeps; those of the trailer are
 unfoldable pub readsAt : List ℕ → Spot → List Bool
-readsAt b s = getD (variableReads ∷ nodeReads ∷ recordReads b (recordPlace (scriptAt b) (s .index)) ∷ []) (s .section) []
+readsAt b s = getD (variableReads ∷ nodeReads ∷ recordReads b (recordPlace (scriptAt b) (s .index)) false ∷ []) (s .section) []
 
 -- the byte at a place is read
 unfoldable pub isRead : List ℕ → ℕ → Bool

@@ -1,11 +1,11 @@
 -- What the bytes of an accepted job hold: variables, tree and script. Assumes nothing.
-use Prim.Native.Nat.{ℕ, zero, suc, _+_, _-_}
-use mathlib.Core.Bool.{Bool, true, false, _&&_}
+use Prim.Native.Nat.{ℕ, zero, suc, _+_, _-_, _%_}
+use mathlib.Core.Bool.{Bool, true, false, _&&_, cond}
 use mathlib.Core.List.{List, [], _∷_}
 use lib.ListN.{getD}
 use lib.Dec.{eqb}
 use lib.IntN.{ℤ}
-use Rattle.rules.specs.Level.{Level, isLevel}
+use Rattle.rules.specs.Level.{Level, public, isLevel}
 use Rattle.rules.specs.Number.{signed}
 use Rattle.rules.specs.Tree.{Label, Forest, nil, tree}
 use Rattle.rules.specs.Script.{Operand, Operator, Expression, alone, both, Command, act, Action, commands}
@@ -68,14 +68,33 @@ expression o l r =
 unfoldable pub expressionOf : List ℕ → ℕ → Expression
 expressionOf b at = expression (byte b (at + 2)) (operand (byte b (at + 3)) (full b (at + 8))) (operand (byte b (at + 4)) (full b (at + 12)))
 
--- the command of the record at a place: "0 command, 1 target"
-unfoldable pub commandOf : List ℕ → ℕ → Command
-commandOf b at = getD (commands (byte b (at + 1)) (expressionOf b at)) (byte b at) (act Action.skip)
+-- where records hold sets, as they do from R-12 on, or do not
+module _ (sets : Bool) where
+  -- the set that the byte at a place holds, public where there is none; a set has eight parties, so that of a byte it is the byte itself
+  unfoldable pub setAt : List ℕ → ℕ → Level
+  setAt b at = cond sets (byte b at % 256) public
 
--- the n script records of a section that starts at base
-unfoldable pub scriptOf : List ℕ → ℕ → ℕ → List Command
-scriptOf b base n = listed (λ i. commandOf b (recordPlace base i)) n 0
+  -- the command of the record at a place: "0 command, 1 target", which may be a set, and the sets of bytes 5 and 6
+  unfoldable pub commandBy : List ℕ → ℕ → Command
+  commandBy b at =
+      getD (commands (byte b (at + 1)) (setAt b (at + 1)) (setAt b (at + 5)) (setAt b (at + 6)) (expressionOf b at)) (byte b at) (act Action.skip)
 
--- the script of a job
-unfoldable pub script : List ℕ → List Command
-script b = scriptOf b (scriptAt b) (recordCount b)
+  -- the n script records of a section that starts at base
+  unfoldable pub scriptFrom : List ℕ → ℕ → ℕ → List Command
+  scriptFrom b base n = listed (λ i. commandBy b (recordPlace base i)) n 0
+
+  -- the script of a job
+  unfoldable pub scriptBy : List ℕ → List Command
+  scriptBy b = scriptFrom b (scriptAt b) (recordCount b)
+
+-- today: a command
+abbrev pub commandOf : List ℕ → ℕ → Command
+commandOf b at = commandBy true b at
+
+-- a section's script
+abbrev pub scriptOf : List ℕ → ℕ → ℕ → List Command
+scriptOf b base n = scriptFrom true b base n
+
+-- a job's script
+abbrev pub script : List ℕ → List Command
+script b = scriptBy true b

@@ -20,3 +20,4 @@ pub mod Clean
 pub mod Arrange
 pub mod Write
 pub mod Trials
+pub mod Summary

@@ -3,13 +3,12 @@ use Prim.Native.Nat.{ℕ}
 use mathlib.Core.Bool.{Bool, _&&_}
 use mathlib.Core.List.{List, []}
 use lib.ListN.{length}
-use lib.IntN.{ℤ}
 use lib.Dec.{leb}
 use Rattle.rules.specs.Limits.{maxNodes, maxBudget, badBudget, badBuffers}
 use Rattle.rules.specs.Bytes.{variableCount, nodeCount}
 use Rattle.rules.specs.Check.{Checked, accepted, refused, require, Edition, today, checkBytesBy}
-use Rattle.rules.specs.Job.{variables, jobTree, script}
-use Rattle.rules.specs.Run.{State, Buffers, stopNumber, Ending, finished, stopped, Ended, run, start}
+use Rattle.rules.specs.Job.{variables, jobTree, scriptBy}
+use Rattle.rules.specs.Run.{Line, State, Buffers, stopNumber, Ending, finished, stopped, Ended, run, start}
 
 -- 9: the budget is "1 to 1,000,000"
 unfoldable pub budgetRule : ℕ → Bool
@@ -44,12 +43,12 @@ pub data Outcome : Type 0 where
 unfoldable pub begin : List ℕ → State
 begin b = start (variables b) (jobTree b)
 
--- the run over a job's bytes, with a budget and the caller's buffers, where the checks are those of an edition
+-- the run over a job's bytes, with a budget and the caller's buffers, in an edition
 unfoldable pub runJobBy : Edition → List ℕ → ℕ → Buffers → Outcome
 runJobBy rules b budget lent =
     elim (checkJobBy rules b budget lent) [
       | refused k i ↦ rejected k i
-      | accepted ↦ ran (run lent (script b) budget (begin b))
+      | accepted ↦ ran (run lent (scriptBy (rules .sets) b) budget (begin b))
     ]
 
 -- by the rules of today
@@ -84,7 +83,7 @@ answer (ran e) =
       lines = length (e .last .memory .lines);
     }
 
--- "A run's board lines are the numbers that its commands 6 put out, in order"
-unfoldable pub boardLines : Outcome → List ℤ
+-- "A run's board lines are the numbers that its commands 6 put out, in order", each with its reader set
+unfoldable pub boardLines : Outcome → List Line
 boardLines (rejected k i) = []
 boardLines (ran e) = e .last .memory .lines

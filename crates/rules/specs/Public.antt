@@ -3,14 +3,14 @@ use mathlib.Core.Path.{_≡_}
 use mathlib.Core.Logic.{_⊎_}
 use Prim.Native.Nat.{ℕ}
 use mathlib.Core.Bool.{cond}
-use mathlib.Core.List.{List, map, IsPrefix}
+use mathlib.Core.List.{List, [], _∷_, map, IsPrefix}
 use mathlib.Core.Option.{Option, none, some}
 use lib.IntN.{ℤ}
-use Rattle.rules.specs.Level.{Level, public, visible}
+use Rattle.rules.specs.Level.{Level, visible}
 use Rattle.rules.specs.Tree.{Label, Forest, nil, tree, Place, sub}
 use Rattle.rules.specs.Check.{accepted, checkBytes}
 use Rattle.rules.specs.Job.{Variable, variables, jobTree, script}
-use Rattle.rules.specs.Run.{State, Buffers, finished}
+use Rattle.rules.specs.Run.{Line, State, Buffers, finished}
 use Rattle.rules.specs.Outcome.{Outcome, ran, runJob, boardLines}
 
 -- one list is the beginning of the other
@@ -52,7 +52,7 @@ module _ (o : Level) where
   seenNode nil = none
   seenNode (tree l c r) = cond (visible o (l .existence)) (some (seenLabel l)) none
 
-  -- "the number and levels of all variables, the values of level 0 variables" are equal
+  -- "the number and levels of all variables, the values of" visible ones are equal
   unfoldable pub AgreeVariables : List Variable → List Variable → Type 0
   AgreeVariables vs ws = map seenVariable vs ≡ map seenVariable ws
 
@@ -70,14 +70,20 @@ module _ (o : Level) where
     pub script : script a ≡ script b
     pub parts : Agree (variables a) (variables b) (jobTree a) (jobTree b)
 
-  -- what two states show the reader o in the end: "the lines are equal and the last variables and trees agree on their public parts"
+  -- "A reader sees the lines whose set lies within their own"
+  unfoldable pub seenLines : List Line → List Line
+  seenLines [] = []
+  seenLines (l ∷ ls) = cond (visible o (l .readers)) (l ∷ seenLines ls) (seenLines ls)
+
+  -- what two states show the reader o in the end: "the lines" that o sees "are equal and the last variables and trees agree on their public parts"
   pub record Same (s t : State) : Type 0 where
-    pub lines : s .memory .lines ≡ t .memory .lines
+    pub lines : seenLines (s .memory .lines) ≡ seenLines (t .memory .lines)
     pub parts : Agree (s .memory .variables) (t .memory .variables) (s .memory .tree) (t .memory .tree)
 
-  -- two outcomes: "the board lines of one run are the beginning of the other's; if both finish," the last states are the same. A job that is turned back has no lines
+  -- two outcomes: what o sees of "the board lines of one run" is "the beginning of the other's; if both finish," the last states are the same. A job that is turned
+  -- back has no lines
   pub record Indistinguishable (w x : Outcome) : Type 0 where
-    pub lines : Comparable (boardLines w) (boardLines x)
+    pub lines : Comparable (seenLines (boardLines w)) (seenLines (boardLines x))
     pub finish : (s t : State) → Finishes w s → Finishes x t → Same s t
 
   -- demand 3: "Any two accepted jobs with the same script that agree on their public parts, whatever their house values and house nodes, budgets, buffers"; accepted is what the checks 1 to 8 say, and a call that 9 or 10 turns back counts too
@@ -86,6 +92,6 @@ module _ (o : Level) where
       (a b : List ℕ) (n m : ℕ) (lent lent′ : Buffers) → checkBytes a ≡ accepted → checkBytes b ≡ accepted → Alike a b
       → Indistinguishable (runJob a n lent) (runJob b m lent′)
 
--- demand 3 as the paper has it, for the reader who sees what is public
+-- demand 3: "The secrecy rule is proved once over the reader's set, for lines, variables and nodes alike"
 unfoldable pub Demand3 : Type 0
-Demand3 = Noninterference public
+Demand3 = (o : Level) → Noninterference o

@@ -1,12 +1,12 @@
 -- One run of a script over variables and a tree. Assumes nothing.
-use Prim.Native.Nat.{ℕ, zero, suc, _%_}
+use Prim.Native.Nat.{ℕ, zero, suc}
 use mathlib.Core.Bool.{Bool, true, false, cond}
 use mathlib.Core.Option.{Option, none, some, Option·map, bind}
 use mathlib.Core.List.{List, [], _∷_, _++_, map}
 use lib.ListN.{length, getD, set}
 use lib.IntN.{ℤ, pos}
-use lib.Dec.{leb, ltb, eqb}
-use Rattle.rules.specs.Level.{Level, public, secret, join, notAbove}
+use lib.Dec.{ltb}
+use Rattle.rules.specs.Level.{Level, public, join, notAbove}
 use Rattle.rules.specs.Number.{isZero}
 use Rattle.rules.specs.Tree.{Label, Forest, nil, tree, child, along, Place, root, to, up, leftOf, lastOf, label, exists, count, size, sub, change, setValue, afterInsert, afterRemove}
 use Rattle.rules.specs.Tree as Tree
@@ -14,13 +14,18 @@ use Rattle.rules.specs.Script.{Operand, Expression, alone, both, Action,
 use Rattle.rules.specs.Blocks.{goesTo}
 use Rattle.rules.specs.Job.{Variable}
 
+-- a board line: "A line keeps its reader set"
+pub record Line : Type 0 where
+  pub number : ℤ
+  pub readers : Level
+
 -- what a script works on: the variables, the tree, the cursor with its level, and the board's lines so far
 pub record Memory : Type 0 where
   pub variables : List Variable
   pub tree : Forest
   pub cursor : Place
   pub level : Level
-  pub lines : List ℤ
+  pub lines : List Line
 
 -- what an if that comes back remembers: where the working node stands now, nowhere if it was removed meanwhile, and the cursor level
 pub record Saved : Type 0 where
@@ -128,12 +133,8 @@ module _ (m : Memory) where
   withCursor p l = record { variables = m .variables; tree = m .tree; cursor = p; level = l; lines = m .lines }
 
   -- the memory with one board line more
-  unfoldable pub withLine : ℤ → Memory
-  withLine z = record { variables = m .variables; tree = m .tree; cursor = m .cursor; level = m .level; lines = m .lines ++ (z ∷ []) }
-
--- secret where the test holds
-unfoldable pub secretIf : Bool → Level
-secretIf t = cond t secret public
+  unfoldable pub withLine : Line → Memory
+  withLine l = record { variables = m .variables; tree = m .tree; cursor = m .cursor; level = m .level; lines = m .lines ++ (l ∷ []) }
 
 -- the actions, in a context of level pc
 module _ (pc : Level) (m : Memory) where
@@ -155,11 +156,11 @@ module _ (pc : Level) (m : Memory) where
       need flow (notAbove (contextFlow e) (v .level))
       (given (value m e) λ z. next (withVariables m (set (m .variables) i (record { level = v .level; value = z }))))
 
-  -- 6: E joined with the context is 0, then 27, then 24 where the line buffer, of a capacity, is full
-  unfoldable pub output : ℕ → Expression → Result Memory
-  output capacity e =
-      need flow (notAbove (contextFlow e) public)
-      (given (value m e) λ z. need boardFull (ltb (length (m .lines)) capacity) (next (withLine m z)))
+  -- 6: E joined with the context is contained in the reader set r, then 27, then 24 where the line buffer, of a capacity, is full
+  unfoldable pub output : ℕ → Level → Expression → Result Memory
+  output capacity r e =
+      need flow (notAbove (contextFlow e) r)
+      (given (value m e) λ z. need boardFull (ltb (length (m .lines)) capacity) (next (withLine m (record { number = z; readers = r }))))
 
   -- the rule of 7 to 10, 16, 18 and 19: "context not above cursor level"
   unfoldable pub moveTo : Place → Level → Result Memory
@@ -183,24 +184,18 @@ module _ (pc : Level) (m : Memory) where
   mayTouch nil = true
   mayTouch (tree l c r) = notAbove position (l .existence)
 
-  -- "content is L, and 1 if the mark is odd; list is C, and 1 if the mark is 2 or 3"
-  unfoldable pub newLabel : ℕ → Expression → ℤ → Label
-  newLabel mark e z =
-      record {
-        value = z;
-        existence = position;
-        content = join (flowOf e) (secretIf (eqb (mark % 2) 1));
-        structure = join position (secretIf (leb 2 mark));
-      }
+  -- "content is L", "list is C", each joined with a set
+  unfoldable pub newLabel : Level → Level → Expression → ℤ → Label
+  newLabel c l e z = record { value = z; existence = position; content = join (flowOf e) c; structure = join position l }
 
   -- 11 and 12: a new node at the place p under the parent at q, in a table of places; 22 with no parent, 21, 27, then 23
-  unfoldable pub insertAt : ℕ → Place → Option Place → ℕ → Expression → Result Memory
-  insertAt places p none mark e = stop absent
-  insertAt places p (some q) mark e =
+  unfoldable pub insertAt : ℕ → Place → Option Place → Level → Level → Expression → Result Memory
+  insertAt places p none c l e = stop absent
+  insertAt places p (some q) c l e =
       need flow (notAbove position ((label (sub q (m .tree))) .structure))
       (need flow (mayTouch (sub p (m .tree)))
       (given (value m e) λ z.
-      need tableFull (ltb (size (m .tree)) places) (next (withTree m (change p (Tree.insert (newLabel mark e z)) (m .tree))))))
+      need tableFull (ltb (size (m .tree)) places) (next (withTree m (change p (Tree.insert (newLabel c l e z)) (m .tree))))))
 
   -- 13 and 14: 22, then "C not above its existence"
   unfoldable pub removeAt : Place → Result Memory
@@ -214,35 +209,35 @@ module _ (pc : Level) (m : Memory) where
       need flow (notAbove (flowOf e) ((label (current m)) .content))
       (given (value m e) λ z. next (withTree m (change (m .cursor) (setValue z) (m .tree))))
 
--- what an action does; 7 sets the cursor level to the context, 16 (cover) to 1
+-- what an action does; 7 sets the cursor level to the context, 16 (cover) joins a set to it
 unfoldable pub effect : Buffers → Level → Memory → Action → Result Memory
 effect lent pc m Action.skip = next m
 effect lent pc m (Action.assign i e) = assign pc m i (variableAt (m .variables) i) e
-effect lent pc m (Action.output e) = output pc m (lent .lines) e
+effect lent pc m (Action.output r e) = output pc m (lent .lines) r e
 effect lent pc m Action.goRoot = moveTo pc m root pc
 effect lent pc m Action.goParent = goTo pc m (up (m .cursor))
 effect lent pc m (Action.go d) = goTo pc m (some (to d (m .cursor)))
 effect lent pc m Action.goLeft = goTo pc m (leftOf (m .cursor))
 effect lent pc m Action.goLast = goToLast pc m
-effect lent pc m (Action.insert d mark e) = insertAt pc m (lent .places) (to d (m .cursor)) (up (to d (m .cursor))) mark e
+effect lent pc m (Action.insert d c l e) = insertAt pc m (lent .places) (to d (m .cursor)) (up (to d (m .cursor))) c l e
 effect lent pc m (Action.remove d) = removeAt pc m (to d (m .cursor))
 effect lent pc m (Action.write e) = write pc m e
-effect lent pc m Action.raise = moveTo pc m (m .cursor) secret
+effect lent pc m (Action.raise l) = moveTo pc m (m .cursor) (join (m .level) l)
 
 -- where the node at q stands after an action with the cursor at c
 unfoldable pub relocate : Action → Place → Place → Option Place
 relocate Action.skip c q = some q
 relocate (Action.assign i e) c q = some q
-relocate (Action.output e) c q = some q
+relocate (Action.output r e) c q = some q
 relocate Action.goRoot c q = some q
 relocate Action.goParent c q = some q
 relocate (Action.go d) c q = some q
 relocate Action.goLeft c q = some q
 relocate Action.goLast c q = some q
-relocate (Action.insert d mark e) c q = some (afterInsert (to d c) q)
+relocate (Action.insert d v l e) c q = some (afterInsert (to d c) q)
 relocate (Action.remove d) c q = afterRemove (to d c) q
 relocate (Action.write e) c q = some q
-relocate Action.raise c q = some q
+relocate (Action.raise l) c q = some q
 
 -- what is remembered, its place relocated
 unfoldable pub onSaved : (Place → Option Place) → Saved → Saved

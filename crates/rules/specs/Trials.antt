@@ -1,5 +1,5 @@
--- The paper's twelve trials, those of the if that comes back and those of left sibling and last child, as job bytes with what is to come of them.
--- `trials-hold`, `back-trials-hold` and `move-trials-hold`, in proofs/, say that the rules give it. Assumes nothing.
+-- The paper's twelve trials, those of the if that comes back, of left sibling and last child and of sets of parties, as job bytes with what is to come of them.
+-- `trials-hold`, `back-trials-hold`, `move-trials-hold` and `set-trials-hold`, in proofs/, say that the rules give it. Assumes nothing.
 use Prim.Native.Nat.{ℕ, _+_, _*_}
 use mathlib.Core.List.{List, [], _∷_, _++_, map, flatMap}
 use lib.ListN.{length}
@@ -7,7 +7,7 @@ use lib.IntN.{ℤ, pos, negsuc}
 use Rattle.rules.specs.Limits.{variableSize, nodeSize, recordSize, noParent}
 use Rattle.rules.specs.Level.{Level, public, secret}
 use Rattle.rules.specs.Tree.{Label, Forest, nil, tree}
-use Rattle.rules.specs.Run.{Buffers}
+use Rattle.rules.specs.Run.{Line, Buffers}
 use Rattle.rules.specs.Write.{four, variable, node, trailer}
 use Rattle.rules.specs.Outcome.{Outcome, rejected, ran, answer, boardLines, runJob}
 
@@ -32,10 +32,14 @@ value = record { kind = 2; number = pos 0 }
 unfoldable pub children : Field
 children = record { kind = 3; number = pos 0 }
 
+-- a script record by command, target, operator, the sets of bytes 5 and 6, and operands
+unfoldable pub setting : ℕ → ℕ → ℕ → Level → Level → Field → Field → List ℕ
+setting command target operator p q l r =
+    command ∷ target ∷ operator ∷ l .kind ∷ r .kind ∷ p ∷ q ∷ 0 ∷ (four (l .number) ++ four (r .number))
+
 -- a script record by command, target, operator and operands
 unfoldable pub both : ℕ → ℕ → ℕ → Field → Field → List ℕ
-both command target operator l r =
-    command ∷ target ∷ operator ∷ l .kind ∷ r .kind ∷ 0 ∷ 0 ∷ 0 ∷ (four (l .number) ++ four (r .number))
+both command target operator l r = setting command target operator public public l r
 
 -- a script record with one operand
 unfoldable pub one : ℕ → ℕ → Field → List ℕ
@@ -44,6 +48,10 @@ one command target l = both command target 0 l (number (pos 0))
 -- a script record that reads its command only
 unfoldable pub bare : ℕ → List ℕ
 bare command = one command 0 (number (pos 0))
+
+-- cover with a set
+unfoldable pub cover : Level → List ℕ
+cover p = setting 16 0 0 p public (number (pos 0)) (number (pos 0))
 
 -- the bytes of a job's three sections and its trailer
 unfoldable pub job : List (List ℕ) → List (List ℕ) → List (List ℕ) → List ℕ
@@ -77,24 +85,40 @@ pub record Shown : Type 0 where
   pub ending : ℕ
   pub index : ℕ
   pub steps : ℕ
-  pub lines : List ℤ
+  pub lines : List Line
   pub values : List ℤ
   pub tree : Forest
 
--- a finished run
-unfoldable pub finishes : ℕ → List ℤ → List ℤ → Forest → Shown
-finishes steps lines values t = record { ending = 0; index = 0; steps = steps; lines = lines; values = values; tree = t }
+-- a line for a reader set
+unfoldable pub lineFor : Level → ℤ → Line
+lineFor readers z = record { number = z; readers = readers }
 
--- a run that the number k stops at a record
+-- a run that the number k stops at a record, with public lines
 unfoldable pub stops : ℕ → ℕ → ℕ → List ℤ → List ℤ → Forest → Shown
-stops k index steps lines values t = record { ending = k; index = index; steps = steps; lines = lines; values = values; tree = t }
+stops k index steps lines values t =
+    record { ending = k; index = index; steps = steps; lines = map (lineFor public) lines; values = values; tree = t }
+
+-- a finished run with public lines
+unfoldable pub finishes : ℕ → List ℤ → List ℤ → Forest → Shown
+finishes steps lines values t = stops 0 0 steps lines values t
+
+-- a finished run over the usual variables
+unfoldable pub ends : ℕ → List Line → Forest → Shown
+ends steps lines t = record { ending = 0; index = 0; steps = steps; lines = lines; values = pos 0 ∷ pos 7 ∷ []; tree = t }
 
 -- what an outcome shows
 unfoldable pub shown : Outcome → Shown
 shown (rejected k i) = stops k i 0 [] [] nil
 shown (ran e) =
     let a = answer (ran e) in
-    stops (a .ending) (a .index) (a .steps) (boardLines (ran e)) (map (λ w. w .value) (e .last .memory .variables)) (e .last .memory .tree)
+    record {
+      ending = a .ending;
+      index = a .index;
+      steps = a .steps;
+      lines = boardLines (ran e);
+      values = map (λ w. w .value) (e .last .memory .variables);
+      tree = e .last .memory .tree;
+    }
 
 -- a label of three levels and a value
 unfoldable pub labelled : Level → Level → Level → ℤ → Label
@@ -230,4 +254,28 @@ moveTrials =
     ∷ trial (runJob (uncounted (bare 9 ∷ bare 10 ∷ bare 18 ∷ one 6 0 value ∷ [])) 100 (withPlaces 512))
     (finishes 4 (pos 3 ∷ []) (values (pos 0) (pos 0)) uncountedTree)
     ∷ trial (runJob (uncounted (bare 19 ∷ one 6 0 value ∷ [])) 100 (withPlaces 512)) (stops 21 1 1 [] (values (pos 0) (pos 0)) uncountedTree)
+    ∷ []
+
+-- sets of parties; variable 1 is the first party's, 7
+unfoldable pub setTrials : List Trial
+setTrials =
+    -- a line for the first party, for all eight, and for the second, which does not own it
+    trial (try (pos 7) (one 6 1 (v 1) ∷ one 6 255 (v 1) ∷ [])) (ends 2 (lineFor 1 (pos 7) ∷ lineFor 255 (pos 7) ∷ []) same)
+    ∷ trial (try (pos 7) (one 6 2 (v 1) ∷ [])) (stops 21 0 0 [] (values (pos 0) (pos 7)) same)
+    -- cover by two parties, then by none, which is the first
+    ∷ trial (try (pos 7) (cover 6 ∷ one 6 6 value ∷ one 6 0 (v 0) ∷ [])) (ends 3 (lineFor 6 (pos 10) ∷ lineFor 0 (pos 0) ∷ []) same)
+    ∷ trial (try (pos 7) (cover 6 ∷ cover 0 ∷ one 6 6 value ∷ [])) (stops 21 2 2 [] (values (pos 0) (pos 7)) same)
+    ∷ trial (try (pos 7) (cover 6 ∷ cover 0 ∷ one 6 7 value ∷ [])) (ends 3 (lineFor 7 (pos 10) ∷ []) same)
+    -- a new node's content joins byte 5, its list byte 6, and the mark joins 1 to both
+    ∷ trial (try (pos 7) (setting 11 0 0 4 8 (number (pos 5)) (number (pos 0)) ∷ []))
+    (ends 1 [] (over (tree (labelled 0 4 8 (pos 5)) nil (leaf (pos 3) nil))))
+    ∷ trial (try (pos 7) (bare 9 ∷ setting 12 3 0 4 8 (number (pos 5)) (number (pos 0)) ∷ []))
+    (ends 2 [] (over (leaf (pos 3) (tree (labelled 0 5 9 (pos 5)) nil nil))))
+    -- an existence that is neither above nor below: a node of the first party beside one of the second, under a parent whose list both may know
+    ∷ trial
+    (runJob (job (pair (pos 7)) (node noParent public public 3 (pos 10) ∷ node 0 2 2 2 (pos 3) ∷ []) (bare 16 ∷ one 11 0 (number (pos 5)) ∷ [])) 100 (withPlaces 512))
+    (stops 21 1 1 [] (values (pos 0) (pos 7)) (tree (labelled 0 0 3 (pos 10)) (tree (labelled 2 2 2 (pos 3)) nil nil) nil))
+    -- the rule of siblings, in the checks: the same two nodes in a job
+    ∷ trial (runJob (job (pair (pos 7)) (node noParent public public 3 (pos 10) ∷ node 0 1 1 1 (pos 3) ∷ node 0 2 2 2 (pos 4) ∷ []) []) 100 (withPlaces 512))
+    (stops 6 2 0 [] [] nil)
     ∷ []
