@@ -12,7 +12,7 @@ use Rattle.rules.specs.Check as Check
 use Rattle.rules.specs.Check.{code, lengthRule, offsetRule, countRule, recordRule}
 use Rattle.rules.specs.Blocks.{nest, blockRule}
 use Rattle.rules.specs.Script.{numberAt}
-use Rattle.rules.specs.Job.{scriptOf, script}
+use Rattle.rules.specs.Job.{scriptOf, script, scriptBy}
 use Rattle.rules.proofs.Nests.{nest-tail}
 use Rattle.rules.proofs.SameNumbers.{nest-agree}
 use Rattle.rules.proofs.Checks.{long-enough, sections, counts}
@@ -71,7 +71,7 @@ section-plan b vars base n records blocks p p′ w =
 
 -- that of an accepted job
 pub script-plan : (b p p′ : List ℕ) → Right b → Whole (code b (scriptAt b)) (recordCount b) p p′ → Whole (numberAt (script b)) (recordCount b) p p′
-unfolding script
+unfolding scriptBy
 script-plan b p p′ r w = section-plan b (variableCount b) (scriptAt b) (recordCount b) (r .records) (r .blocks) p p′ w
 
 pub is-sound : (c : Check.Checked) → told c ≡ Sound → c ≡ Check.accepted

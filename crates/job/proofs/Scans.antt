@@ -5,12 +5,16 @@ use mathlib.Core.Bool.{Bool, true, false, _&&_}
 use mathlib.Core.List.{List}
 use Prim.Native.Nat.{ℕ, _≤_, _<_}
 use native.Mathlib.Omega.{arith}
-use lib.Dec.{ltb}
-use borrow.Author.Tests.{lt-ltb, le-ltb, ltb-true, ltb-false}
+use lib.Dec.{leb, ltb}
+use borrow.Author.Tests.{lt-ltb, le-ltb, ltb-true, ltb-false, leb-true, le-leb}
 use Rattle.rules.specs.Limits.{commandCount, badNode, badOrder}
-use Rattle.rules.specs.Bytes.{byte, recordPlace}
-use Rattle.rules.specs.Check.{Checked, refused, Edition, firstFault, requireEach, requireIf, first, unordered, ordered, today, orderRule, nodeRule, recordRule, recordRuleIn, nodeClean, recordClean}
-use Rattle.rules.proofs.Tests.{Test, holds, fails, test, both, clash}
+use Rattle.rules.specs.Level.{isLevel}
+use Rattle.rules.specs.Bytes.{byte, variablePlace, recordPlace}
+use Rattle.rules.specs.Check.{Checked, refused, Edition, firstFault, requireEach, requireIf, first, unordered, ordered, today, orderRule, variableRule, existence, content, structure, labelRule, nodeRule, houseRule, variableRuleIn, nodeRuleIn, recordRule, recordRuleIn}
+use Rattle.rules.specs.Check.{variableClean, nodeClean, recordClean}
+use Rattle.rules.proofs.Tests.{Test, holds, fails, test, both, joined, clash}
+use Rattle.rules.proofs.Lattice.{byte-level, level-byte}
+use Rattle.rules.proofs.Ranges.{all-three}
 use Rattle.rules.proofs.Search.{fault-agree, all-pass, none-faulty}
 use Rattle.rules.proofs.Checks.{stopped, through}
 use Rattle.job.specs.declared.checks.Edition as Named
@@ -18,9 +22,9 @@ use Rattle.job.specs.declared.checks.Edition.the-variants.{First, Unorde
 use Rattle.job.specs.declared.checks.Scan.{Scan}
 use Rattle.job.specs.declared.checks.Scan.the-variants.{Faulty, Passed}
 use Rattle.job.specs.Fields.{knownRule}
-use Rattle.job.specs.Fits.{recordFits}
+use Rattle.job.specs.Fits.{variableIn, labelIn, nodeIn, recordFits}
 use Rattle.job.specs.Hanging.{AllFit}
-use Rattle.job.specs.Answer.{editionOf, recordRules, asked, scanOf, scanned}
+use Rattle.job.specs.Answer.{editionOf, highestOf, recordRules, asked, scanOf, scanned}
 
 module _ (rules : Edition) (right clean : ℕ → Bool) (n : ℕ) where
   -- right and clean
@@ -91,6 +95,70 @@ module _ (number : ℕ) (on : Bool) (good : ℕ → Bool) (n : ℕ) (c : Checked
       by (holds t) = rw t (through number good n c (rw t at e) h)
       by (fails t) = rw t
 
+-- tests that hold together are one
+pub same-tests : (x y : Bool) → (x ≡ true → y ≡ true) → (y ≡ true → x ≡ true) → x ≡ y
+same-tests true y f g = sym (f refl)
+same-tests false true f g = g refl
+same-tests false false f g = refl
+
+-- a level is no higher than the highest
+
+low-level : (n : ℕ) → leb n 1 ≡ true → isLevel n ≡ true
+low-level n h = byte-level n (omega (arith, leb-true n 1 h))
+
+top-level : (n : ℕ) → leb n 255 ≡ isLevel n
+top-level n =
+    same-tests (leb n 255) (isLevel n) (λ h. byte-level n (omega (arith, leb-true n 255 h))) (λ h. le-leb n 255 (omega (arith, level-byte n h)))
+
+variable-top : (rules : Edition) (b : List ℕ) (i : ℕ) → variableIn (highestOf rules) b i ≡ variableRuleIn rules b i
+unfolding variableIn highestOf variableRuleIn variableRule
+variable-top rules b i = by (test (rules .sets))
+  where
+    by : Test (rules .sets) → variableIn (highestOf rules) b i ≡ variableRuleIn rules b i
+    by (holds t) = rw t (top-level (byte b (variablePlace i)))
+    by (fails t) =
+        rw t
+        (same-tests (leb (byte b (variablePlace i)) 1) (leb (byte b (variablePlace i)) 1 && isLevel (byte b (variablePlace i)))
+        (λ h. joined h (low-level (byte b (variablePlace i)) h)) (λ h. both (leb (byte b (variablePlace i)) 1) (isLevel (byte b (variablePlace i))) h .0))
+
+-- five tests, and three of them again
+with-levels : (e c s : ℕ) (x y z : Bool)
+    → ((leb e 1 && leb c 1 && leb s 1 && x && y) && z)
+    ≡ ((leb e 1 && leb c 1 && leb s 1) && ((isLevel e && isLevel c && isLevel s && x && y) && z))
+with-levels e c s x y z =
+    same-tests _ _
+    (λ h.
+    let p = both (leb e 1 && leb c 1 && leb s 1 && x && y) z h in
+    let q = both (leb e 1 && leb c 1 && leb s 1 && x) y (p .0) in
+    let r = both (leb e 1 && leb c 1 && leb s 1) x (q .0) in
+    let t = all-three (leb e 1) (leb c 1) (leb s 1) (r .0) in
+    joined (r .0)
+    (joined (joined (joined (joined (joined (low-level e (t .0)) (low-level c (t .1))) (low-level s (t .2))) (r .1)) (q .1)) (p .1)))
+    (λ h.
+    let p = both (leb e 1 && leb c 1 && leb s 1) ((isLevel e && isLevel c && isLevel s && x && y) && z) h in
+    let q = both (isLevel e && isLevel c && isLevel s && x && y) z (p .1) in
+    let r = both (isLevel e && isLevel c && isLevel s && x) y (q .0) in
+    let t = both (isLevel e && isLevel c && isLevel s) x (r .0) in joined (joined (joined (p .0) (t .1)) (r .1)) (q .1))
+
+node-top : (rules : Edition) (b : List ℕ) (base i : ℕ) → nodeIn (highestOf rules) b base i ≡ nodeRuleIn rules b base i
+unfolding nodeIn labelIn highestOf nodeRuleIn nodeRule houseRule labelRule
+node-top rules b base i = by (test (rules .sets))
+  where
+    by : Test (rules .sets) → nodeIn (highestOf rules) b base i ≡ nodeRuleIn rules b base i
+    by (holds t) = rw (t, top-level (existence b base i), top-level (content b base i), top-level (structure b base i))
+    by (fails t) = rw t (with-levels (existence b base i) (content b base i) (structure b base i) _ _ _)
+
+-- the searches of variables, nodes and records, as the rules have them
+module _ (rules : Edition) (b : List ℕ) (n : ℕ) {top : ℕ} (e : top ≡ highestOf rules) where
+  pub variables-right : firstFault (variableIn top b) n 0 ≡ firstFault (variableRuleIn rules b) n 0
+  variables-right = fault-agree _ _ n 0 (λ i l m. rw e (variable-top rules b i))
+
+  pub variables-fit : firstFault (λ i. variableIn top b i && variableClean b i) n 0 ≡ firstFault (fit rules (variableRuleIn rules b) (variableClean b) n) n 0
+  variables-fit = fault-agree _ _ n 0 (λ i l m. rw (e, variable-top rules b i))
+
+  pub nodes-right : (base : ℕ) → firstFault (nodeIn top b base) n 0 ≡ firstFault (nodeRuleIn rules b base) n 0
+  nodes-right base = fault-agree _ _ n 0 (λ i l m. rw e (node-top rules b base i))
+
 -- an edition that has check 12 has the commands of the table
 twice : (a c : Bool) → (a && (a && c)) ≡ (a && c)
 twice true c = refl
@@ -108,22 +176,24 @@ module _ (rules : Named.Edition) (b : List ℕ) (vars base n : ℕ) where
   unfolding knownRule recordRuleIn
   records-right e = rw e
 
-  pub records-fit : editionOf rules .spare ≡ true → firstFault (λ i. recordFits b vars (recordPlace base i)) n 0
-      ≡ firstFault (fit (editionOf rules) (recordRules (editionOf rules) b vars base) (recordClean b base) n) n 0
+  pub records-fit : {sets : Bool} → sets ≡ editionOf rules .sets → editionOf rules .spare ≡ true
+      → firstFault (λ i. recordFits sets b vars (recordPlace base i)) n 0
+      ≡ firstFault (fit (editionOf rules) (recordRules (editionOf rules) b vars base) (recordClean (editionOf rules .sets) b base) n) n 0
   unfolding recordFits recordClean
-  records-fit s = fault-agree _ _ n 0 (λ i l m. rw (all-known rules b vars (recordPlace base i) s))
+  records-fit e s = fault-agree _ _ n 0 (λ i l m. rw (e, all-known rules b vars (recordPlace base i) s))
 
--- where all n nodes pass 13, 6 and 12, no edition finds a fault in them
-module _ (b : List ℕ) (base n : ℕ) (f : AllFit b base n) where
+-- where all n nodes pass 13, 6 and 12, an edition finds no fault in them
+module _ (rules : Edition) (b : List ℕ) (base n : ℕ) (f : AllFit (highestOf rules) b base n) where
   none-asked : (on : Bool) (good : ℕ → Bool) → ((i : ℕ) → i < n → good i ≡ true) → n ≡ asked on good n
   unfolding asked
   none-asked true good h = sym (none-faulty good n h)
   none-asked false good h = refl
 
-  pub fit-clean : (on : Bool) → n ≡ asked on (nodeClean b base) n
-  fit-clean on = none-asked on (nodeClean b base) (λ i h. f .each i h .clean)
+  pub fit-clean : n ≡ asked (rules .spare) (nodeClean b base) n
+  fit-clean = none-asked (rules .spare) (nodeClean b base) (λ i h. f .each i h .clean)
 
-  pub fit-through : (on : Bool) (c : Checked) → requireIf on badOrder (orderRule b base) n (requireEach badNode (nodeRule b base) n c) ≡ c
-  fit-through on c =
-      asked-through badOrder on (orderRule b base) n _ (none-asked on (orderRule b base) (λ i h. f .each i h .order)) (omega arith)
-      ∙ through badNode (nodeRule b base) n c (sym (none-faulty (nodeRule b base) n (λ i h. f .each i h .node))) (omega arith)
+  pub fit-through : (c : Checked) → requireIf (rules .order) badOrder (orderRule b base) n (requireEach badNode (nodeRuleIn rules b base) n c) ≡ c
+  fit-through c =
+      asked-through badOrder (rules .order) (orderRule b base) n _ (none-asked (rules .order) (orderRule b base) (λ i h. f .each i h .order)) (omega arith)
+      ∙ through badNode (nodeRuleIn rules b base) n c
+      (sym (none-faulty (nodeRuleIn rules b base) n (λ i h. sym (node-top rules b base i) ∙ f .each i h .node))) (omega arith)

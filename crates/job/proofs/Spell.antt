@@ -4,18 +4,18 @@ use mathlib.Core.List.{List}
 use Prim.Native.Nat.{ℕ, _<_}
 use lib.ListN.{getD}
 use Rattle.rules.specs.Bytes.{scriptAt, recordCount, recordPlace}
-use Rattle.rules.specs.Script.{act, Action, commands, fetch}
-use Rattle.rules.specs.Job.{script, commandOf, expressionOf}
+use Rattle.rules.specs.Script.{act, Action, fetch}
+use Rattle.rules.specs.Job.{script, setAt, commandBy, expressionOf}
 use Rattle.rules.proofs.Decode.{spelled}
 use Rattle.job.specs.declared.records.Fields.{Fields}
-use Rattle.job.specs.Fields.{fieldsOf, expressionFrom, commandFrom}
+use Rattle.job.specs.Fields.{fieldsOf, expressionFrom, commandsFrom, commandFrom}
 
 -- what `fields_at` hands back
 pub spells : (b : List ℕ) (i : ℕ) (r : Fields) → i < recordCount b → r ≡ fieldsOf b (recordPlace (scriptAt b) i) → fetch (script b) i ≡ commandFrom r
-unfolding commandFrom expressionFrom fieldsOf commandOf expressionOf
+unfolding commandFrom commandsFrom expressionFrom fieldsOf commandBy setAt expressionOf
 spells b i r h e = spelled b i h ∙ sym (ap commandFrom e)
 
 -- in the arm of a command's number
-pub in-arm : (r : Fields) (k : ℕ) → r .command ≡ k → commandFrom r ≡ getD (commands (r .target) (expressionFrom r)) k (act Action.skip)
+pub in-arm : (r : Fields) (k : ℕ) → r .command ≡ k → commandFrom r ≡ getD (commandsFrom r) k (act Action.skip)
 unfolding commandFrom
-in-arm r k e = ap (λ (n : ℕ). getD (commands (r .target) (expressionFrom r)) n (act Action.skip)) e
+in-arm r k e = ap (λ (n : ℕ). getD (commandsFrom r) n (act Action.skip)) e

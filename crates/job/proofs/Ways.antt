@@ -10,11 +10,12 @@ use native.Mathlib.Decide.{ℕ-discrete}
 use lib.Dec.{eqb}
 use borrow.Author.Tests.{eq-eqb, ne-eqb}
 use Rattle.rules.specs.Level.{public, notAbove}
-use Rattle.rules.specs.Check.{parent, existence, parentRule, labelRule, nearest, childRule, nodeRule, orderRule}
+use Rattle.rules.specs.Check.{parent, existence, parentRule, nearest, childRule, orderRule}
 use Rattle.rules.proofs.Accepted.{parent-before}
 use Rattle.rules.proofs.Ordered.{Up, here, above, up-up, up-path, path-is-up}
+use Rattle.job.specs.Fits.{labelIn, nodeIn}
 use Rattle.job.specs.Siblings.{Rooted, ownRule}
-use Rattle.job.specs.Hanging.{Fit, AllFit}
+use Rattle.job.specs.Hanging.{Ordered, Fit, AllFit}
 use Rattle.job.proofs.Siblings.{none-before, near-here, near-past}
 
 module _ (b : List ℕ) (base : ℕ) where
@@ -62,8 +63,8 @@ module _ (b : List ℕ) (base : ℕ) where
       ap (nearest b base p) {x = suc w + suc d} {y = suc (suc w + d)} (omega arith)
       ∙ near-past b base p (suc w + d) (h (suc w + d) (omega arith) (omega arith)) ∙ back-to w p d e (λ k l m. h k l (omega arith))
 
--- node i, where those before it pass
-module _ (b : List ℕ) (base i : ℕ) (n : i ≡ 0 → ⊥) (r : Rooted b base i) (f : AllFit b base i) where
+-- node i, where those before it are in order
+module _ (b : List ℕ) (base i : ℕ) (n : i ≡ 0 → ⊥) (r : Rooted b base i) (f : Ordered b base i) where
   before : (k : ℕ) → k < i → parentRule b base k ≡ true
   before k l = r .parents k (omega arith)
 
@@ -77,16 +78,16 @@ module _ (b : List ℕ) (base i : ℕ) (n : i ≡ 0 → ⊥) (r : Rooted b base 
   on-left k w e l m =
       ap (nearest b base (parent b base i)) {x = i} {y = suc k + (i - suc k)} (omega arith)
       ∙ back-to b base k (parent b base i) (i - suc k) e
-      (λ x g h q. let z = between b base i before (λ y s. f .each y s .order) (omega arith) (w .way) x g (omega arith) in omega arith)
+      (λ x g h q. let z = between b base i before (f .each) (omega arith) (w .way) x g (omega arith) in omega arith)
 
   -- the first child of the record before it has none
   pub on-first : suc (parent b base i) ≡ i → nearest b base (parent b base i) i ≡ none
   on-first e = none-before b base (parent b base i) (omega (arith, r .few)) i (omega arith) before
 
-pub fit-next : (b : List ℕ) (base i : ℕ) → AllFit b base i → Fit b base i → AllFit b base (suc i)
-fit-next b base i f g = record { each = λ k l. pick k l (ℕ-discrete k i) }
+pub fit-next : (top : ℕ) (b : List ℕ) (base i : ℕ) → AllFit top b base i → Fit top b base i → AllFit top b base (suc i)
+fit-next top b base i f g = record { each = λ k l. pick k l (ℕ-discrete k i) }
   where
-    pick : (k : ℕ) → k < suc i → Dec (k ≡ i) → Fit b base k
+    pick : (k : ℕ) → k < suc i → Dec (k ≡ i) → Fit top b base k
     pick k l (yes e) = rw e g
     pick k l (no e) = f .each k (omega arith)
 
@@ -97,6 +98,6 @@ parts true true true c = refl
 parts true true false c = refl
 parts true false r c = refl
 
-pub rule-parts : (b : List ℕ) (base i : ℕ) → nodeRule b base i ≡ (ownRule b base i && cond (eqb i 0) true (childRule b base i))
-unfolding nodeRule ownRule
-rule-parts b base i = parts (labelRule b base i) (eqb i 0) (notAbove (existence b base i) public) (childRule b base i)
+pub rule-parts : (top : ℕ) (b : List ℕ) (base i : ℕ) → nodeIn top b base i ≡ (ownRule top b base i && cond (eqb i 0) true (childRule b base i))
+unfolding nodeIn ownRule
+rule-parts top b base i = parts (labelIn top b base i) (eqb i 0) (notAbove (existence b base i) public) (childRule b base i)

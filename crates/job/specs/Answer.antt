@@ -9,7 +9,7 @@ use Rattle.rules.specs.Limits.{maxRecords, badVariable, badParent, badNode, bad
 use Rattle.rules.specs.Bytes.{scriptAt, recordCount, recordPlace}
 use Rattle.rules.specs.Blocks.{blockRule}
 use Rattle.rules.specs.Check as Check
-use Rattle.rules.specs.Check.{variableRule, parentRule, orderRule, nodeRule, recordRuleIn, variableClean, nodeClean, recordClean, code, firstFault, requireEach, requireIf, first, unordered, today}
+use Rattle.rules.specs.Check.{variableRuleIn, parentRule, orderRule, nodeRuleIn, recordRuleIn, variableClean, nodeClean, recordClean, code, firstFault, requireEach, requireIf, first, unordered, today}
 use Rattle.rules.specs.Check.{checkScript, checkRecords, checkBytesBy}
 use Rattle.job.specs.declared.sections.Layout.{Layout}
 use Rattle.job.specs.declared.checks.Checked.{Checked}
@@ -22,6 +22,7 @@ use Rattle.job.specs.declared.checks.Scan.{Scan}
 use Rattle.job.specs.declared.checks.Scan.the-variants as Scan
 use Rattle.job.specs.declared.checks.Unclean.{Unclean}
 use Rattle.job.specs.Layout.{layoutOf, Inside}
+use Rattle.job.specs.Fits.{variableIn}
 use Rattle.job.specs.Plan.{Plans}
 
 -- an edition by the program's name for it
@@ -35,11 +36,15 @@ unfoldable pub answer : Layout → Check.Checked → Checked
 answer l Check.accepted = Accepted l
 answer l (Check.refused k i) = Refused k i
 
--- by number, for record i of its section: the rule of 4, of 12 with 4 for a variable, of 13, or of 5
-unfoldable pub ruleOf : List ℕ → Layout → ℕ → ℕ → Bool
-ruleOf b l k i =
-    cond (eqb k badVariable) (variableRule b i)
-    (cond (eqb k badSpare) (variableRule b i && variableClean b i) (cond (eqb k badOrder) (orderRule b (l .tree) i) (parentRule b (l .tree) i)))
+-- the highest level of an edition: all eight parties, or before R-12 the house
+unfoldable pub highestOf : Check.Edition → ℕ
+highestOf rules = cond (rules .sets) 255 1
+
+-- by number, for record i of its section: the rule of 4, where top is the highest level, of 12 with 4 for a variable, of 13, or of 5
+unfoldable pub ruleOf : List ℕ → Layout → ℕ → ℕ → ℕ → Bool
+ruleOf b l top k i =
+    cond (eqb k badVariable) (variableIn top b i)
+    (cond (eqb k badSpare) (variableIn top b i && variableClean b i) (cond (eqb k badOrder) (orderRule b (l .tree) i) (parentRule b (l .tree) i)))
 
 -- how many records that section holds
 unfoldable pub countOf : Layout → ℕ → ℕ
@@ -79,7 +84,7 @@ uncleanOf rules b l =
     record {
       variables = asked (rules .spare) (variableClean b) (l .variables);
       nodes = asked (rules .spare) (nodeClean b (l .tree)) (l .nodes);
-      records = asked (rules .spare) (recordClean b (l .script)) (l .records);
+      records = asked (rules .spare) (recordClean (rules .sets) b (l .script)) (l .records);
     }
 
 -- what is not clean in front of the script
@@ -109,7 +114,7 @@ module _ (b : List ℕ) (l : Layout) where
     fromSpare =
         requireIf (rules .spare) badSpare (variableClean b) (l .variables)
         (requireIf (rules .spare) badSpare (nodeClean b (l .tree)) (l .nodes)
-        (requireIf (rules .spare) badSpare (recordClean b (l .script)) (l .records) fromBlocks))
+        (requireIf (rules .spare) badSpare (recordClean (rules .sets) b (l .script)) (l .records) fromBlocks))
 
     -- from 7 on, where vs variables stand
     abbrev pub fromScript : ℕ → Check.Checked
@@ -120,7 +125,7 @@ module _ (b : List ℕ) (l : Layout) where
     fromNodes =
         requireEach badParent (parentRule b (l .tree)) (l .nodes)
         (requireIf (rules .order) badOrder (orderRule b (l .tree)) (l .nodes)
-        (requireEach badNode (nodeRule b (l .tree)) (l .nodes) (fromScript (l .variables))))
+        (requireEach badNode (nodeRuleIn rules b (l .tree)) (l .nodes) (fromScript (l .variables))))
 
     -- from 4 on
     abbrev pub fromVariables : Check.Checked

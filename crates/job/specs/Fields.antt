@@ -1,5 +1,5 @@
 -- Numbers of three and eight bytes; what a node's levels, the table's rows and a script record's fields stand for. Assumes nothing.
-use Prim.Native.Nat.{ℕ, _+_, _*_}
+use Prim.Native.Nat.{ℕ, _+_, _*_, _%_}
 use mathlib.Core.List.{List}
 use mathlib.Core.Bool.{Bool, _&&_}
 use lib.Dec.{ltb}
@@ -30,7 +30,20 @@ knownRule commands b vars at = ltb (byte b at) commands && recordRule b vars at
 
 -- a row of the rules as the program holds it
 unfoldable pub rowHeld : Script.Row → Row
-rowHeld r = record { target = r .target; mark = r .mark; expression = r .expression }
+rowHeld r =
+    record { target = r .target; mark = r .mark; expression = r .expression; readers = r .readers; fifth = r .fifth; sixth = r .sixth }
+
+-- a row of the rules as the program uses it, where records hold sets or do not
+unfoldable pub rowUsed : Bool → Script.Row → Row
+rowUsed sets r =
+    record {
+      target = r .target;
+      mark = r .mark;
+      expression = r .expression;
+      readers = sets && r .readers;
+      fifth = sets && r .fifth;
+      sixth = sets && r .sixth;
+    }
 
 -- the fields of the record at a place
 unfoldable pub fieldsOf : List ℕ → ℕ → Fields
@@ -41,6 +54,8 @@ fieldsOf b at =
       operator = byte b (at + 2);
       leftkind = byte b (at + 3);
       rightkind = byte b (at + 4);
+      fifth = byte b (at + 5);
+      sixth = byte b (at + 6);
       left = full b (at + 8);
       right = full b (at + 12);
     }
@@ -49,7 +64,10 @@ fieldsOf b at =
 unfoldable pub expressionFrom : Fields → Script.Expression
 expressionFrom r = expression (r .operator) (operand (r .leftkind) (r .left)) (operand (r .rightkind) (r .right))
 
+-- the commands that fields spell, by number; a set has eight parties
+unfoldable pub commandsFrom : Fields → List Script.Command
+commandsFrom r = Script.commands (r .target) (r .target % 256) (r .fifth % 256) (r .sixth % 256) (expressionFrom r)
+
 -- the command that fields spell
 unfoldable pub commandFrom : Fields → Script.Command
-commandFrom r =
-    getD (Script.commands (r .target) (expressionFrom r)) (r .command) (Script.act Script.Action.skip)
+commandFrom r = getD (commandsFrom r) (r .command) (Script.act Script.Action.skip)

@@ -9,9 +9,10 @@ use lib.ListN.{length, getD}
 use Rattle.rules.specs.Limits.{maxNodes, nodeSize}
 use Rattle.rules.specs.Level.{public, notAbove}
 use Rattle.rules.specs.Bytes.{nodePlace}
-use Rattle.rules.specs.Check.{parent, existence, parentRule, labelRule, nearest}
+use Rattle.rules.specs.Check.{parent, existence, parentRule, nearest}
 use Rattle.job.specs.declared.nodes.Found.{Found}
 use Rattle.job.specs.declared.nodes.Found.the-variants.{At, Nothing}
+use Rattle.job.specs.Fits.{labelIn}
 
 -- n nodes lie within the bytes, and their parents are right
 pub record Linked (b : List ℕ) (base n : ℕ) : Type 0 where
@@ -39,9 +40,9 @@ pub record Lasts (b : List ℕ) (base i : ℕ) (xs : List ℕ) : Type 0 where
 unfoldable pub behind : ℕ → ℕ → ℕ
 behind last p = cond (ltb last p) (suc p) (suc last)
 
--- what check 6 asks of node i alone
-unfoldable pub ownRule : List ℕ → ℕ → ℕ → Bool
-ownRule b base i = labelRule b base i && cond (eqb i 0) (notAbove (existence b base i) public) true
+-- what check 6 asks of node i alone, where top is the highest level
+unfoldable pub ownRule : ℕ → List ℕ → ℕ → ℕ → Bool
+ownRule top b base i = labelIn top b base i && cond (eqb i 0) (notAbove (existence b base i) public) true
 
 -- what the search comes to
 unfoldable pub leftOf : Found → Option ℕ

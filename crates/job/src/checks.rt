@@ -15,6 +15,8 @@ use crate::sections::offsets_ok;
 use crate::spare;
 use crate::variables::variable_fits;
 use crate::variables::variable_ok;
+use rules::levels::ALL;
+use rules::levels::SECRET;
 use rules::limits::BAD_BLOCK;
 use rules::limits::BAD_COUNT;
 use rules::limits::BAD_LENGTH;
@@ -31,10 +33,10 @@ ghost use Prim.Native.Nat.{_≤_, _<_};
 ghost use lib.ListN.{length};
 ghost use Rattle.rules.specs.Limits.{commandCount, maxRecords};
 ghost use Rattle.rules.specs.Bytes.{recordPlace};
-ghost use Rattle.rules.specs.Check.{variableRule, orderRule, nodeRule, variableClean, nodeClean, recordClean, firstFault, today, checkBytesBy, checkBytes};
+ghost use Rattle.rules.specs.Check.{variableRuleIn, orderRule, nodeRuleIn, variableClean, nodeClean, recordClean, firstFault, today, checkBytesBy, checkBytes};
 ghost use Rattle.job.specs.Layout.{layoutOf, Inside};
 ghost use Rattle.job.specs.Siblings.{Linked};
-ghost use Rattle.job.specs.Answer.{answer, editionOf, ruleOf, recordRules, asked, scanOf, scanned, uncleanOf, Passable, Scannable, Fitted, Fronted, fromBlocks, fromSpare, fromScript, fromNodes, fromVariables, ScriptTold, JobTold, Prepared};
+ghost use Rattle.job.specs.Answer.{answer, editionOf, highestOf, ruleOf, recordRules, asked, scanOf, scanned, uncleanOf, Passable, Scannable, Fitted, Fronted, fromBlocks, fromSpare, fromScript, fromNodes, fromVariables, ScriptTold, JobTold, Prepared};
 
 // An accepted job with its layout, or the number that turns a job back, with the index of the first faulty record.
 pub enum Checked {
@@ -71,6 +73,28 @@ fn has_order(rules: Edition) -> bool
     }
 }
 
+// Whether their script records hold sets.
+fn has_sets(rules: Edition) -> bool
+    ensures { λ r. ⌜ r ≡ editionOf rules .sets ⌝ }
+{
+    match rules {
+        Edition::First => false,
+        Edition::Unordered => false,
+        Edition::Today => true,
+    }
+}
+
+// Their highest level.
+fn highest(rules: Edition) -> u8
+    ensures { λ r. ⌜ r ≡ highestOf (editionOf rules) ⌝ }
+{
+    match rules {
+        Edition::First => SECRET,
+        Edition::Unordered => SECRET,
+        Edition::Today => ALL,
+    }
+}
+
 // How many commands they have.
 fn commands(rules: Edition) -> usize
     ensures { λ r. ⌜ (r ≡ editionOf rules .commands) × (r ≤ commandCount) ⌝ }
@@ -82,27 +106,27 @@ fn commands(rules: Edition) -> usize
     }
 }
 
-// By number, of record i of its section: the checks 4, 5 and 13, and 12 with 4 of a variable.
-fn passes(job: &[u8], l: Layout, number: u8, i: usize) -> bool
+// By number, of record i of its section: the checks 4, where `top` is the highest level, 5 and 13, and 12 with 4 of a variable.
+fn passes(job: &[u8], l: Layout, top: u8, number: u8, i: usize) -> bool
     requires { ⌜ Passable (now job) l number i ⌝ }
-    ensures { λ r. ⌜ r ≡ ruleOf (now (job .entry)) l number i ⌝ }
+    ensures { λ r. ⌜ r ≡ ruleOf (now (job .entry)) l top number i ⌝ }
 {
     match number {
-        BAD_VARIABLE => variable_ok(job, i),
-        BAD_SPARE => variable_fits(job, i),
+        BAD_VARIABLE => variable_ok(job, i, top),
+        BAD_SPARE => variable_fits(job, i, top),
         BAD_ORDER => order_ok(job, l.tree, i),
         _ => parent_ok(job, l.tree, i),
     }
 }
 
 // The first record of its section that fails the check of a number, or the count.
-fn first_fault(job: &[u8], l: Layout, number: u8, count: usize) -> usize
+fn first_fault(job: &[u8], l: Layout, top: u8, number: u8, count: usize) -> usize
     requires { ⌜ Scannable (now job) l number count ⌝ }
-    ensures { λ r. ⌜ r ≡ firstFault (ruleOf (now (job .entry)) l number) count 0 ⌝ }
+    ensures { λ r. ⌜ r ≡ firstFault (ruleOf (now (job .entry)) l top number) count 0 ⌝ }
 {
     let mut i = 0;
     while i < count {
-        if !passes(job, l, number, i) {
+        if !passes(job, l, top, number, i) {
             return i;
         }
         i += 1;
@@ -130,17 +154,18 @@ fn scan_of(fault: usize, unclean: usize, count: usize) -> Scan
 // The checks 4 and 12, of the variables.
 fn scan_variables(job: &[u8], l: Layout, rules: Edition) -> Scan
     requires { ⌜ Inside (now job) l ⌝ }
-    ensures { λ r. ⌜ r ≡ scanned (editionOf rules) (variableRule (now (job .entry))) (variableClean (now (job .entry))) (l .variables) ⌝ }
+    ensures { λ r. ⌜ r ≡ scanned (editionOf rules) (variableRuleIn (editionOf rules) (now (job .entry))) (variableClean (now (job .entry))) (l .variables) ⌝ }
 {
     let count = l.variables;
+    let top = highest(rules);
     if !has_spare(rules) {
-        return scan_of(first_fault(job, l, BAD_VARIABLE, count), count, count);
+        return scan_of(first_fault(job, l, top, BAD_VARIABLE, count), count, count);
     }
-    let unfit = first_fault(job, l, BAD_SPARE, count);
+    let unfit = first_fault(job, l, top, BAD_SPARE, count);
     if unfit == count {
         return Scan::Passed(count);
     }
-    scan_of(first_fault(job, l, BAD_VARIABLE, count), unfit, count)
+    scan_of(first_fault(job, l, top, BAD_VARIABLE, count), unfit, count)
 }
 
 // Check 13, where it is asked for: the first node that fails it, or the count.
@@ -149,7 +174,7 @@ fn first_unordered(job: &[u8], l: Layout, rules: Edition) -> usize
     ensures { λ r. ⌜ r ≡ asked (editionOf rules .order) (orderRule (now (job .entry)) (l .tree)) (l .nodes) ⌝ }
 {
     if has_order(rules) {
-        return first_fault(job, l, BAD_ORDER, l.nodes);
+        return first_fault(job, l, ALL, BAD_ORDER, l.nodes);
     }
     l.nodes
 }
@@ -157,9 +182,10 @@ fn first_unordered(job: &[u8], l: Layout, rules: Edition) -> usize
 // The checks 6 and 12, of the nodes.
 fn scan_nodes(job: &[u8], l: Layout, rules: Edition) -> Scan
     requires { ⌜ Linked (now job) (l .tree) (l .nodes) ⌝ }
-    ensures { λ r. ⌜ r ≡ scanned (editionOf rules) (nodeRule (now (job .entry)) (l .tree)) (nodeClean (now (job .entry)) (l .tree)) (l .nodes) ⌝ }
+    ensures { λ r. ⌜ r ≡ scanned (editionOf rules) (nodeRuleIn (editionOf rules) (now (job .entry)) (l .tree)) (nodeClean (now (job .entry)) (l .tree)) (l .nodes) ⌝ }
 {
-    let fault = nodes::first_fault(job, l.tree, l.nodes);
+    let top = highest(rules);
+    let fault = nodes::first_fault(job, l.tree, l.nodes, top);
     if fault < l.nodes {
         return Scan::Faulty(fault);
     }
@@ -172,7 +198,7 @@ fn scan_nodes(job: &[u8], l: Layout, rules: Edition) -> Scan
 // The checks 7 and 12, of the script.
 fn scan_records(bytes: &[u8], l: Layout, variables: usize, rules: Edition) -> Scan
     requires { ⌜ recordPlace (l .script) (l .records) ≤ length (now bytes) ⌝ }
-    ensures { λ r. ⌜ r ≡ scanned (editionOf rules) (recordRules (editionOf rules) (now (bytes .entry)) variables (l .script)) (recordClean (now (bytes .entry)) (l .script)) (l .records) ⌝ }
+    ensures { λ r. ⌜ r ≡ scanned (editionOf rules) (recordRules (editionOf rules) (now (bytes .entry)) variables (l .script)) (recordClean (editionOf rules .sets) (now (bytes .entry)) (l .script)) (l .records) ⌝ }
 {
     let count = l.records;
     if !has_spare(rules) {
@@ -182,7 +208,7 @@ fn scan_records(bytes: &[u8], l: Layout, variables: usize, rules: Edition) -> Sc
             count,
         );
     }
-    let unfit = spare::first_unfit(bytes, l.script, count, variables);
+    let unfit = spare::first_unfit(bytes, l.script, count, variables, has_sets(rules));
     if unfit == count {
         return Scan::Passed(count);
     }
@@ -310,15 +336,15 @@ fn check_nodes(job: &[u8], l: Layout, variable: usize, rules: Edition, plan: &mu
     requires { ⌜ Inside (now job) l × (maxRecords < length (now plan)) × (variable ≡ asked (editionOf rules .spare) (variableClean (now job)) (l .variables)) ⌝ }
     ensures { λ r. ⌜ JobTold (now (job .entry)) l (fromNodes (now (job .entry)) l (editionOf rules)) (now (plan .entry)) (now (plan .exit)) r ⌝ }
 {
-    let index = first_fault(job, l, BAD_PARENT, l.nodes);
+    let index = first_fault(job, l, ALL, BAD_PARENT, l.nodes);
     if index < l.nodes {
         return Checked::Refused {
             number: BAD_PARENT,
             index,
         };
     }
-    // Nodes that pass 13, 6 and 12 have no fault by any edition.
-    if preorder::all_fit(job, l.tree, l.nodes) {
+    // Nodes that pass 13, 6 and 12 have no fault, also where 13 and 12 are not asked for.
+    if preorder::all_fit(job, l.tree, l.nodes, highest(rules)) {
         return check_job_script(job, l, variable, l.nodes, rules, plan);
     }
     let index = first_unordered(job, l, rules);

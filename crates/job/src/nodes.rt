@@ -3,7 +3,6 @@ use crate::reads::half_at;
 use crate::reads::rest_at;
 use crate::reads::signed_at;
 use rules::levels::PUBLIC;
-use rules::levels::is_level;
 use rules::levels::not_above;
 use rules::limits::MAX_NODES;
 use rules::limits::NO_PARENT;
@@ -13,9 +12,10 @@ ghost use Prim.Native.Nat.{suc, _+_, _<_, _≤_};
 ghost use lib.ListN.{length, getD};
 ghost use Rattle.rules.specs.Limits.{nodeSize};
 ghost use Rattle.rules.specs.Bytes.{nodePlace};
-ghost use Rattle.rules.specs.Check.{parent, parentRule, orderRule, labelRule, childRule, nodeRule, nodeClean, firstFault};
+ghost use Rattle.rules.specs.Check.{parent, parentRule, orderRule, childRule, nodeClean, firstFault};
 ghost use Rattle.rules.specs.Job.{labelOf};
 ghost use Rattle.job.specs.Fields.{levelsOf};
+ghost use Rattle.job.specs.Fits.{labelIn, nodeIn};
 ghost use Rattle.job.specs.Siblings.{Linked, Rooted, Lasts, Beside, ownRule, behind};
 
 pub fn parent_at(job: &[u8], base: usize, i: usize) -> usize
@@ -77,14 +77,15 @@ pub fn order_ok(job: &[u8], base: usize, i: usize) -> bool
     w == p
 }
 
-fn label_ok(job: &[u8], base: usize, i: usize) -> bool
+// Of check 6 what the levels of node i alone say, where `top` is the highest.
+fn label_ok(job: &[u8], base: usize, i: usize, top: u8) -> bool
     requires { ⌜ nodePlace base i + nodeSize ≤ length (now job) ⌝ }
-    ensures { λ r. ⌜ r ≡ labelRule (now (job .entry)) base i ⌝ }
+    ensures { λ r. ⌜ r ≡ labelIn top (now (job .entry)) base i ⌝ }
 {
     let own = levels_at(job, base, i);
-    is_level(own.existence)
-        & is_level(own.content)
-        & is_level(own.structure)
+    (own.existence <= top)
+        & (own.content <= top)
+        & (own.structure <= top)
         & not_above(own.existence, own.content)
         & not_above(own.existence, own.structure)
 }
@@ -154,12 +155,12 @@ pub fn clean_ok(job: &[u8], base: usize, i: usize) -> bool
     rest_at(job, base + NODE_SIZE * i + 4) == 0
 }
 
-// What check 6 asks of node i alone.
-pub fn own_ok(job: &[u8], base: usize, i: usize) -> bool
+// What check 6 asks of node i alone, where `top` is the highest level.
+pub fn own_ok(job: &[u8], base: usize, i: usize, top: u8) -> bool
     requires { ⌜ nodePlace base i + nodeSize ≤ length (now job) ⌝ }
-    ensures { λ r. ⌜ r ≡ ownRule (now (job .entry)) base i ⌝ }
+    ensures { λ r. ⌜ r ≡ ownRule top (now (job .entry)) base i ⌝ }
 {
-    if !label_ok(job, base, i) {
+    if !label_ok(job, base, i, top) {
         return false;
     }
     if i == 0 {
@@ -168,12 +169,12 @@ pub fn own_ok(job: &[u8], base: usize, i: usize) -> bool
     true
 }
 
-// Check 6, of node i, which has passed check 5 as have all before it; `last` has the last child of each.
-fn node_ok(job: &[u8], base: usize, last: &[u16], i: usize) -> bool
+// Check 6, of node i, which has passed check 5 as have all before it; `last` has the last child of each, `top` is the highest level.
+fn node_ok(job: &[u8], base: usize, last: &[u16], i: usize, top: u8) -> bool
     requires { ⌜ Rooted (now job) base i × Lasts (now job) base i (now last) ⌝ }
-    ensures { λ r. ⌜ r ≡ nodeRule (now (job .entry)) base i ⌝ }
+    ensures { λ r. ⌜ r ≡ nodeIn top (now (job .entry)) base i ⌝ }
 {
-    if !own_ok(job, base, i) {
+    if !own_ok(job, base, i, top) {
         return false;
     }
     if i == 0 {
@@ -194,15 +195,15 @@ fn pass(job: &[u8], base: usize, last: &mut [u16], i: usize)
     }
 }
 
-// Check 6: the first of `count` nodes that fails, or the count.
-pub fn first_fault(job: &[u8], base: usize, count: usize) -> usize
+// Check 6, where `top` is the highest level: the first of `count` nodes that fails, or the count.
+pub fn first_fault(job: &[u8], base: usize, count: usize, top: u8) -> usize
     requires { ⌜ Linked (now job) base count ⌝ }
-    ensures { λ r. ⌜ r ≡ firstFault (nodeRule (now (job .entry)) base) count 0 ⌝ }
+    ensures { λ r. ⌜ r ≡ firstFault (nodeIn top (now (job .entry)) base) count 0 ⌝ }
 {
     let mut last = [0u16; MAX_NODES];
     let mut i = 0;
     while i < count {
-        if !node_ok(job, base, &last, i) {
+        if !node_ok(job, base, &last, i, top) {
             return i;
         }
         pass(job, base, &mut last, i);

@@ -8,7 +8,7 @@ use crate::nodes::parent_at;
 ghost use mathlib.Core.Path.{_≡_};
 ghost use mathlib.Core.Bool.{true};
 ghost use Rattle.job.specs.Siblings.{Linked, Rooted};
-ghost use Rattle.job.specs.Hanging.{Hangs, Fit, AllFit};
+ghost use Rattle.job.specs.Hanging.{Hangs, Ordered, Fit, AllFit};
 
 // A node in order, with its left sibling, or one that is not.
 pub enum Hung {
@@ -19,7 +19,7 @@ pub enum Hung {
 // The search for the left sibling of node i, where the nodes before it are in order. Each step up leaves a subtree for good, so the walks of all nodes together are no longer
 // than there are nodes.
 fn left_of(job: &[u8], base: usize, i: usize) -> Hung
-    requires { ⌜ (i ≡ 0 → ⊥) × Rooted (now job) base i × AllFit (now job) base i ⌝ }
+    requires { ⌜ (i ≡ 0 → ⊥) × Rooted (now job) base i × Ordered (now job) base i ⌝ }
     ensures { λ r. ⌜ Hangs (now (job .entry)) base i r ⌝ }
 {
     let p = parent_at(job, base, i);
@@ -40,14 +40,15 @@ fn left_of(job: &[u8], base: usize, i: usize) -> Hung
     found
 }
 
-fn node_fits(job: &[u8], base: usize, i: usize) -> bool
-    requires { ⌜ Rooted (now job) base i × AllFit (now job) base i ⌝ }
-    ensures { λ r. ⌜ (r ≡ true → Fit (now (job .entry)) base i) ⌝ }
+// Whether node i passes, where `top` is the highest level.
+fn node_fits(job: &[u8], base: usize, i: usize, top: u8) -> bool
+    requires { ⌜ Rooted (now job) base i × AllFit top (now job) base i ⌝ }
+    ensures { λ r. ⌜ (r ≡ true → Fit top (now (job .entry)) base i) ⌝ }
 {
     if !clean_ok(job, base, i) {
         return false;
     }
-    if !own_ok(job, base, i) {
+    if !own_ok(job, base, i, top) {
         return false;
     }
     if i == 0 {
@@ -61,13 +62,13 @@ fn node_fits(job: &[u8], base: usize, i: usize) -> bool
 }
 
 // Whether all nodes pass; where it says no, nothing is known.
-pub fn all_fit(job: &[u8], base: usize, count: usize) -> bool
+pub fn all_fit(job: &[u8], base: usize, count: usize, top: u8) -> bool
     requires { ⌜ Linked (now job) base count ⌝ }
-    ensures { λ r. ⌜ (r ≡ true → AllFit (now (job .entry)) base count) ⌝ }
+    ensures { λ r. ⌜ (r ≡ true → AllFit top (now (job .entry)) base count) ⌝ }
 {
     let mut i = 0;
     while i < count {
-        if !node_fits(job, base, i) {
+        if !node_fits(job, base, i, top) {
             return false;
         }
         i += 1;

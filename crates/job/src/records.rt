@@ -43,6 +43,8 @@ pub struct Fields {
     pub operator: u8,
     pub leftkind: u8,
     pub rightkind: u8,
+    pub fifth: u8,
+    pub sixth: u8,
     pub left: u32,
     pub right: u32,
 }
@@ -58,6 +60,8 @@ pub fn fields_at(job: &[u8], base: usize, i: usize) -> Fields
         operator: job[at + 2],
         leftkind: job[at + 3],
         rightkind: job[at + 4],
+        fifth: job[at + 5],
+        sixth: job[at + 6],
         left: full_at(job, at + 8),
         right: full_at(job, at + 12),
     }
@@ -103,7 +107,7 @@ fn expression_ok(job: &[u8], at: usize, variables: usize) -> bool
 // The fields that a row names, of the record at a place.
 fn fields_ok(job: &[u8], at: usize, reads: Row, variables: usize) -> bool
     requires { ⌜ at + recordSize ≤ length (now job) ⌝ }
-    ensures { λ r. ⌜ r ≡ fieldsRule (now (job .entry)) variables (row (reads .target) (reads .mark) (reads .expression)) at ⌝ }
+    ensures { λ r. ⌜ r ≡ fieldsRule (now (job .entry)) variables (row (reads .target) (reads .mark) (reads .expression) (reads .readers) (reads .fifth) (reads .sixth)) at ⌝ }
 {
     let target = byte_at(job, at + 1);
     if !(!reads.target | (target < variables)) {

@@ -3,12 +3,13 @@
 use crate::reads::byte_at;
 use crate::reads::double_at;
 use crate::reads::full_at;
+use crate::reads::half_at;
 use crate::reads::wide64;
 use crate::records::ALONE;
 use crate::records::MAX_MARK;
 use crate::records::MAX_OPERATOR;
 use crate::rows::Row;
-use crate::rows::table;
+use crate::rows::used;
 use rules::limits::COMMANDS;
 use rules::limits::RECORD_SIZE;
 ghost use mathlib.Core.Path.{_≡_};
@@ -18,8 +19,8 @@ ghost use Rattle.rules.specs.Limits.{commandCount, recordSize};
 ghost use Rattle.rules.specs.Bytes.{byte, full, recordPlace};
 ghost use Rattle.rules.specs.Script.{rowOf};
 ghost use Rattle.rules.specs.Check.{firstFault};
-ghost use Rattle.job.specs.Fields.{rowHeld};
-ghost use Rattle.job.specs.Fits.{limitsOf, operandFits, rightFits, expressionFits, targetFits, bareFits, recordFits};
+ghost use Rattle.job.specs.Fields.{rowUsed};
+ghost use Rattle.job.specs.Fits.{limitsOf, operandFits, kindWord, rightFits, expressionFits, targetFits, bareFits, coverFits, recordFits};
 
 // The kinds of an operand.
 const KINDS: usize = 4;
@@ -42,12 +43,30 @@ fn operand_fits(job: &[u8], kind: usize, at: usize, limits: &[u64; KINDS], varia
     wide64(full_at(job, at)) < limits[kind]
 }
 
-// The right side of the expression at a place, by its operator: the bytes 5 to 7 are zero, and of an operator with no right side 4 and 12 to 15 too.
-fn right_fits(job: &[u8], at: usize, operator: u8, limits: &[u64; KINDS], variables: usize) -> bool
-    requires { ⌜ (at + recordSize ≤ length (now job)) × (now limits ≡ limitsOf variables) ⌝ }
-    ensures { λ r. ⌜ r ≡ rightFits (now (job .entry)) variables operator at ⌝ }
+// The bytes 4 to 7 of the record at a place as a number; where 5 and 6 hold sets, without these.
+fn kind_word(job: &[u8], at: usize, sets: bool) -> usize
+    requires { ⌜ at + recordSize ≤ length (now job) ⌝ }
+    ensures { λ r. ⌜ r ≡ kindWord sets (now (job .entry)) at ⌝ }
 {
-    let kind = full_at(job, at + 4) as usize;
+    if sets {
+        return byte_at(job, at + 4) + byte_at(job, at + 7) * 16777216;
+    }
+    full_at(job, at + 4) as usize
+}
+
+// The right side of the expression at a place, by its operator: the bytes 5 to 7 are zero, but for sets, and of an operator with no right side 4 and 12 to 15 too.
+fn right_fits(
+    job: &[u8],
+    at: usize,
+    operator: u8,
+    sets: bool,
+    limits: &[u64; KINDS],
+    variables: usize,
+) -> bool
+    requires { ⌜ (at + recordSize ≤ length (now job)) × (now limits ≡ limitsOf variables) ⌝ }
+    ensures { λ r. ⌜ r ≡ rightFits sets (now (job .entry)) variables operator at ⌝ }
+{
+    let kind = kind_word(job, at, sets);
     if operator == ALONE {
         if kind != 0 {
             return false;
@@ -57,9 +76,15 @@ fn right_fits(job: &[u8], at: usize, operator: u8, limits: &[u64; KINDS], variab
     operand_fits(job, kind, at + 12, limits, variables)
 }
 
-fn expression_fits(job: &[u8], at: usize, limits: &[u64; KINDS], variables: usize) -> bool
+fn expression_fits(
+    job: &[u8],
+    at: usize,
+    sets: bool,
+    limits: &[u64; KINDS],
+    variables: usize,
+) -> bool
     requires { ⌜ (at + recordSize ≤ length (now job)) × (now limits ≡ limitsOf variables) ⌝ }
-    ensures { λ r. ⌜ r ≡ expressionFits (now (job .entry)) variables at ⌝ }
+    ensures { λ r. ⌜ r ≡ expressionFits sets (now (job .entry)) variables at ⌝ }
 {
     let operator = job[at + 2];
     if MAX_OPERATOR < operator {
@@ -68,12 +93,12 @@ fn expression_fits(job: &[u8], at: usize, limits: &[u64; KINDS], variables: usiz
     if !operand_fits(job, byte_at(job, at + 3), at + 8, limits, variables) {
         return false;
     }
-    right_fits(job, at, operator, limits, variables)
+    right_fits(job, at, operator, sets, limits, variables)
 }
 
 fn target_fits(job: &[u8], at: usize, reads: Row, variables: usize) -> bool
     requires { ⌜ at + recordSize ≤ length (now job) ⌝ }
-    ensures { λ r. ⌜ r ≡ targetFits (reads .target) (reads .mark) variables (byte (now (job .entry)) (at + 1)) ⌝ }
+    ensures { λ r. ⌜ r ≡ targetFits (reads .target) (reads .mark) (reads .readers) variables (byte (now (job .entry)) (at + 1)) ⌝ }
 {
     let target = byte_at(job, at + 1);
     if reads.target {
@@ -82,7 +107,7 @@ fn target_fits(job: &[u8], at: usize, reads: Row, variables: usize) -> bool
     if reads.mark {
         return target <= MAX_MARK;
     }
-    target == 0
+    reads.readers | (target == 0)
 }
 
 // A record that reads its command only: all other bytes are zero.
@@ -96,26 +121,47 @@ fn bare_fits(job: &[u8], at: usize) -> bool
     double_at(job, at + 8) == 0
 }
 
+// A cover: all bytes but its command and its set are zero.
+fn cover_fits(job: &[u8], at: usize) -> bool
+    requires { ⌜ at + recordSize ≤ length (now job) ⌝ }
+    ensures { λ r. ⌜ r ≡ coverFits (now (job .entry)) at ⌝ }
+{
+    (full_at(job, at) < 256)
+        & (byte_at(job, at + 4) == 0)
+        & (half_at(job, at + 6) == 0)
+        & (double_at(job, at + 8) == 0)
+}
+
 // The fields of the record at a place, by the row of its command.
-fn fields_fit(job: &[u8], at: usize, reads: Row, limits: &[u64; KINDS], variables: usize) -> bool
-    requires { ⌜ (at + recordSize ≤ length (now job)) × (byte (now job) at < commandCount) × (reads ≡ rowHeld (rowOf (byte (now job) at))) × (now limits ≡ limitsOf variables) ⌝ }
-    ensures { λ r. ⌜ r ≡ recordFits (now (job .entry)) variables at ⌝ }
+fn fields_fit(
+    job: &[u8],
+    at: usize,
+    reads: Row,
+    sets: bool,
+    limits: &[u64; KINDS],
+    variables: usize,
+) -> bool
+    requires { ⌜ (at + recordSize ≤ length (now job)) × (byte (now job) at < commandCount) × (reads ≡ rowUsed sets (rowOf (byte (now job) at))) × (now limits ≡ limitsOf variables) ⌝ }
+    ensures { λ r. ⌜ r ≡ recordFits sets (now (job .entry)) variables at ⌝ }
 {
     if reads.expression {
         if !target_fits(job, at, reads, variables) {
             return false;
         }
-        return expression_fits(job, at, limits, variables);
+        return expression_fits(job, at, reads.fifth, limits, variables);
+    }
+    if reads.fifth {
+        return cover_fits(job, at);
     }
     bare_fits(job, at)
 }
 
-// The checks 7 and 12: the first of `count` records that fails one of them, or the count.
-pub fn first_unfit(job: &[u8], base: usize, count: usize, variables: usize) -> usize
+// The checks 7 and 12, where records hold sets or do not: the first of `count` records that fails one of them, or the count.
+pub fn first_unfit(job: &[u8], base: usize, count: usize, variables: usize, sets: bool) -> usize
     requires { ⌜ recordPlace base count ≤ length (now job) ⌝ }
-    ensures { λ r. ⌜ r ≡ firstFault (λ i. recordFits (now (job .entry)) variables (recordPlace base i)) count 0 ⌝ }
+    ensures { λ r. ⌜ r ≡ firstFault (λ i. recordFits sets (now (job .entry)) variables (recordPlace base i)) count 0 ⌝ }
 {
-    let rows = table();
+    let rows = used(sets);
     let limits = limits_of(variables);
     let mut i = 0;
     while i < count {
@@ -124,7 +170,7 @@ pub fn first_unfit(job: &[u8], base: usize, count: usize, variables: usize) -> u
         if COMMANDS <= command {
             return i;
         }
-        if !fields_fit(job, at, rows[command], &limits, variables) {
+        if !fields_fit(job, at, rows[command], sets, &limits, variables) {
             return i;
         }
         i += 1;

@@ -17,7 +17,7 @@ past1 : (c : tie.Else1) → let a = c .before .before .before .before .before .a
     let b = a .bytes .now in
     let l = a .l in
     fromSpare b l r
-    ≡ requireIf (r .spare) badSpare (nodeClean b (l .tree)) (l .nodes) (requireIf (r .spare) badSpare (recordClean b (l .script)) (l .records) (fromBlocks b l))
+    ≡ requireIf (r .spare) badSpare (nodeClean b (l .tree)) (l .nodes) (requireIf (r .spare) badSpare (recordClean (r .sets) b (l .script)) (l .records) (fromBlocks b l))
 unfolding fromSpare uncleanOf
 past1 c = asked-through badSpare _ _ _ _ (ap (λ (u : Unclean). u .variables) (c .before .before .before .before .before .pre .1)) (c .if1 .left)
 
@@ -25,7 +25,7 @@ past2 : (c : tie.Else2) → let a = c .before .before .before .before .before .b
     let r = editionOf (a .rules) in
     let b = a .bytes .now in
     let l = a .l in
-    fromSpare b l r ≡ requireIf (r .spare) badSpare (recordClean b (l .script)) (l .records) (fromBlocks b l)
+    fromSpare b l r ≡ requireIf (r .spare) badSpare (recordClean (r .sets) b (l .script)) (l .records) (fromBlocks b l)
 unfolding uncleanOf
 past2 c = past1 (c .before .before .before) ∙ asked-through badSpare _ _ _ _ (ap (λ (u : Unclean). u .nodes) (c .before .before .before .before .before .before .before .before .pre .1)) (c .if2 .left)
 

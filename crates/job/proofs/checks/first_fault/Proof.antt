@@ -9,10 +9,10 @@ use Rattle.job.proofs.checks.first_fault.Statement.{statement}
 use Rattle.job.proofs.checks.first_fault.Tie as tie
 
 abbrev Inv-loop : tie.InvT-loop
-Inv-loop job l number count i₀ i = Scan (ruleOf job l number) count i
+Inv-loop job l top number count i₀ i = Scan (ruleOf job l top number) count i
 
 abbrev μ-loop : tie.MeasureT-loop
-μ-loop job l number count i₀ i = count - i
+μ-loop job l top number count i₀ i = count - i
 
 loop-holds : tie.Need-loop-holds Inv-loop μ-loop
 loop-holds c = scan-start _ _

@@ -14,18 +14,18 @@ returns c =
 
 returns-2 : tie.Need-returns-2
 returns-2 c =
-    let s = sym (c .before .before .before .has-spare .ensures) ∙ not-false _ (c .before .before .if1 .left) in
-    all-fit _ _ _ _ s (c .before .first-unfit .ensures ∙ records-fit _ _ _ _ _ s) (c .if2 .taken)
+    let s = sym (c .before .before .before .before .has-spare .ensures) ∙ not-false _ (c .before .before .before .if1 .left) in
+    all-fit _ _ _ _ s (c .before .first-unfit .ensures ∙ records-fit _ _ _ _ _ (c .before .before .has-sets .ensures) s) (c .if2 .taken)
 
 returns-3 : tie.Need-returns-3
 returns-3 c =
-    let s = sym (c .before .before .before .before .before .before .has-spare .ensures) ∙ not-false _ (c .before .before .before .before .before .if1 .left) in
+    let s = sym (c .before .before .before .before .before .before .before .has-spare .ensures) ∙ not-false _ (c .before .before .before .before .before .before .if1 .left) in
     c .scan-of2 .ensures
-    ∙ first-unclean _ _ _ _ s (c .before .before .before .before .first-unfit .ensures ∙ records-fit _ _ _ _ _ s)
+    ∙ first-unclean _ _ _ _ s (c .before .before .before .before .first-unfit .ensures ∙ records-fit _ _ _ _ _ (c .before .before .before .before .before .has-sets .ensures) s)
     (c .before .first-fault2 .ensures ∙ records-right _ _ _ _ _ (c .before .before .commands2 .ensures .0))
 
 pub scan-records-spec : {M : Type 1} → statement M
 scan-records-spec =
     tie.close (tie.spec
-    (λ c κs. search needs) (λ c κs. search needs) (λ c κs. search needs) (λ c κs. search needs) returns (λ c κs. search needs) returns-2 (λ c κs. search needs) (λ c κs. search needs)
+    (λ c κs. search needs) (λ c κs. search needs) (λ c κs. search needs) (λ c κs. search needs) returns (λ c κs. search needs) (λ c κs. search needs) returns-2 (λ c κs. search needs) (λ c κs. search needs)
     (λ c κs. search needs) returns-3)

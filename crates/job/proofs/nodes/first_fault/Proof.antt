@@ -4,8 +4,8 @@ use Prim.Native.Nat.{_-_}
 use native.Mathlib.Omega.{arith}
 use native.Mathlib.Numerals.{add-one}
 use borrow.Author.Tests.{not-true, not-false}
-use Rattle.rules.specs.Check.{nodeRule}
 use Rattle.rules.proofs.Search.{Scan, scan-start, scan-next, scan-stop, scan-end}
+use Rattle.job.specs.Fits.{nodeIn}
 use Rattle.job.specs.Siblings.{Rooted, Lasts}
 use Rattle.job.proofs.Siblings.{lasts-start}
 use borrow.Author.Needs.{needs}
@@ -13,10 +13,10 @@ use Rattle.job.proofs.nodes.first_fault.Statement.{statement}
 use Rattle.job.proofs.nodes.first_fault.Tie as tie
 
 abbrev Inv-loop : tie.InvT-loop
-Inv-loop job base count last₀ i₀ last i = Scan (nodeRule job base) count i × Lasts job base i last
+Inv-loop job base count top last₀ i₀ last i = Scan (nodeIn top job base) count i × Lasts job base i last
 
 abbrev μ-loop : tie.MeasureT-loop
-μ-loop job base count last₀ i₀ last i = count - i
+μ-loop job base count top last₀ i₀ last i = count - i
 
 loop-holds : tie.Need-loop-holds Inv-loop μ-loop
 loop-holds c = (scan-start _ _, lasts-start _ _)

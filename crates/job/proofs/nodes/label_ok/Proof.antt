@@ -1,24 +1,20 @@
 -- `label_ok` meets its contract: it is the definition. Assumes nothing.
-use Rattle.rules.specs.Check.{labelRule}
 use Rattle.job.specs.Fields.{levelsOf}
+use Rattle.job.specs.Fits.{labelIn}
 use borrow.Author.Needs.{needs}
 use Rattle.job.proofs.nodes.label_ok.Statement.{statement}
 use Rattle.job.proofs.nodes.label_ok.Tie as tie
 
 returns : tie.Need-returns
-unfolding labelRule levelsOf
+unfolding labelIn levelsOf
 returns c =
     rw (
       c .not-above2 .ensures,
       c .before .not-above .ensures,
-      c .before .before .is-level3 .ensures,
-      c .before .before .before .is-level2 .ensures,
-      c .before .before .before .before .is-level .ensures,
       c .before .before .before .before .before .levels-at .ensures,
     )
 
 pub label-ok-spec : {M : Type 1} → statement M
 label-ok-spec =
     tie.close (tie.spec
-    (λ c κs. search needs) (λ c κs. search needs) (λ c κs. search needs) (λ c κs. search needs) (λ c κs. search needs)
-    (λ c κs. search needs) returns)
+    (λ c κs. search needs) (λ c κs. search needs) (λ c κs. search needs) returns)

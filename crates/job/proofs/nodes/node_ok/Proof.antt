@@ -9,13 +9,13 @@ use Rattle.job.proofs.nodes.node_ok.Tie as tie
 returns : tie.Need-returns
 returns c =
     let a = c .before .before .before .before .args in
-    rw (rule-parts (a .job .now) (a .base) (a .i), sym (c .before .own-ok .ensures) ∙ not-true _ (c .if1 .taken))
+    rw (rule-parts (a .top) (a .job .now) (a .base) (a .i), sym (c .before .own-ok .ensures) ∙ not-true _ (c .if1 .taken))
 
 returns-2 : tie.Need-returns-2
 returns-2 c =
     let a = c .before .before .before .before .before .args in
     rw (
-      rule-parts (a .job .now) (a .base) (a .i),
+      rule-parts (a .top) (a .job .now) (a .base) (a .i),
       sym (c .before .before .own-ok .ensures) ∙ not-false _ (c .before .if1 .left),
       eq-eqb _ _ (c .if2 .taken),
     )
@@ -24,7 +24,7 @@ returns-3 : tie.Need-returns-3
 returns-3 c =
     let a = c .before .before .before .before .before .before .before .args in
     rw (
-      rule-parts (a .job .now) (a .base) (a .i),
+      rule-parts (a .top) (a .job .now) (a .base) (a .i),
       sym (c .before .before .before .before .own-ok .ensures) ∙ not-false _ (c .before .before .before .if1 .left),
       ne-eqb _ _ (c .before .before .if2 .left),
       c .child-ok .ensures,

@@ -12,10 +12,10 @@ use Rattle.job.proofs.preorder.all_fit.Statement.{statement}
 use Rattle.job.proofs.preorder.all_fit.Tie as tie
 
 abbrev Inv-loop : tie.InvT-loop
-Inv-loop job base count i₀ i = AllFit job base i
+Inv-loop job base count top i₀ i = AllFit top job base i
 
 abbrev μ-loop : tie.MeasureT-loop
-μ-loop job base count i₀ i = count - i
+μ-loop job base count top i₀ i = count - i
 
 loop-holds : tie.Need-loop-holds Inv-loop μ-loop
 loop-holds c = record { each = λ k l. absurd (omega arith) }
@@ -27,7 +27,7 @@ node-fits-requires c κs =
     (record { inside = omega (arith, q .inside); few = omega (arith, q .few); parents = λ k h. q .parents k (omega arith) }, c .before .loop .inv)
 
 loop-again : tie.Need-loop-again Inv-loop μ-loop
-loop-again c = rw add-one (fit-next _ _ _ (c .before .before .before .loop .inv) (c .before .node-fits .ensures (not-false _ (c .if1 .left))))
+loop-again c = rw add-one (fit-next _ _ _ _ (c .before .before .before .loop .inv) (c .before .node-fits .ensures (not-false _ (c .if1 .left))))
 
 returns-2 : tie.Need-returns-2 Inv-loop μ-loop
 returns-2 c e = let l = c .loop-test .left in record { each = λ k h. c .before .loop .inv .each k (omega arith) }

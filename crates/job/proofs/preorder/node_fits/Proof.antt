@@ -23,9 +23,14 @@ returns-3 c e =
     let z = eq-eqb (a .i) 0 (c .if3 .taken) in
     record {
       order = rw z;
-      node = rw (rule-parts (a .job .now) (a .base) (a .i), sym (c .before .before .own-ok .ensures) ∙ not-false _ (c .before .if2 .left), z);
+      node = rw (rule-parts (a .top) (a .job .now) (a .base) (a .i), sym (c .before .before .own-ok .ensures) ∙ not-false _ (c .before .if2 .left), z);
       clean = sym (c .before .before .before .before .clean-ok .ensures) ∙ not-false _ (c .before .before .before .if1 .left);
     }
+
+-- the nodes before are in order
+left-of-requires : tie.Need-left-of-requires
+left-of-requires c κs =
+    let q = c .before .before .before .before .before .before .pre in (c .if3 .left, q .0, record { each = λ k l. q .1 .each k l .order })
 
 child-ok-requires : tie.Need-child-ok-requires
 child-ok-requires c κs = (c .before .before .before .before .if3 .left, c .before .before .before .before .before .before .before .before .before .before .pre .0, hangs (c .before) .1)
@@ -37,7 +42,7 @@ returns-5 c e =
       order = hangs (c .before .before) .0;
       node =
           rw (
-            rule-parts (a .job .now) (a .base) (a .i),
+            rule-parts (a .top) (a .job .now) (a .base) (a .i),
             sym (c .before .before .before .before .before .before .before .own-ok .ensures) ∙ not-false _ (c .before .before .before .before .before .before .if2 .left),
             ne-eqb (a .i) 0 (c .before .before .before .before .before .if3 .left),
             sym (c .child-ok .ensures) ∙ e,
@@ -48,5 +53,5 @@ returns-5 c e =
 pub node-fits-spec : {M : Type 1} → statement M
 node-fits-spec =
     tie.close (tie.spec
-    (λ c κs. search needs) (λ c e. clash e refl) (λ c κs. search needs) (λ c e. clash e refl) returns-3 (λ c κs. search needs) (λ c. search needs)
+    (λ c κs. search needs) (λ c e. clash e refl) (λ c κs. search needs) (λ c e. clash e refl) returns-3 left-of-requires (λ c. search needs)
     (λ c. search needs) (λ c e. clash e refl) child-ok-requires returns-5)

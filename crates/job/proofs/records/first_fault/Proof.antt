@@ -28,11 +28,11 @@ abbrev μ-loop : tie.MeasureT-loop
 μ-loop job base count variables commands rows i₀ i = count - i
 
 abbrev nothing : Script.Row
-nothing = row false false false
+nothing = row false false false false false false
 
 -- a row of the program, as one of the rules
 abbrev read : Row → Script.Row
-read r = row (r .target) (r .mark) (r .expression)
+read r = row (r .target) (r .mark) (r .expression) (r .readers) (r .fifth) (r .sixth)
 
 -- a record whose command has a row is tested by it
 ruled : (c : tie.After-fields-ok Inv-loop μ-loop) → let a = c .before .before .before .before .before .before .before .before .args in

@@ -9,7 +9,7 @@ use Rattle.job.proofs.rows.row_of.Tie as tie
 
 returns : tie.Need-returns
 unfolding rows rowHeld
-returns c = List·getD-map rowHeld rows (c .before .args .command) (row false false false)
+returns c = List·getD-map rowHeld rows (c .before .args .command) (row false false false false false false)
 
 pub row-of-spec : {M : Type 1} → statement M
 row-of-spec = tie.close (tie.spec (λ c. search needs) (λ c. search needs) returns)

@@ -1,6 +1,6 @@
 -- `first_unfit` meets its contract: each record passed fits, by the row of its command. Assumes nothing.
-use mathlib.Core.Path.{_≡_, sym, _∙_}
-use mathlib.Core.Bool.{Bool, false}
+use mathlib.Core.Path.{_≡_, refl, sym, _∙_, subst}
+use mathlib.Core.Bool.{Bool, true, false}
 use mathlib.Core.List.{List}
 use Prim.Native.Nat.{ℕ, _-_}
 use native.Mathlib.Omega.{arith}
@@ -11,23 +11,28 @@ use Rattle.rules.specs.Bytes.{recordPlace}
 use Rattle.rules.specs.Script.{Row, rows, row, rowOf}
 use Rattle.rules.specs.Check.{recordRule}
 use Rattle.rules.proofs.Search.{Scan, scan-start, scan-next, scan-stop, scan-end}
-use Rattle.job.specs.Fields.{rowHeld}
+use Rattle.job.specs.Fields.{rowHeld, rowUsed}
 use Rattle.job.specs.Fits.{recordFits}
 use borrow.Author.Needs.{needs}
 use Rattle.job.proofs.spare.first_unfit.Statement.{statement}
 use Rattle.job.proofs.spare.first_unfit.Tie as tie
 
-abbrev rule : List ℕ → ℕ → ℕ → ℕ → Bool
-rule b base vars i = recordFits b vars (recordPlace base i)
+abbrev rule : Bool → List ℕ → ℕ → ℕ → ℕ → Bool
+rule sets b base vars i = recordFits sets b vars (recordPlace base i)
 
 abbrev Inv-loop : tie.InvT-loop
-Inv-loop job base count variables rows limits i₀ i = Scan (rule job base variables) count i
+Inv-loop job base count variables sets rows limits i₀ i = Scan (rule sets job base variables) count i
 
 abbrev μ-loop : tie.MeasureT-loop
-μ-loop job base count variables rows limits i₀ i = count - i
+μ-loop job base count variables sets rows limits i₀ i = count - i
 
 abbrev nothing : Row
-nothing = row false false false
+nothing = row false false false false false false
+
+unused : (sets : Bool) → rowUsed sets nothing ≡ rowHeld nothing
+unfolding rowUsed rowHeld
+unused true = refl
+unused false = refl
 
 loop-holds : tie.Need-loop-holds Inv-loop μ-loop
 loop-holds c = scan-start _ _
@@ -39,11 +44,17 @@ returns c = scan-stop _ _ (c .before .before .before .loop .inv) (search needs) 
 fields-fit-requires : tie.Need-fields-fit-requires Inv-loop μ-loop
 unfolding rowHeld
 fields-fit-requires c κs =
-    let t = c .before .before .before .before .before .before .before .table in
+    let t = c .before .before .before .before .before .before .before .used in
     let k = c .before .before .before .byte-at .result in
     let e = c .before .before .before .byte-at .ensures .0 in
-    let h : getD (t .result) k (rowHeld nothing) ≡ rowHeld (rowOf k) = rw (t .ensures) (List·getD-map rowHeld rows k nothing) in
-    (omega (arith, c .before .before .before .before .before .before .before .before .before .pre), rw (← e) (c .before .before .if1 .left), rw (← e) h, c .before .before .before .before .before .before .limits-of .ensures)
+    let sets = c .before .before .before .before .before .before .before .before .before .args .sets in
+    let h : getD (t .result) k (rowUsed sets nothing) ≡ rowUsed sets (rowOf k) = rw (t .ensures) (List·getD-map (rowUsed sets) rows k nothing) in
+    let g = subst (λ d. getD (t .result) k d ≡ rowUsed sets (rowOf k)) (unused sets) h in (
+      omega (arith, c .before .before .before .before .before .before .before .before .before .pre),
+      rw (← e) (c .before .before .if1 .left),
+      rw (← e) g,
+      c .before .before .before .before .before .before .limits-of .ensures,
+    )
 
 returns-2 : tie.Need-returns-2 Inv-loop μ-loop
 returns-2 c = scan-stop _ _ (c .before .before .before .before .before .before .before .loop .inv) (search needs) (sym (c .before .fields-fit .ensures) ∙ not-true _ (c .if2 .taken))

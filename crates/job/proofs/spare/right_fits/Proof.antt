@@ -8,18 +8,17 @@ use Rattle.job.proofs.spare.right_fits.Tie as tie
 
 returns : tie.Need-returns
 unfolding rightFits
-returns c = rw (c .before .if1 .taken, ← c .before .before .full-at .ensures, ne-eqb _ 0 (c .if2 .taken))
+returns c = rw (c .before .if1 .taken, ← c .before .before .kind-word .ensures, ne-eqb _ 0 (c .if2 .taken))
 
 returns-2 : tie.Need-returns-2
 unfolding rightFits
-returns-2 c = rw (c .before .before .if1 .taken, ← c .before .before .before .full-at .ensures, eq-eqb _ 0 (c .before .if2 .left), c .full-at2 .ensures)
+returns-2 c = rw (c .before .before .if1 .taken, ← c .before .before .before .kind-word .ensures, eq-eqb _ 0 (c .before .if2 .left), c .full-at .ensures)
 
 returns-3 : tie.Need-returns-3
 unfolding rightFits
-returns-3 c = rw (ne-eqb _ 0 (c .before .if1 .left), ← c .before .before .full-at .ensures) (c .operand-fits .ensures)
+returns-3 c = rw (ne-eqb _ 0 (c .before .if1 .left), ← c .before .before .kind-word .ensures) (c .operand-fits .ensures)
 
 pub right-fits-spec : {M : Type 1} → statement M
 right-fits-spec =
     tie.close (tie.spec
-    (λ c. search needs) (λ c κs. search needs) (λ c. search needs) returns (λ c. search needs) (λ c κs. search needs) returns-2
-    (λ c. search needs) (λ c κs. search needs) returns-3)
+    (λ c κs. search needs) returns (λ c. search needs) (λ c κs. search needs) returns-2 (λ c. search needs) (λ c κs. search needs) returns-3)
