@@ -86,7 +86,7 @@ module _ (b : List ℕ) (l : Layout) (d : Laid b l) where
   read-node at g h = rw (spot-node at g h)
 
   pub read-record : (at : ℕ) → l .script ≤ at → at < length b - 8
-      → isRead b at ≡ getD (recordReads b (recordPlace (l .script) ((at - l .script) / 16))) ((at - l .script) % 16) true
+      → isRead b at ≡ getD (recordReads b (recordPlace (l .script) ((at - l .script) / 16)) false) ((at - l .script) % 16) true
   unfolding isRead readsAt spotIn
   read-record at g h = rw (spot-record at g h, script-at)
 

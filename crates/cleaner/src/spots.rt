@@ -10,7 +10,7 @@ use rules::limits::RECORD_SIZE;
 use rules::limits::TRAILER_SIZE;
 use rules::limits::VARIABLE_SIZE;
 ghost use mathlib.Core.Path.{_≡_};
-ghost use mathlib.Core.Bool.{true};
+ghost use mathlib.Core.Bool.{true, false};
 ghost use Prim.Native.Nat.{_+_, _-_, _/_, _%_, _<_, _≤_};
 ghost use lib.ListN.{length, getD};
 ghost use Rattle.rules.specs.Limits.{recordSize};
@@ -95,6 +95,9 @@ fn row_at(command: usize) -> Row
         target: false,
         mark: false,
         expression: false,
+        readers: false,
+        fifth: false,
+        sixth: false,
     }
 }
 
@@ -113,10 +116,10 @@ fn reads_right(job: &[u8], at: usize, reads: Row) -> bool
     reads.expression & (job[at + 2] != ALONE)
 }
 
-// Which bytes the record at a place reads.
+// Which bytes the record at a place reads; to the cleaner it holds no sets.
 fn record_reads(job: &[u8], at: usize) -> [bool; RECORD_SIZE]
     requires { ⌜ at + recordSize ≤ length (now job) ⌝ }
-    ensures { λ r. ⌜ r ≡ recordReads (now (job .entry)) at ⌝ }
+    ensures { λ r. ⌜ r ≡ recordReads (now (job .entry)) at false ⌝ }
 {
     let reads = row_at(byte_at(job, at));
     let target = reads.target | reads.mark;
@@ -147,7 +150,7 @@ fn record_reads(job: &[u8], at: usize) -> [bool; RECORD_SIZE]
 // Whether the byte at a place of the script is read.
 fn script_reads(job: &[u8], script: usize, at: usize) -> bool
     requires { ⌜ (script ≤ at) × (recordPlace script ((at - script) / recordSize) + recordSize ≤ length (now job)) ⌝ }
-    ensures { λ r. ⌜ r ≡ getD (recordReads (now (job .entry)) (recordPlace script ((at - script) / recordSize))) ((at - script) % recordSize) true ⌝ }
+    ensures { λ r. ⌜ r ≡ getD (recordReads (now (job .entry)) (recordPlace script ((at - script) / recordSize)) false) ((at - script) % recordSize) true ⌝ }
 {
     let reads = record_reads(job, script + RECORD_SIZE * ((at - script) / RECORD_SIZE));
     reads[(at - script) % RECORD_SIZE]

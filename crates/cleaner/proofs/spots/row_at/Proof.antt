@@ -10,7 +10,7 @@ use Rattle.cleaner.proofs.spots.row_at.Tie as tie
 
 returns-2 : tie.Need-returns-2
 unfolding rows rowHeld
-returns-2 c = sym (ap rowHeld (List·getD-eq-default rows (row false false false) (c .if1 .left)))
+returns-2 c = sym (ap rowHeld (List·getD-eq-default rows (row false false false false false false) (c .if1 .left)))
 
 pub row-at-spec : {M : Type 1} → statement M
 row-at-spec = tie.close (tie.spec (λ c κs. search needs) (λ c. search needs) returns-2)

@@ -13,8 +13,8 @@ use Rattle.cleaner.proofs.spots.script_reads.Tie as tie
 returns : tie.Need-returns
 returns c =
     let a = c .before .before .args in
-    let z = records-16 (a .job .now) (recordPlace (a .script) ((a .at - a .script) / 16)) in
-    rw (c .record-reads .ensures) (getD-any (recordReads (a .job .now) (recordPlace (a .script) ((a .at - a .script) / 16))) ((a .at - a .script) % 16) false true (omega arith))
+    let z = records-16 false (a .job .now) (recordPlace (a .script) ((a .at - a .script) / 16)) in
+    rw (c .record-reads .ensures) (getD-any (recordReads (a .job .now) (recordPlace (a .script) ((a .at - a .script) / 16)) false) ((a .at - a .script) % 16) false true (omega arith))
 
 pub script-reads-spec : {M : Type 1} → statement M
 script-reads-spec =
