@@ -10,7 +10,7 @@ use borrow.Author.Tests.{lt-ltb, le-ltb}
 use lib.ListN.{length, getD, set, length-set}
 use lib.Seq.{getD-set-same, getD-set-other}
 use lib.IntN.{ℤ, pos}
-use Rattle.rules.specs.Level.{join, notAbove, public}
+use Rattle.rules.specs.Level.{join, notAbove}
 use Rattle.rules.specs.Answers.{valueOf}
 use Rattle.rules.specs.declared.numbers.Number.{Number}
 use Rattle.rules.specs.Script.{Expression}
@@ -89,36 +89,37 @@ module _ {words levels : List ℕ} {values : List ℤ} {places vars l : ℕ} (r 
         (does-next _ refl (record { tree = s .tree; level = s .level; variables = variables-set u (s .variables) lt at long; lines = s .lines }))))
 
   -- command 6
-  pub no-output : {a : Stepped} → notAbove l 0 ≡ false → a ≡ stepped 21 r
-      → Acts places vars (slices words levels values b) (slices words levels values b) r a (λ μ. Run.output pc μ (capacity b) e)
-  unfolding Run.output public
-  no-output h is = stays inside is (λ z. omega arith) (λ μ s. refuses flow _ (context-test pc x flows refl h b μ s) flow-number s)
+  pub no-output : (d : ℕ) {a : Stepped} → notAbove l d ≡ false → a ≡ stepped 21 r
+      → Acts places vars (slices words levels values b) (slices words levels values b) r a (λ μ. Run.output pc μ (capacity b) d e)
+  unfolding Run.output
+  no-output d h is = stays inside is (λ z. omega arith) (λ μ s. refuses flow _ (context-test pc x flows refl h b μ s) flow-number s)
 
-  pub over-output : {a : Stepped} → v .value ≡ Number.Over → notAbove l 0 ≡ true → a ≡ stepped 27 r
-      → Acts places vars (slices words levels values b) (slices words levels values b) r a (λ μ. Run.output pc μ (capacity b) e)
-  unfolding Run.output public
-  over-output none h is =
+  pub over-output : (d : ℕ) {a : Stepped} → v .value ≡ Number.Over → notAbove l d ≡ true → a ≡ stepped 27 r
+      → Acts places vars (slices words levels values b) (slices words levels values b) r a (λ μ. Run.output pc μ (capacity b) d e)
+  unfolding Run.output
+  over-output d none h is =
       stays inside is (λ z. omega arith)
       (λ μ s. passes flow (context-test pc x flows refl h b μ s) (given-stops _ (x .value b μ s ∙ ap valueOf none) overflow-number s))
 
-  pub full-output : {a : Stepped} → (u : ℤ) → v .value ≡ Number.Fits u → notAbove l 0 ≡ true → capacity b ≤ r .memory .lines → a ≡ stepped 24 r
-      → Acts places vars (slices words levels values b) (slices words levels values b) r a (λ μ. Run.output pc μ (capacity b) e)
-  unfolding Run.output public
-  full-output u has h full is =
+  pub full-output : (d : ℕ) {a : Stepped} → (u : ℤ) → v .value ≡ Number.Fits u → notAbove l d ≡ true → capacity b ≤ r .memory .lines → a ≡ stepped 24 r
+      → Acts places vars (slices words levels values b) (slices words levels values b) r a (λ μ. Run.output pc μ (capacity b) d e)
+  unfolding Run.output
+  full-output d u has h full is =
       stays inside is (λ z. omega arith) (λ μ s.
       passes flow (context-test pc x flows refl h b μ s)
       (given-passes _ (x .value b μ s ∙ ap valueOf has)
       (refuses boardFull _ (le-ltb (length (μ .lines)) (capacity b) (omega (arith, lines-many (s .lines)))) board-full-number s)))
 
-  pub did-output : {a : Stepped} → (u : ℤ) → v .value ≡ Number.Fits u → notAbove l 0 ≡ true → r .memory .lines < capacity b → (b′ : List ℕ)
-      → b′ ≡ replaced b (r .memory .lines) u → a ≡ went r (withLines (r .memory) (r .memory .lines + 1))
-      → Acts places vars (slices words levels values b) (slices words levels values b′) r a (λ μ. Run.output pc μ (capacity b) e)
-  unfolding Run.output withLine public
-  did-output u has h lt b′ put is =
-      let room : 4 * r .memory .lines + 4 ≤ length b = omega arith in
+  pub did-output : (d : ℕ) {a : Stepped} → (u : ℤ) → v .value ≡ Number.Fits u → notAbove l d ≡ true → r .memory .lines < capacity b → (b′ : List ℕ)
+      → b′ ≡ replaced b (r .memory .lines) (record { number = u; readers = d }) → a ≡ went r (withLines (r .memory) (r .memory .lines + 1))
+      → Acts places vars (slices words levels values b) (slices words levels values b′) r a (λ μ. Run.output pc μ (capacity b) d e)
+  unfolding Run.output withLine
+  did-output d u has h lt b′ put is =
+      let new : Run.Line = record { number = u; readers = d } in
+      let room : 5 * r .memory .lines + 5 ≤ length b = omega arith in
       rw put
-      (goes (withLines (r .memory) (r .memory .lines + 1)) is inside (λ fits. omega (arith, replaced-long b (r .memory .lines) u room))
-      (record { grown = omega arith; cells = record { same = λ y h. refl }; values = λ j k. refl; board = replaced-rest b (r .memory .lines) u room }) refl refl refl
+      (goes (withLines (r .memory) (r .memory .lines + 1)) is inside (λ fits. omega (arith, replaced-long b (r .memory .lines) new room))
+      (record { grown = omega arith; cells = record { same = λ y h. refl }; values = λ j k. refl; board = replaced-rest b (r .memory .lines) new room }) refl refl refl
       (λ μ s.
       passes flow (context-test pc x flows refl h b μ s)
       (given-passes _ (x .value b μ s ∙ ap valueOf has)
@@ -128,5 +129,5 @@ module _ {words levels : List ℕ} {values : List ℤ} {places vars l : ℕ} (r 
         tree = s .tree;
         level = s .level;
         variables = s .variables;
-        lines = lines-on b (r .memory .lines) u room _ (s .lines);
+        lines = lines-on b (r .memory .lines) new room _ (s .lines);
       }))))))

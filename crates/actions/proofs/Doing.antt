@@ -174,7 +174,7 @@ module _ {move : Place → Place → Option Place} {marks : List ℕ → List �
     {action : Run.Memory → Result Run.Memory} where
   -- stopped, with the memory m
   pub halts : (m : Memory) {n : ℕ} → a ≡ stepped n (withMemory r m) → (n ≡ 0 → ⊥) → m .cursor < places
-      → (4 * r .memory .lines ≤ length (x .board) → 4 * m .lines ≤ length (x′ .board)) → Kept places vars x x′ (r .memory .lines) (m .lines)
+      → (5 * r .memory .lines ≤ length (x .board) → 5 * m .lines ≤ length (x′ .board)) → Kept places vars x x′ (r .memory .lines) (m .lines)
       → ((k k′ : List ℕ) → marks k k′ → (μ : Run.Memory) → Shows places vars x (r .memory) μ → Does (Moved places vars x x′ k k′ (r .memory) m some μ) n μ (action μ))
       → Acting move marks places vars x x′ r a action
   halts m i ne inside room kept f =
@@ -191,7 +191,7 @@ module _ {move : Place → Place → Option Place} {marks : List ℕ → List �
 
   -- gone on, with the memory m
   pub moves-on : (m : Memory) → a ≡ went r m → m .cursor < places
-      → (4 * r .memory .lines ≤ length (x .board) → 4 * m .lines ≤ length (x′ .board)) → Kept places vars x x′ (r .memory .lines) (m .lines)
+      → (5 * r .memory .lines ≤ length (x .board) → 5 * m .lines ≤ length (x′ .board)) → Kept places vars x x′ (r .memory .lines) (m .lines)
       → ((k k′ : List ℕ) → marks k k′ → (μ : Run.Memory) → Shows places vars x (r .memory) μ
       → Does (Moved places vars x x′ k k′ (r .memory) m (move (μ .cursor)) μ) 0 μ (action μ))
       → Acting move marks places vars x x′ r a action
@@ -226,7 +226,7 @@ stills {places} {x = x} {x′} {m = m} {m′} {μ} {μ′} ew eu ef s s′ =
 -- an action that leaves the table alone
 module _ {places vars : ℕ} {x x′ : Slices} {r : Running} {a : Stepped} {action : Run.Memory → Result Run.Memory} where
   pub goes : (m : Memory) → a ≡ went r m → m .cursor < places
-      → (4 * r .memory .lines ≤ length (x .board) → 4 * m .lines ≤ length (x′ .board)) → Kept places vars x x′ (r .memory .lines) (m .lines)
+      → (5 * r .memory .lines ≤ length (x .board) → 5 * m .lines ≤ length (x′ .board)) → Kept places vars x x′ (r .memory .lines) (m .lines)
       → x′ .words ≡ x .words → m .used ≡ r .memory .used → m .free ≡ r .memory .free
       → ((μ : Run.Memory) → Shows places vars x (r .memory) μ → Does (Shows places vars x′ m) 0 μ (action μ)) → Acts places vars x x′ r a action
   goes m i inside room kept ew eu ef f =

@@ -4,10 +4,10 @@ use mathlib.Core.Path.{_≡_, refl, sym, ap, ap₂, subst, _∙_}
 use mathlib.Core.Bool.{Bool, true, false, _&&_}
 use mathlib.Core.Option.{some}
 use mathlib.Core.List.{List}
-use Prim.Native.Nat.{ℕ, zero, suc, _%_, _/_, _<_, _≤_}
+use Prim.Native.Nat.{ℕ, zero, suc, _<_, _≤_}
 use native.Mathlib.Omega.{arith}
 use lib.IntN.{ℤ}
-use lib.Dec.{leb, ltb, eqb}
+use lib.Dec.{ltb}
 use borrow.Author.Tests.{lt-ltb, le-ltb}
 use Rattle.rules.specs.Limits.{maxNodes}
 use Rattle.rules.specs.Number.{bits, signed}
@@ -18,7 +18,7 @@ use Rattle.rules.specs.Tree as Tree
 use Rattle.rules.specs.Tree.{Label, Forest, Place, to, up, sub, label, size, change, setValue}
 use Rattle.rules.specs.Script.{Expression}
 use Rattle.rules.specs.Run as Run
-use Rattle.rules.specs.Run.{Result, flow, absent, tableFull, stopNumber, need, withTree, current, secretIf, position, flowOf, mayTouch, newLabel, insertAt, removeAt}
+use Rattle.rules.specs.Run.{Result, flow, absent, tableFull, stopNumber, need, withTree, current, position, flowOf, mayTouch, newLabel, insertAt, removeAt}
 use Rattle.rules.proofs.Tests.{clash}
 use Rattle.rules.proofs.Number.{signed-bits}
 use Rattle.table.specs.Cells.{cells, sideOf, labelWith}
@@ -38,24 +38,6 @@ use Rattle.actions.specs.Acts.{Does, Kept, shifted, closedUp, Same, Beco
 use Rattle.actions.proofs.Doing.{flow-number, absent-number, table-full-number, overflow-number, does-next, does-stop, passes, refuses, given-passes, given-stops, does-as, halts, moves-on, stays-by, stays}
 use Rattle.actions.proofs.Evaluation.{flow-shown}
 use Rattle.actions.proofs.Touched.{there, nowhere, Under, under, no-parent, position-is}
-
--- a mark's levels are its two binary digits
-pub odd-level : (m : ℕ) → m % 2 ≡ secretIf (eqb (m % 2) 1)
-unfolding secretIf secret public
-odd-level m = pick (m % 2) (omega arith)
-  where
-    pick : (d : ℕ) → d < 2 → d ≡ secretIf (eqb d 1)
-    pick zero l = refl
-    pick (suc zero) l = refl
-    pick (suc (suc d)) l = absurd (omega arith)
-
-pub half-level : (m : ℕ) → m ≤ 3 → m / 2 ≡ secretIf (leb 2 m)
-unfolding secretIf secret public
-half-level zero l = refl
-half-level (suc zero) l = refl
-half-level (suc (suc zero)) l = refl
-half-level (suc (suc (suc zero))) l = refl
-half-level (suc (suc (suc (suc m)))) l = absurd (omega arith)
 
 -- the memory with other places that lead to the free ones
 abbrev pub withSpace : Memory → ℕ → ℕ → Memory
@@ -141,17 +123,17 @@ module _ {P : Run.Memory → Type 0} {n : ℕ} {μ : Run.Memory} where
   both-passed false q x e d = clash e refl
 
 -- insertions
-abbrev pub Inserts : ℕ → ℕ → ℕ → ℕ → Expression → Run.Memory → Result Run.Memory
-Inserts pc side mark places e μ = insertAt pc μ places (to (sideOf side) (μ .cursor)) (up (to (sideOf side) (μ .cursor))) mark e
+abbrev pub Inserts : ℕ → ℕ → ℕ → ℕ → ℕ → Expression → Run.Memory → Result Run.Memory
+Inserts pc side content list places e μ = insertAt pc μ places (to (sideOf side) (μ .cursor)) (up (to (sideOf side) (μ .cursor))) content list e
 
-module _ (r : Running) (pc side mark : ℕ) (e : Expression) {places vars above : ℕ} {w l b : List ℕ} {v : List ℤ}
+module _ (r : Running) (pc side content list : ℕ) (e : Expression) {places vars above : ℕ} {w l b : List ℕ} {v : List ℤ}
     (inside : r .memory .cursor < places) (on : ParentOn w places (r .memory) side above) where
-  pub insert-absent : {a : Stepped} → places ≤ above → a ≡ stepped 22 r → Acting (shifted side) Same places vars (slices w l v b) (slices w l v b) r a (Inserts pc side mark places e)
+  pub insert-absent : {a : Stepped} → places ≤ above → a ≡ stepped 22 r → Acting (shifted side) Same places vars (slices w l v b) (slices w l v b) r a (Inserts pc side content list places e)
   unfolding insertAt
   insert-absent ge is =
       stays inside is (λ z. omega arith)
       (λ μ s.
-      does-as (ap (λ o. insertAt pc μ places (to (sideOf side) (μ .cursor)) o mark e) (no-parent (sideOf side) (s .tree) (on .leads _ _ (s .tree)) ge))
+      does-as (ap (λ o. insertAt pc μ places (to (sideOf side) (μ .cursor)) o content list e) (no-parent (sideOf side) (s .tree) (on .leads _ _ (s .tree)) ge))
       (does-stop absent absent-number s))
 
   module _ {old c : ℕ} {ok : Bool} (beside : Beside w places (r .memory) side old) (at : c ≡ join pc (levelIn (r .memory))) (lt : above < places)
@@ -170,10 +152,10 @@ module _ (r : Running) (pc side mark : ℕ) (e : Expression) {places vars above 
 
     -- the insertion under that parent
     as-under : {μ : Run.Memory} (s : Shows places vars (slices w l v b) (r .memory) μ)
-        → Inserts pc side mark places e μ ≡ insertAt pc μ places (to (sideOf side) (μ .cursor)) (some (parent s .place)) mark e
-    as-under {μ} s = ap (λ o. insertAt pc μ places (to (sideOf side) (μ .cursor)) o mark e) (parent s .is)
+        → Inserts pc side content list places e μ ≡ insertAt pc μ places (to (sideOf side) (μ .cursor)) (some (parent s .place)) content list e
+    as-under {μ} s = ap (λ o. insertAt pc μ places (to (sideOf side) (μ .cursor)) o content list e) (parent s .is)
 
-    pub insert-refused : {a : Stepped} → ok ≡ false → a ≡ stepped 21 r → Acting (shifted side) Same places vars (slices w l v b) (slices w l v b) r a (Inserts pc side mark places e)
+    pub insert-refused : {a : Stepped} → ok ≡ false → a ≡ stepped 21 r → Acting (shifted side) Same places vars (slices w l v b) (slices w l v b) r a (Inserts pc side content list places e)
     unfolding insertAt
     insert-refused shut is =
         stays inside is (λ z. omega arith) (λ μ s. does-as (as-under s) (both-refused _ _ _ (sym (gated s) ∙ shut) flow-number s))
@@ -181,7 +163,7 @@ module _ (r : Running) (pc side mark : ℕ) (e : Expression) {places vars above 
     -- y is the value and the level of the expression e
     module _ (may-go : ok ≡ true) {y : Valued} (x : Evaluates w l v places vars (r .memory) e y) where
       pub insert-over : {a : Stepped} → y .value ≡ Number.Over → a ≡ stepped 27 r
-          → Acting (shifted side) Same places vars (slices w l v b) (slices w l v b) r a (Inserts pc side mark places e)
+          → Acting (shifted side) Same places vars (slices w l v b) (slices w l v b) r a (Inserts pc side content list places e)
       unfolding insertAt
       insert-over none is =
           stays inside is (λ z. omega arith)
@@ -198,7 +180,7 @@ module _ (r : Running) (pc side mark : ℕ) (e : Expression) {places vars above 
         result s = added _ _ (s .tree) (on .leads _ _ (s .tree))
 
         pub insert-full : {a : Stepped} → places ≤ z → a ≡ stepped 23 (withMemory r (withSpace (r .memory) free used))
-            → Acting (shifted side) Same places vars (slices w l v b) (slices w′ l v b) r a (Inserts pc side mark places e)
+            → Acting (shifted side) Same places vars (slices w l v b) (slices w′ l v b) r a (Inserts pc side content list places e)
         unfolding insertAt
         insert-full i is =
             halts _ is (λ z. omega arith) inside (λ h. h) (words-only behind)
@@ -213,8 +195,8 @@ module _ (r : Running) (pc side mark : ℕ) (e : Expression) {places vars above 
               behind = λ y h. rw q;
             })))))
 
-        pub inserted : {a : Stepped} → ((μ : Run.Memory) → Shows places vars (slices w l v b) (r .memory) μ → new ≡ newLabel pc μ mark e u) → z < places
-            → a ≡ went r (withSpace (r .memory) free used) → Acting (shifted side) Same places vars (slices w l v b) (slices w′ l v b) r a (Inserts pc side mark places e)
+        pub inserted : {a : Stepped} → ((μ : Run.Memory) → Shows places vars (slices w l v b) (r .memory) μ → new ≡ newLabel pc μ content list e u) → z < places
+            → a ≡ went r (withSpace (r .memory) free used) → Acting (shifted side) Same places vars (slices w l v b) (slices w′ l v b) r a (Inserts pc side content list places e)
         unfolding insertAt withTree
         inserted labels i is =
             moves-on _ is inside (λ h. h) (words-only behind)
@@ -239,17 +221,17 @@ module _ {w l : List ℕ} {v : List ℤ} {places vars k : ℕ} (r : Running) {e 
   told has i = ap signed i ∙ signed-bits (record { sfits = subst MayFit has (x .fits) })
 
   -- the label of a new node at the level c
-  pub new-label : {u : ℤ} {n c p q : ℕ} (mark : ℕ) → y .value ≡ Number.Fits u → n ≡ bits u → c ≡ join pc (levelIn (r .memory))
-      → p ≡ join k (secretIf (eqb (mark % 2) 1)) → q ≡ join c (secretIf (leb 2 mark)) → (μ : Run.Memory)
-      → Shows places vars (slices w l v b) (r .memory) μ → labelWith n c p q ≡ newLabel pc μ mark e u
+  pub new-label : {u : ℤ} {n c p q : ℕ} (d f : ℕ) → y .value ≡ Number.Fits u → n ≡ bits u → c ≡ join pc (levelIn (r .memory))
+      → p ≡ join k d → q ≡ join c f → (μ : Run.Memory)
+      → Shows places vars (slices w l v b) (r .memory) μ → labelWith n c p q ≡ newLabel pc μ d f e u
   unfolding newLabel
-  new-label mark has i at ip iq μ s =
+  new-label d f has i at ip iq μ s =
       λ j.
       record {
         value = told has i j;
         existence = position-is pc at s j;
-        content = (ip ∙ ap (λ z. join z (secretIf (eqb (mark % 2) 1))) (flows ∙ sym (flow-shown pc x b μ s))) j;
-        structure = (iq ∙ ap (λ z. join z (secretIf (leb 2 mark))) (position-is pc at s)) j;
+        content = (ip ∙ ap (λ z. join z d) (flows ∙ sym (flow-shown pc x b μ s))) j;
+        structure = (iq ∙ ap (λ z. join z f) (position-is pc at s)) j;
       }
 
   -- writes to a node of the content c

@@ -10,3 +10,4 @@ mod Moved
 mod Touched
 mod Inserted
 mod Entered
+mod Digits

@@ -61,7 +61,7 @@ pub record Kept (places vars : ℕ) (x x′ : Slices) (n n′ : ℕ) : Type 0 wh
   pub grown : n ≤ n′
   pub cells : Behind places (cells (x .words)) (cells (x′ .words))
   pub values : (j : ℕ) → vars ≤ j → getD (x′ .values) j (pos 0) ≡ getD (x .values) j (pos 0)
-  pub board : drop (4 * n′) (x′ .board) ≡ drop (4 * n′) (x .board)
+  pub board : drop (5 * n′) (x′ .board) ≡ drop (5 * n′) (x .board)
 
 -- where the node at q stands after an action with the cursor at c: that moves none; that inserts or removes one on a side of the cursor's
 abbrev pub keep : Place → Place → Option Place
@@ -84,7 +84,7 @@ Becomes j j′ k k′ = (k ≡ j) × (k′ ≡ j′)
 pub record Acting (move : Place → Place → Option Place) (marks : List ℕ → List ℕ → Type 0) (places vars : ℕ) (x x′ : Slices) (r : Running) (a : Stepped)
     (action : Run.Memory → Result Run.Memory) : Type 0 where
   pub cursor : a .running .memory .cursor < places
-  pub room : 4 * r .memory .lines ≤ length (x .board) → 4 * a .running .memory .lines ≤ length (x′ .board)
+  pub room : 5 * r .memory .lines ≤ length (x .board) → 5 * a .running .memory .lines ≤ length (x′ .board)
   pub kept : Kept places vars x x′ (r .memory .lines) (a .running .memory .lines)
   pub within : (n : ℕ) → r .at < n → a .running .at ≤ n
   pub counted : a .stop ≡ 0 → a .running .left ≡ r .left - 1

@@ -31,9 +31,9 @@ pub record Variables (levels : List ℕ) (values : List ℤ) (n : ℕ) (vs : Lis
   pub value : (i : ℕ) → i < n → (variableAt vs i) .value ≡ getD values i (pos 0)
 
 -- the board starts with the bytes of n lines
-pub record Lines (board : List ℕ) (n : ℕ) (ls : List ℤ) : Type 0 where
-  pub fits : 4 * n ≤ length board
-  pub are : take (4 * n) board ≡ spell ls
+pub record Lines (board : List ℕ) (n : ℕ) (ls : List Run.Line) : Type 0 where
+  pub fits : 5 * n ≤ length board
+  pub are : take (5 * n) board ≡ spell ls
 
 -- the cursor's level, the low byte of its word
 abbrev pub levelIn : Memory → ℕ

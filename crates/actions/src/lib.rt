@@ -6,4 +6,5 @@ pub mod marks;
 pub mod memory;
 pub mod moves;
 pub mod nodes;
+pub mod sets;
 pub mod variables;

@@ -5,7 +5,6 @@ use super::control::halt;
 use super::control::onward;
 use super::memory::level_of;
 use super::memory::wide;
-use rules::levels::SECRET;
 use rules::levels::join;
 use rules::levels::not_above;
 use rules::limits::ABSENT;
@@ -18,7 +17,7 @@ ghost use mathlib.Core.Option.{Option};
 ghost use Prim.Native.Nat.{ℕ, _≤_, _<_};
 ghost use lib.IntN.{ℤ};
 ghost use Rattle.rules.specs.Tree.{Forest, Place, leftOf};
-ghost use Rattle.rules.specs.Level.{secret};
+ghost use Rattle.rules.specs.Level as Level;
 ghost use Rattle.rules.specs.Run.{moveTo, goTo, goToLast};
 ghost use Rattle.table.specs.Cells.{Within};
 ghost use Rattle.actions.specs.Shows.{slices};
@@ -40,13 +39,14 @@ fn move_to(pc: u8, r: Running, place: usize, level: u8) -> Stepped
     onward(r, next)
 }
 
-// Command 16, cover: the cursor level becomes 1.
-pub fn raise(places: usize, pc: u8, r: Running) -> Stepped
+// Command 16, cover: a set is joined to the cursor level.
+pub fn raise(set: u8, places: usize, pc: u8, r: Running) -> Stepped
     requires { ⌜ Timely r × (r .memory .cursor < places) ⌝ }
     ensures { λ a. ⌜ ((w l : List ℕ) (v : List ℤ) (b : List ℕ) (vars : ℕ)
-        → Acts places vars (slices w l v b) (slices w l v b) r a (λ μ. moveTo pc μ (μ .cursor) secret)) ⌝ }
+        → Acts places vars (slices w l v b) (slices w l v b) r a (λ μ. moveTo pc μ (μ .cursor) (Level.join (μ .level) set))) ⌝ }
 {
-    move_to(pc, r, r.memory.cursor, SECRET)
+    let m = r.memory;
+    move_to(pc, r, m.cursor, join(level_of(m), set))
 }
 
 // To where a move leads, if that is a place.

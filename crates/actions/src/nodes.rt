@@ -22,14 +22,12 @@ use table::shape;
 use table::walk;
 ghost use mathlib.Core.Path.{_≡_};
 ghost use mathlib.Core.List.{List};
-ghost use Prim.Native.Nat.{ℕ, _*_, _%_, _≤_, _<_};
-ghost use lib.Dec.{eqb, leb};
+ghost use Prim.Native.Nat.{ℕ, _*_, _≤_, _<_};
 ghost use lib.IntN.{ℤ};
 ghost use lib.ListN.{length};
 ghost use Rattle.rules.specs.Limits.{maxNodes};
 ghost use Rattle.rules.specs.Tree.{to, up};
 ghost use Rattle.rules.specs.Run as Run;
-ghost use Rattle.rules.specs.Run.{secretIf};
 ghost use Rattle.rules.specs.Script.{Expression};
 ghost use Rattle.table.specs.Cells.{cellSize, Within, sideOf};
 ghost use Rattle.actions.specs.Shows.{slices};
@@ -70,35 +68,21 @@ fn may_add(words: &[u32], places: usize, m: Memory, above: usize, old: usize, c:
     may_touch(words, places, m, c, old)
 }
 
-// What a mark joins to a new node's content: 1 where it is odd.
-fn content_mark(mark: u8) -> u8
-    ensures { λ r. ⌜ r ≡ secretIf (eqb (mark % 2) 1) ⌝ }
-{
-    mark % 2
-}
-
-// What a mark joins to a new node's structure level: 1 where it is 2 or 3.
-fn structure_mark(mark: u8) -> u8
-    requires { ⌜ mark ≤ 3 ⌝ }
-    ensures { λ r. ⌜ r ≡ secretIf (leb 2 mark) ⌝ }
-{
-    mark / 2
-}
-
-// Commands 11 and 12: a new node on a side, in front of what stands there, with the expression whose value and level are e.
+// Commands 11 and 12: a new node on a side, in front of what stands there, with the expression whose value and level are e; its content and its list join a set each.
 pub fn insert_on(
     e: Valued,
-    mark: u8,
+    content: u8,
+    list: u8,
     side: usize,
     words: &mut [u32],
     places: usize,
     pc: u8,
     r: Running,
 ) -> Stepped
-    requires { ⌜ Timely r × (Within (now words) places (r .memory .cursor) × ((side < 2) × (mark ≤ 3))) ⌝ }
+    requires { ⌜ Timely r × (Within (now words) places (r .memory .cursor) × (side < 2)) ⌝ }
     ensures { λ a. ⌜ ((l b : List ℕ) (v : List ℤ) (vars : ℕ) (x : Expression) → Evaluates (now (words .entry)) l v places vars (r .memory) x e
         → Acting (shifted side) Same places vars (slices (now (words .entry)) l v b) (slices (now (words .exit)) l v b) r a
-        (λ μ. Run.insertAt pc μ places (to (sideOf side) (μ .cursor)) (up (to (sideOf side) (μ .cursor))) mark x)) ⌝ }
+        (λ μ. Run.insertAt pc μ places (to (sideOf side) (μ .cursor)) (up (to (sideOf side) (μ .cursor))) content list x)) ⌝ }
 {
     let m = r.memory;
     let above = parent_on(words, places, m, side);
@@ -117,8 +101,8 @@ pub fn insert_on(
     let new = shape::NewNode {
         value: numbers::bits(z),
         existence: c,
-        content: join(flow(e.level, pc, m), content_mark(mark)),
-        structure: join(c, structure_mark(mark)),
+        content: join(flow(e.level, pc, m), content),
+        structure: join(c, list),
     };
     let got = shape::add(words, places, m.used, m.free, m.cursor, side, above, new);
     let mut next = m;

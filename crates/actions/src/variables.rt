@@ -4,7 +4,6 @@ use super::control::Stepped;
 use super::control::halt;
 use super::control::onward;
 use super::evaluate::Valued;
-use rules::levels::PUBLIC;
 use rules::levels::join;
 use rules::levels::not_above;
 use rules::limits::BOARD_FULL;
@@ -64,28 +63,29 @@ fn low_byte(w: u32) -> u8
     (w % 256) as u8
 }
 
-// Line n: four bytes, the lowest first.
-fn put_line(lines: &mut [u8], n: usize, v: i32)
-    requires { ⌜ 4 * n + 4 ≤ length (now lines) ⌝ }
-    ensures { λ _. ⌜ now (lines .exit) ≡ replaced (now (lines .entry)) n v ⌝ }
+// Line n: four bytes, the lowest first, and its readers.
+fn put_line(lines: &mut [u8], n: usize, v: i32, readers: u8)
+    requires { ⌜ 5 * n + 5 ≤ length (now lines) ⌝ }
+    ensures { λ _. ⌜ now (lines .exit) ≡ replaced (now (lines .entry)) n (record { number = v; readers = readers }) ⌝ }
 {
     let w = bits(v);
-    let at = 4 * n;
+    let at = 5 * n;
     lines[at] = low_byte(w);
     lines[at + 1] = low_byte(w / 256);
     lines[at + 2] = low_byte(w / 65536);
     lines[at + 3] = low_byte(w / 16777216);
+    lines[at + 4] = readers;
 }
 
-// Command 6: a board line, the expression whose value and level are e.
-pub fn output(e: Valued, lines: &mut [u8], pc: u8, r: Running) -> Stepped
-    requires { ⌜ Timely r × (4 * r .memory .lines ≤ length (now lines)) ⌝ }
+// Command 6: a board line for some readers, the expression whose value and level are e.
+pub fn output(e: Valued, readers: u8, lines: &mut [u8], pc: u8, r: Running) -> Stepped
+    requires { ⌜ Timely r × (5 * r .memory .lines ≤ length (now lines)) ⌝ }
     ensures { λ a. ⌜ ((w l : List ℕ) (v : List ℤ) (places vars : ℕ) (x : Expression) → r .memory .cursor < places → Evaluates w l v places vars (r .memory) x e
         → Acts places vars (slices w l v (now (lines .entry))) (slices w l v (now (lines .exit))) r a
-        (λ μ. Run.output pc μ (capacity (now (lines .entry))) x)) ⌝ }
+        (λ μ. Run.output pc μ (capacity (now (lines .entry))) readers x)) ⌝ }
 {
     let m = r.memory;
-    if !not_above(join(e.level, pc), PUBLIC) {
+    if !not_above(join(e.level, pc), readers) {
         return halt(r, FLOW);
     }
     let v = e.value;
@@ -93,10 +93,10 @@ pub fn output(e: Valued, lines: &mut [u8], pc: u8, r: Running) -> Stepped
         return halt(r, OVERFLOW);
     };
     let n = m.lines;
-    if n >= lines.len() / 4 {
+    if n >= lines.len() / 5 {
         return halt(r, BOARD_FULL);
     }
-    put_line(lines, n, z);
+    put_line(lines, n, z, readers);
     let mut next = m;
     next.lines = n + 1;
     onward(r, next)

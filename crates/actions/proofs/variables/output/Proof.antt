@@ -10,20 +10,20 @@ use Rattle.actions.proofs.variables.output.Tie as tie
 
 returns : tie.Need-returns
 returns c = λ w l v places vars x inside e.
-    no-output _ (c .before .before .before .before .before .before .args .pc) e inside (c .before .before .before .join .ensures) _ (refused (c .before .before .not-above .ensures) (c .before .if1 .taken)) (c .halt .ensures)
+    no-output _ (c .before .before .before .before .before .before .args .pc) e inside (c .before .before .before .join .ensures) _ (c .before .before .before .before .before .before .args .readers) (refused (c .before .before .not-above .ensures) (c .before .if1 .taken)) (c .halt .ensures)
 
 returns-2 : tie.Need-returns-2
 returns-2 c = λ w l v places vars x inside e.
-    over-output _ (c .before .before .before .before .before .before .before .before .args .pc) e inside (c .before .before .before .before .before .join .ensures) _ (c .before .enum-told .given .1) (allowed (c .before .before .before .before .not-above .ensures) (c .before .before .before .if1 .left)) (c .halt2 .ensures)
+    over-output _ (c .before .before .before .before .before .before .before .before .args .pc) e inside (c .before .before .before .before .before .join .ensures) _ (c .before .before .before .before .before .before .before .before .args .readers) (c .before .enum-told .given .1) (allowed (c .before .before .before .before .not-above .ensures) (c .before .before .before .if1 .left)) (c .halt2 .ensures)
 
 returns-3 : tie.Need-returns-3
 returns-3 c = λ w l v places vars x inside e.
-    full-output _ (c .before .before .before .before .before .before .before .before .before .before .args .pc) e inside (c .before .before .before .before .before .before .before .join .ensures) _ _ (c .before .before .before .v .given .1) (allowed (c .before .before .before .before .before .before .not-above .ensures) (c .before .before .before .before .before .if1 .left)) (omega (arith, c .before .if2 .taken))
+    full-output _ (c .before .before .before .before .before .before .before .before .before .before .args .pc) e inside (c .before .before .before .before .before .before .before .join .ensures) _ (c .before .before .before .before .before .before .before .before .before .before .args .readers) _ (c .before .before .before .v .given .1) (allowed (c .before .before .before .before .before .before .not-above .ensures) (c .before .before .before .before .before .if1 .left)) (omega (arith, c .before .if2 .taken))
     (c .halt3 .ensures)
 
 returns-4 : tie.Need-returns-4
 returns-4 c = λ w l v places vars x inside e.
-    did-output _ (c .before .before .before .before .before .before .before .before .before .before .before .before .before .before .args .pc) e inside (c .before .before .before .before .before .before .before .before .before .before .before .join .ensures) _ _ (fits-read e (c .before .before .before .before .before .before .before .v .given .1)) (allowed (c .before .before .before .before .before .before .before .before .before .before .not-above .ensures) (c .before .before .before .before .before .before .before .before .before .if1 .left))
+    did-output _ (c .before .before .before .before .before .before .before .before .before .before .before .before .before .before .args .pc) e inside (c .before .before .before .before .before .before .before .before .before .before .before .join .ensures) _ (c .before .before .before .before .before .before .before .before .before .before .before .before .before .before .args .readers) _ (fits-read e (c .before .before .before .before .before .before .before .v .given .1)) (allowed (c .before .before .before .before .before .before .before .before .before .before .not-above .ensures) (c .before .before .before .before .before .before .before .before .before .if1 .left))
     (omega (arith, c .before .before .before .before .before .if2 .left)) _ (c .before .before .before .put-line .ensures) (c .onward .ensures)
 
 pub output-spec : {M : Type 1} → statement M
