@@ -12,7 +12,7 @@ use Rattle.rules.specs.Tree.{Forest, Place}
 use Rattle.rules.specs.Bytes.{nodeCount, variableCount, scriptAt, recordCount}
 use Rattle.rules.specs.Check as Check
 use Rattle.rules.specs.Check.{require, checkBytes, code}
-use Rattle.rules.specs.Job.{script}
+use Rattle.rules.specs.Job.{script, scriptBy}
 use Rattle.rules.specs.Run.{Buffers, Ending, finished, stopped, Ended, run}
 use Rattle.rules.specs.Outcome as Rules
 use Rattle.rules.specs.Outcome.{endingNumber, endingIndex, runJob, boardLines, checkJobBy, checkJob, andThen, budgetRule, bufferRule, begin}
@@ -138,7 +138,7 @@ module _ (b : List ℕ) (budget places room : ℕ) (p p′ : List ℕ) (x : Slic
     large = enough _ _ _ _ (rw least (passed .1))
 
     pub begun : cellSize * min places maxNodes ≤ length (x .words) → Begun b l p′ budget x places
-    unfolding script layoutOf
+    unfolding scriptBy layoutOf
     begun room-for =
         let r = right b bytes in
         let w = script-plan b p p′ r (a .whole bytes) in

@@ -5,20 +5,20 @@ use mathlib.Core.Bool.{Bool, true, false, cond}
 use mathlib.Core.Logic.{_⊎_, inl, inr}
 use mathlib.Core.Option.{Option, none, some, Option·elim}
 use mathlib.Core.List.{List, [], _∷_, map, headD}
-use Prim.Native.Nat.{ℕ, zero, suc, _+_, _-_, _*_, _<_, _≤_}
+use Prim.Native.Nat.{ℕ, zero, suc, _+_, _-_, _*_, _%_, _<_, _≤_}
 use native.Mathlib.Omega.{arith}
 use lib.ListN.{length, getD}
 use lib.IntN.{ℤ}
 use lib.Dec.{eqb, ltb}
 use borrow.Author.Tests.{eq-eqb, eqb-true, ltb-true, ltb-false}
 use Rattle.rules.specs.Limits.{maxDepth, maxNodes, maxRecords, recordSize, commandCount}
-use Rattle.rules.specs.Level.{secret}
+use Rattle.rules.specs.Level.{join}
 use Rattle.rules.specs.Tree.{Place, child, sibling, root, to, up, leftOf}
 use Rattle.rules.specs.Bytes.{byte, recordPlace}
 use Rattle.rules.specs.Blocks.{branches, opens, closes, goesTo, nest}
 use Rattle.rules.specs.Check.{recordRule}
-use Rattle.rules.specs.Job.{scriptOf, commandOf, expressionOf, listed}
-use Rattle.rules.specs.Script.{Expression, Command, act, Action, Row, rows, rowOf, commands, fetch, numberAt, number, actionNumber}
+use Rattle.rules.specs.Job.{scriptOf, scriptFrom, commandOf, commandBy, setAt, expressionOf, listed}
+use Rattle.rules.specs.Script.{Expression, Command, act, Action, Row, rows, rowOf, contentSet, listSet, coverSet, commands, fetch, numberAt, number, actionNumber}
 use Rattle.rules.specs.Run as Run
 use Rattle.rules.specs.Run.{State, Saved, Block, Buffers, Result, next, context, value, levelOf, relocate, relocated, onBlock, stepped, onward, enterIf, enterWhile, enterBack, carried, effect, step}
 use Rattle.rules.proofs.Ranges.{record-in, RecordIn, FieldsIn, ExpressionIn, OperandIn}
@@ -30,7 +30,7 @@ use Rattle.rules.proofs.Relocate.{remembers}
 use Rattle.rules.proofs.Control.{returns-at, Valid}
 use Rattle.rules.proofs.Tests.{Test, holds, fails, test, clash}
 use Rattle.job.specs.declared.records.Fields.{Fields}
-use Rattle.job.specs.Fields.{fieldsOf, expressionFrom, commandFrom}
+use Rattle.job.specs.Fields.{fieldsOf, expressionFrom, commandsFrom, commandFrom}
 use Rattle.job.specs.Plan.{codeOf, nextOf, endMark, endBack, endCode, planCode}
 use Rattle.job.proofs.Words.{code-entry, next-entry, code-mark}
 use Rattle.table.specs.Cells.{sideOf, Within}
@@ -73,13 +73,13 @@ one-of-four k b l m = pick (k - b) refl
 
 module _ (h : Held) (sc : Script h) where
   script-length : length (scriptIn h) ≡ h .records
-  unfolding scriptOf
+  unfolding scriptFrom
   script-length = listed-length _ (h .records) 0
 
   module _ (i : ℕ) (inside : i < h .records) where
     -- the record's command, by its fields
     spelled : fetch (scriptIn h) i ≡ commandFrom (fieldsAt h i)
-    unfolding scriptOf fetch commandFrom fieldsOf expressionFrom commandOf expressionOf
+    unfolding scriptFrom fetch commandFrom commandsFrom fieldsOf expressionFrom commandBy setAt expressionOf
     spelled = listed-from-zero (λ (k : ℕ). commandOf (h .bytes) (recordPlace (h .base) k)) (act Action.skip) (h .records) i inside
 
     -- the operands that its expression reads, if it has one
@@ -175,9 +175,9 @@ module _ (h : Held) (sc : Script h) where
           }
 
       -- the command, by its number
-      numbered : (k : ℕ) (d : Command) → c ≡ k → getD (commands (f .target) (expressionFrom f)) k (act Action.skip) ≡ d → commandFrom f ≡ d
+      numbered : (k : ℕ) (d : Command) → c ≡ k → getD (commandsFrom f) k (act Action.skip) ≡ d → commandFrom f ≡ d
       unfolding commandFrom
-      numbered k d e w = ap (λ (n : ℕ). getD (commands (f .target) (expressionFrom f)) n (act Action.skip)) (sym coded ∙ e) ∙ w
+      numbered k d e w = ap (λ (n : ℕ). getD (commandsFrom f) n (act Action.skip)) (sym coded ∙ e) ∙ w
 
       jump-within : j ≤ h .records
       jump-within = rw goal (goes-within (numberAt (scriptIn h)) (h .records) (sc .blocks) (r .at) inside)
@@ -185,7 +185,7 @@ module _ (h : Held) (sc : Script h) where
       -- 3 and 5
       module _ (a : Stepped) where
         pub elses : c ≡ 3 → Jumps r j a → Steps h x x k k r a
-        unfolding commands carried
+        unfolding commands commandsFrom carried
         elses key p =
             controlling a (passes-keeps (p .passes)) (rw (p .at) jump-within) (λ lent s l v st.
             subst (Does (Stands (h .places) (h .vars) x k (a .running)) (a .stop) s)
@@ -195,7 +195,7 @@ module _ (h : Held) (sc : Script h) where
         -- an end whose block remembers nothing
         pub ends : c ≡ 5 → ((s : State) → Valid (scriptIn h) s → s .at ≡ r .at → (b : Block) (bs : List Block) → s .blocks ≡ b ∷ bs → b .saved ≡ none)
             → Leaves r j a → Steps h x x k k r a
-        unfolding commands carried
+        unfolding commands commandsFrom carried
         ends key plain p =
             controlling a (passes-keeps (p .passes)) (rw (p .at) jump-within) (λ lent s l v st.
             subst (Does (Stands (h .places) (h .vars) x k (a .running)) (a .stop) s)
@@ -214,7 +214,7 @@ module _ (h : Held) (sc : Script h) where
           (ev : Evaluates (x .words) (x .levels) (x .values) (h .places) (h .vars) (r .memory) (expressionFrom f) v)
         where
           pub ifs : c ≡ 2 → Enters enterIf r v j a → Steps h x x k k r a
-          unfolding commands carried number opens branches
+          unfolding commands commandsFrom carried number opens branches
           ifs key n =
               controlling a (n .keeps) (n .within (h .records) jump-within inside) (λ lent s l vl st.
               subst (Does (Stands (h .places) (h .vars) x k (a .running)) (a .stop) s)
@@ -223,7 +223,7 @@ module _ (h : Held) (sc : Script h) where
               (room-for s vl (st .at) _ (numbered 2 _ key refl) refl) st))
 
           pub whiles : c ≡ 4 → Enters enterWhile r v j a → Steps h x x k k r a
-          unfolding commands carried number opens branches
+          unfolding commands commandsFrom carried number opens branches
           whiles key n =
               controlling a (n .keeps) (n .within (h .records) jump-within inside) (λ lent s l vl st.
               subst (Does (Stands (h .places) (h .vars) x k (a .running)) (a .stop) s)
@@ -259,7 +259,7 @@ module _ (h : Held) (sc : Script h) where
       -- 17
       pub backs : (v : Valued) (a : Stepped) → Evaluates (x .words) (x .levels) (x .values) (h .places) (h .vars) (r .memory) (expressionFrom f) v
           → (k′ : List ℕ) → c ≡ 17 → Saves (h .places) r v j k k′ a → Steps h x x k k′ r a
-      unfolding commands carried number opens branches
+      unfolding commands commandsFrom carried number opens branches
       backs v a ev k′ key n =
           staying k′ a (n .stays) (λ lent s l vl st.
           subst (Does (Stands (h .places) (h .vars) x k′ (a .running)) (a .stop) s)
@@ -271,7 +271,7 @@ module _ (h : Held) (sc : Script h) where
       pub comes-back : (a : Stepped) (k′ : List ℕ) → c ≡ 5
           → ((s : State) → Valid (scriptIn h) s → s .at ≡ r .at → (b : Block) × (bs : List Block) × (q : Saved) × (s .blocks ≡ b ∷ bs) × (b .saved ≡ some q))
           → Restores (h .places) r j k k′ a → Steps h x x k k′ r a
-      unfolding commands carried
+      unfolding commands commandsFrom carried
       comes-back a k′ key inner n =
           staying k′ a (n .stays) (λ lent s l v st.
           let i = inner s v (st .at) in
@@ -284,7 +284,7 @@ module _ (h : Held) (sc : Script h) where
         where
           -- the action α of the number n is what was done
           by-number : (k′ : List ℕ) {marks : List ℕ → List ℕ → Type 0} (n : ℕ) (α : Action) (action : Run.Memory → Result Run.Memory) → c ≡ n
-              → getD (commands (f .target) (expressionFrom f)) n (act Action.skip) ≡ act α
+              → getD (commandsFrom f) n (act Action.skip) ≡ act α
               → ((lent : Buffers) (μ : Run.Memory) → Lent h x lent → effect lent pc μ α ≡ action μ) → length k′ ≡ length k → marks k k′
               → Acting (relocate α) marks (h .places) (h .vars) x x′ r a action → Steps h x x′ k k′ r a
           unfolding carried relocated
@@ -295,36 +295,36 @@ module _ (h : Held) (sc : Script h) where
               ∙ ap (onward s (relocated s α) (suc (s .at))) (is lent (s .memory) l))
 
           pub skips : c ≡ 0 → Acts (h .places) (h .vars) x x′ r a (λ μ. next μ) → Steps h x x′ k k r a
-          unfolding commands effect relocate
+          unfolding commands commandsFrom effect relocate
           skips key = by-number k 0 Action.skip _ key refl (λ lent μ l. refl) refl refl
 
           pub assigns : (i : ℕ) → i ≡ f .target → c ≡ 1
               → Acts (h .places) (h .vars) x x′ r a (λ μ. Run.assign pc μ i (Run.variableAt (μ .variables) i) (expressionFrom f)) → Steps h x x′ k k r a
-          unfolding commands effect relocate
+          unfolding commands commandsFrom effect relocate
           assigns i is key = by-number k 1 (Action.assign _ _) _ key refl (λ lent μ l. rw is) refl refl
 
-          pub outputs : c ≡ 6
+          pub outputs : (d : ℕ) → d ≡ f .target % 256 → c ≡ 6
               → Acts (h .places) (h .vars) x x′ r a
-              (λ μ. Run.output pc μ (capacity (x .board)) (expressionFrom f))
+              (λ μ. Run.output pc μ (capacity (x .board)) d (expressionFrom f))
               → Steps h x x′ k k r a
-          unfolding commands effect relocate
-          outputs key = by-number k 6 (Action.output _) _ key refl (λ lent μ l. rw (l .board)) refl refl
+          unfolding commands commandsFrom effect relocate
+          outputs d is key = by-number k 6 (Action.output _ _) _ key refl (λ lent μ l. rw (l .board, is)) refl refl
 
           pub writes : c ≡ 15
               → Acts (h .places) (h .vars) x x′ r a (λ μ. Run.write pc μ (expressionFrom f))
               → Steps h x x′ k k r a
-          unfolding commands effect relocate
+          unfolding commands commandsFrom effect relocate
           writes key = by-number k 15 (Action.write _) _ key refl (λ lent μ l. refl) refl refl
 
-          pub raises : c ≡ 16
-              → Acts (h .places) (h .vars) x x′ r a (λ μ. Run.moveTo pc μ (μ .cursor) secret) → Steps h x x′ k k r a
-          unfolding commands effect relocate
-          raises key = by-number k 16 Action.raise _ key refl (λ lent μ l. refl) refl refl
+          pub raises : (d : ℕ) → d ≡ coverSet (f .fifth % 256) → c ≡ 16
+              → Acts (h .places) (h .vars) x x′ r a (λ μ. Run.moveTo pc μ (μ .cursor) (join (μ .level) d)) → Steps h x x′ k k r a
+          unfolding commands commandsFrom effect relocate
+          raises d is key = by-number k 16 (Action.raise _) _ key refl (λ lent μ l. rw is) refl refl
 
           -- 7 to 10
           pub goes : 7 ≤ c → c ≤ 10
               → Acts (h .places) (h .vars) x x′ r a (λ μ. moveOf c pc μ) → Steps h x x′ k k r a
-          unfolding commands effect relocate moveOf
+          unfolding commands commandsFrom effect relocate moveOf
           goes l m acts = pick (one-of-four _ 7 l m)
             where
               pick : OneOfFour c 7 → Steps h x x′ k k r a
@@ -335,29 +335,29 @@ module _ (h : Held) (sc : Script h) where
 
           pub goes-left : c ≡ 18
               → Acts (h .places) (h .vars) x x′ r a (λ μ. Run.goTo pc μ (leftOf (μ .cursor))) → Steps h x x′ k k r a
-          unfolding commands effect relocate
+          unfolding commands commandsFrom effect relocate
           goes-left key = by-number k 18 Action.goLeft _ key refl (λ lent μ l. refl) refl refl
 
           pub goes-last : c ≡ 19
               → Acts (h .places) (h .vars) x x′ r a (λ μ. Run.goToLast pc μ) → Steps h x x′ k k r a
-          unfolding commands effect relocate
+          unfolding commands commandsFrom effect relocate
           goes-last key = by-number k 19 Action.goLast _ key refl (λ lent μ l. refl) refl refl
 
           -- 11 and 12
-          pub inserts : (m side : ℕ) → m ≡ f .target → c ≡ side + 11 → side < 2
+          pub inserts : (d q side : ℕ) → d ≡ contentSet (f .target) (f .fifth % 256) → q ≡ listSet (f .target) (f .sixth % 256) → c ≡ side + 11 → side < 2
               → Acting (shifted side) Same (h .places) (h .vars) x x′ r a
-              (λ μ. Run.insertAt pc μ (h .places) (to (sideOf side) (μ .cursor)) (up (to (sideOf side) (μ .cursor))) m (expressionFrom f))
+              (λ μ. Run.insertAt pc μ (h .places) (to (sideOf side) (μ .cursor)) (up (to (sideOf side) (μ .cursor))) d q (expressionFrom f))
               → Steps h x x′ k k r a
-          unfolding commands effect relocate sideOf
-          inserts m zero is key l acts = by-number k 11 (Action.insert child _ _) _ key refl (λ lent μ l. rw (l .places, is)) refl refl acts
-          inserts m (suc zero) is key l acts = by-number k 12 (Action.insert sibling _ _) _ key refl (λ lent μ l. rw (l .places, is)) refl refl acts
-          inserts m (suc (suc side)) is key l acts = absurd (omega arith)
+          unfolding commands commandsFrom effect relocate sideOf
+          inserts d q zero is so key l acts = by-number k 11 (Action.insert child _ _ _) _ key refl (λ lent μ l. rw (l .places, is, so)) refl refl acts
+          inserts d q (suc zero) is so key l acts = by-number k 12 (Action.insert sibling _ _ _) _ key refl (λ lent μ l. rw (l .places, is, so)) refl refl acts
+          inserts d q (suc (suc side)) is so key l acts = absurd (omega arith)
 
           -- 13 and 14
           pub removes : (k′ : List ℕ) (side : ℕ) → c ≡ side + 13 → side < 2 → length k′ ≡ length k
               → Acting (closedUp side) (Becomes k k′) (h .places) (h .vars) x x′ r a (λ μ. Run.removeAt pc μ (to (sideOf side) (μ .cursor)))
               → Steps h x x′ k k′ r a
-          unfolding commands effect relocate sideOf
+          unfolding commands commandsFrom effect relocate sideOf
           removes k′ zero key l long acts = by-number k′ 13 (Action.remove child) _ key refl (λ lent μ l. refl) long (refl, refl) acts
           removes k′ (suc zero) key l long acts = by-number k′ 14 (Action.remove sibling) _ key refl (λ lent μ l. refl) long (refl, refl) acts
           removes k′ (suc (suc side)) key l long acts = absurd (omega arith)

@@ -10,7 +10,8 @@ use lib.Seq.{drop-drop}
 use lib.Dec.{ltb, eqb}
 use lib.IntN.{ℤ}
 use borrow.Author.Tests.{lt-ltb, le-ltb, eq-eqb, eqb-true, ltb-true, ltb-false}
-use Rattle.rules.specs.Job.{scriptOf}
+use Rattle.rules.specs.Job.{scriptFrom}
+use Rattle.rules.proofs.Starts.{section-sets}
 use Rattle.rules.specs.Script.{Command, act}
 use Rattle.rules.specs.Run as Rules
 use Rattle.rules.specs.Run.{State, Block, Buffers, Result, next, stop, Stop, spent, stopNumber, Ending, finished, stopped, Ended, onward, leaveBlock, carried, step, run}
@@ -36,11 +37,11 @@ kept-trans {x = x} {y = y} {k = k} {m = m} {n = n} a b =
       board = b .board ∙ further;
     }
   where
-    -- behind 4 * n is behind 4 * m
-    further : drop (4 * n) (y .board) ≡ drop (4 * n) (x .board)
+    -- behind 5 * n is behind 5 * m
+    further : drop (5 * n) (y .board) ≡ drop (5 * n) (x .board)
     further =
-        let e : 4 * n ≡ 4 * m + 4 * (n - m) = omega (arith, b .grown) in
-        rw (e, ← drop-drop (4 * (n - m)) (4 * m) (y .board), ← drop-drop (4 * (n - m)) (4 * m) (x .board), a .board)
+        let e : 5 * n ≡ 5 * m + 5 * (n - m) = omega (arith, b .grown) in
+        rw (e, ← drop-drop (5 * (n - m)) (5 * m) (y .board), ← drop-drop (5 * (n - m)) (5 * m) (x .board), a .board)
 
 -- a step that goes on counts one
 module _ (lent : Buffers) (s : State) where
@@ -72,15 +73,15 @@ module _ (lent : Buffers) (s : State) where
 
 module _ (h : Held) (sc : Script h) where
   closed : Closed (scriptIn h)
-  unfolding scriptOf
-  closed = record { blocks = rw (listed-length _ (h .records) 0) (sc .blocks) }
+  unfolding scriptFrom
+  closed = record { blocks = rw (listed-length _ (h .records) 0) (sc .blocks); sets = section-sets (h .bytes) (h .base) (h .records) }
 
   more : (lent : Buffers) (s : State) (i : ℕ) → s .at ≡ i → i < h .records → ltb (s .at) (length (scriptIn h)) ≡ true
-  unfolding scriptOf
+  unfolding scriptFrom
   more lent s i e l = rw (e, listed-length _ (h .records) 0) (lt-ltb i (h .records) l)
 
   over : (lent : Buffers) (s : State) (i : ℕ) → s .at ≡ i → h .records ≤ i → ltb (s .at) (length (scriptIn h)) ≡ false
-  unfolding scriptOf
+  unfolding scriptFrom
   over lent s i e l = rw (e, listed-length _ (h .records) 0) (le-ltb i (h .records) l)
 
   -- nothing was done yet
@@ -212,7 +213,7 @@ module _ (h : Held) (sc : Script h) where
 -- what was reached from there was reached from the start
 module _ {h : Held} {x₀ x : Slices} {k₀ ks : List ℕ} {r₀ r : Running} (d : Reached h x₀ k₀ r₀ x ks r) where
   lent-now : (lent : Buffers) → Lent h x₀ lent → Lent h x lent
-  lent-now lent l = record { places = l .places; board = l .board ∙ ap (λ (n : ℕ). n / 4) (sym (d .board)) }
+  lent-now lent l = record { places = l .places; board = l .board ∙ ap (λ (n : ℕ). n / 5) (sym (d .board)) }
 
   pub further : {x′ : Slices} {ks′ : List ℕ} {r′ : Running} → Reached h x ks r x′ ks′ r′ → Reached h x₀ k₀ r₀ x′ ks′ r′
   further {x′} {ks′} {r′} t =

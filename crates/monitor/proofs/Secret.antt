@@ -2,8 +2,8 @@
 use mathlib.Core.Path.{_≡_, sym, _∙_, ap, subst}
 use mathlib.Core.Logic.{⊎-map}
 use mathlib.Core.List.{List}
-use Prim.Native.Nat.{ℕ, _*_, _<_}
-use lib.ListN.{length, getD, take, List·getD-map, length-map}
+use Prim.Native.Nat.{ℕ, _<_}
+use lib.ListN.{length, getD, List·getD-map, length-map}
 use Rattle.rules.specs.Level.{Level}
 use Rattle.rules.specs.Tree.{Forest, Place}
 use Rattle.rules.specs.Bytes.{variableCount}
@@ -12,16 +12,16 @@ use Rattle.rules.specs.Job.{Variable, variables}
 use Rattle.rules.specs.Run.{State, finished, variableAt, noVariable}
 use Rattle.rules.specs.Outcome as Rules
 use Rattle.rules.specs.Outcome.{answer, runJob, boardLines}
-use Rattle.rules.specs.Public.{Finishes, seenVariable, AgreeVariables, Alike, Same, Indistinguishable, Noninterference}
+use Rattle.rules.specs.Public.{Finishes, seenLines, seenVariable, AgreeVariables, Alike, Same, Indistinguishable, Noninterference}
 use Rattle.rules.proofs.Decode.{listed-length}
 use Rattle.rules.proofs.Noninterference.{noninterference}
 use Rattle.rules.proofs.Endings.{finishes}
 use Rattle.table.proofs.Unique.{one-tree}
 use Rattle.monitor.specs.declared.entry.Outcome.{Outcome}
-use Rattle.actions.specs.Board.{spell}
+use Rattle.actions.specs.Board.{spell, seenBoard}
 use Rattle.monitor.specs.Promises.{answerOf, Lent, lentBy, placesIn, Tree, Ran, Leaves, Promises}
-use Rattle.monitor.specs.Secrecy.{boardOf, variableIn, SameLeft, Unseen, SecretCalls}
-use Rattle.actions.proofs.Board.{spell-prefix, written-lines}
+use Rattle.monitor.specs.Secrecy.{seenOf, variableIn, SameLeft, Unseen, SecretCalls}
+use Rattle.actions.proofs.Board.{spell-prefix, written-seen}
 
 -- what a call leaves, with a node table of any kind
 module _ {T : Type 0} {places : T → ℕ} {HoldsTree : T → ℕ → Forest → Place → Type 0} (b : List ℕ) (n : ℕ) (x x′ : Lent T) (r : Outcome)
@@ -29,15 +29,16 @@ module _ {T : Type 0} {places : T → ℕ} {HoldsTree : T → ℕ → Forest →
   abbrev pub outcome : Rules.Outcome
   outcome = runJob b n (lentBy places x)
 
-  board-of : (w : Rules.Outcome) → answerOf r ≡ answer w → Leaves places HoldsTree (variableCount b) x x′ w → boardOf r x′ ≡ spell (boardLines w)
-  unfolding boardOf answer boardLines spell
-  board-of (Rules.rejected k i) e l = ap (λ a. take (4 * a .lines) (x′ .board)) e
-  board-of (Rules.ran f) e l =
-      ap (λ a. take (4 * a .lines) (x′ .board)) e ∙ ap (take (4 * length (f .last .memory .lines))) (l .board)
-      ∙ written-lines (f .last .memory .lines) (x .board)
+  board-of : (o : Level) (w : Rules.Outcome) → answerOf r ≡ answer w → Leaves places HoldsTree (variableCount b) x x′ w
+      → seenOf o r x′ ≡ spell (seenLines o (boardLines w))
+  unfolding seenOf seenBoard answer boardLines seenLines spell
+  board-of o (Rules.rejected k i) e l = ap (λ a. seenBoard o (a .lines) (x′ .board)) e
+  board-of o (Rules.ran f) e l =
+      ap (λ a. seenBoard o (a .lines) (x′ .board)) e ∙ ap (seenBoard o (length (f .last .memory .lines))) (l .board)
+      ∙ written-seen (f .last .memory .lines) (x .board) o
 
-  board : boardOf r x′ ≡ spell (boardLines outcome)
-  board = board-of outcome (p .answered) (p .leaves)
+  board : (o : Level) → seenOf o r x′ ≡ spell (seenLines o (boardLines outcome))
+  board o = board-of o outcome (p .answered) (p .leaves)
 
   pub finish : answerOf r .ending ≡ 0 → (s : State) × Finishes outcome s
   finish h = finishes b n (lentBy places x) (sym (ap (λ a. a .ending) (p .answered)) ∙ h)
@@ -84,8 +85,9 @@ module _ {T : Type 0} {places : T → ℕ} {HoldsTree : T → ℕ → Forest →
     same-left =
         record {
           lines =
-              board a n x x′ r p ∙ ap spell (last-lines a n x x′ r p g f ∙ same .lines ∙ sym (last-lines b m y y′ s q h k))
-              ∙ sym (board b m y y′ s q);
+              board a n x x′ r p o
+              ∙ ap spell (ap (seenLines o) (last-lines a n x x′ r p g f) ∙ same .lines ∙ ap (seenLines o) (sym (last-lines b m y y′ s q h k)))
+              ∙ sym (board b m y y′ s q o);
           variables = λ i l.
               ap (seenVariable o) (sym (shows a n x x′ r p g f i l)) ∙ at-place o _ _ i (same .parts .variables)
               ∙ ap (seenVariable o) (shows b m y y′ s q h k i (subst (λ c. i < c) (same-count o a b alike) l));
@@ -96,7 +98,7 @@ module _ {T : Type 0} {places : T → ℕ} {HoldsTree : T → ℕ → Forest →
   unseen : Unseen places HoldsTree o (variableCount a) x′ y′ r s
   unseen =
       record {
-        lines = rw (board a n x x′ r p, board b m y y′ s q) (⊎-map (spell-prefix _ _) (spell-prefix _ _) (untold .lines));
+        lines = rw (board a n x x′ r p o, board b m y y′ s q o) (⊎-map (spell-prefix _ _) (spell-prefix _ _) (untold .lines));
         finish = λ e z. let f = finish a n x x′ r p e in let k = finish b m y y′ s q z in same-left (f .0) (k .0) (f .1) (k .1);
       }
 

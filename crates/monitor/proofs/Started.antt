@@ -12,7 +12,7 @@ use Rattle.rules.specs.Bytes.{variablePlace, nodesAt, variableCount, nodeCount,
 use Rattle.rules.specs.Check as Check
 use Rattle.rules.specs.Check.{checkBytes}
 use Rattle.rules.specs.Tree.{root}
-use Rattle.rules.specs.Job.{variableOf, variables, jobTree, script}
+use Rattle.rules.specs.Job.{variableOf, variables, jobTree, script, scriptBy}
 use Rattle.rules.specs.Run.{Buffers, noVariable, variableAt, run}
 use Rattle.rules.specs.Outcome as Rules
 use Rattle.rules.specs.Outcome.{begin}
@@ -64,7 +64,7 @@ module _ (b plan : List ℕ) (budget : ℕ) (x : Slices) (places : ℕ) (ok : ch
   r = right b ok
 
   scripted : recordCount b < length plan → Script (held b plan (frame (layoutOf b) places))
-  unfolding layoutOf script
+  unfolding layoutOf scriptBy
   scripted long =
       let s = sections b (r .offsets) in
       record {
@@ -115,11 +115,11 @@ module _ (b plan : List ℕ) (budget : ℕ) (x : Slices) (places : ℕ) (ok : ch
       lent-so = record { places = gp; board = gb ∙ ap capacity (sym board) }
 
       outcome : o ≡ told (Rules.ran (run given (script b) budget (begin b)))
-      unfolding layoutOf script begin
+      unfolding layoutOf scriptBy begin
       outcome = run-of .outcome given (variables b) (jobTree b) lent-so (begin-valid b (loads b ok)) shown-variables loaded-tree
 
       leaves : Ran Tree (variableCount b) places (asLent x) (asLent x₂) (run given (script b) budget (begin b))
-      unfolding layoutOf script begin
+      unfolding layoutOf scriptBy begin
       leaves =
           let k = run-of .leaves given (variables b) (jobTree b) lent-so (begin-valid b (loads b ok)) shown-variables loaded-tree in
           record {

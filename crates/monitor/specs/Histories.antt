@@ -12,7 +12,7 @@ use Rattle.rules.specs.History.{Store, sectionScript, afterJob, AgreeStores}
 use Rattle.rules.specs.Public.{Comparable, Alike}
 use Rattle.monitor.specs.declared.entry.Outcome.{Outcome}
 use Rattle.monitor.specs.Promises.{answerOf, Lent, lentBy, Promises}
-use Rattle.monitor.specs.Secrecy.{boardOf, variableIn, Unseen}
+use Rattle.monitor.specs.Secrecy.{seenOf, variableIn, Unseen}
 use Rattle.monitor.specs.Follow.{HoldsStore, Follows}
 
 -- a call with a follow-on script: what it is lent, what it leaves there, and its outcome
@@ -60,9 +60,9 @@ module _ {T : Type 0} (places : T → ℕ) (HoldsTree : T → ℕ → Forest →
     unfoldable pub AgreeLent : Lent T → Lent T → Type 0
     AgreeLent x y = (s t : Store) → HoldsStore StandsIn x s → HoldsStore StandsIn y t → AgreeStores o s t
 
-    -- two calls that finish leave the same lines, and what agrees
+    -- two calls that finish leave the same lines for o, and what agrees
     pub record SameAfter (c d : Call T) : Type 0 where
-      pub lines : boardOf (c .outcome) (c .left) ≡ boardOf (d .outcome) (d .left)
+      pub lines : seenOf o (c .outcome) (c .left) ≡ seenOf o (d .outcome) (d .left)
       pub agree : AgreeLent (c .left) (d .left)
 
     -- "up to and including the first script that stops or is turned away in either"
@@ -70,7 +70,7 @@ module _ {T : Type 0} (places : T → ℕ) (HoldsTree : T → ℕ → Forest →
     UnseenHistory [] ds = Unit {0}
     UnseenHistory (c ∷ cs) [] = Unit {0}
     UnseenHistory (c ∷ cs) (d ∷ ds) =
-        Comparable (boardOf (c .outcome) (c .left)) (boardOf (d .outcome) (d .left))
+        Comparable (seenOf o (c .outcome) (c .left)) (seenOf o (d .outcome) (d .left))
         × (answerOf (c .outcome) .ending ≡ 0 → answerOf (d .outcome) .ending ≡ 0 → SameAfter c d × UnseenHistory cs ds)
 
     -- two histories of calls that keep the promise, with the same scripts, whatever their budgets and areas

@@ -70,7 +70,7 @@ pub record Safe (h : Held) (x : Slices) (k : List ℕ) (r : Running) : Type 0 wh
   pub levelled : h .vars ≤ length (x .levels)
   pub valued : h .vars ≤ length (x .values)
   pub cursor : r .memory .cursor < h .places
-  pub room : 4 * r .memory .lines ≤ length (x .board)
+  pub room : 5 * r .memory .lines ≤ length (x .board)
   pub within : r .at ≤ h .records
   pub marks : marksSize ≤ length k
 

@@ -147,7 +147,7 @@ fn run_accepted(
 }
 
 // The run over a job's bytes, with a budget and what the caller lends: a node table of some places, ten words to each, the variables' levels and
-// values, and an area for board lines of four bytes each. Words that are too few hold no place, which is check 10; so is more than 512 places, for
+// values, and an area for board lines of five bytes each. Words that are too few hold no place, which is check 10; so is more than 512 places, for
 // which no more words are needed than for 512.
 pub fn run_places(
     job: &[u8],

@@ -78,7 +78,7 @@ fn admit(
 }
 
 // The run over a bare section, with a budget and what the caller lends, which a tree and variables stand in: a node table of some places, ten words
-// to each, the variables' levels and values, and an area for board lines of four bytes each. `stands` says whether a tree stands in the table, the marks
+// to each, the variables' levels and values, and an area for board lines of five bytes each. `stands` says whether a tree stands in the table, the marks
 // at which places. No words are needed for more than 512 places: no script is run over them.
 pub fn follow_places(
     section: &[u8],

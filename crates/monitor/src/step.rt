@@ -14,16 +14,20 @@ use actions::evaluate::evaluate;
 use actions::guards;
 use actions::moves;
 use actions::nodes;
+use actions::sets::content_set;
+use actions::sets::cover_set;
+use actions::sets::list_set;
 use actions::variables;
 use job::plan::END_BACK;
 use job::plan::code;
 use job::plan::next;
 use job::records::fields_at;
 ghost use mathlib.Core.Path.{_≡_};
-ghost use Prim.Native.Nat.{_+_, _-_, _≤_, _<_};
+ghost use Prim.Native.Nat.{_+_, _-_, _%_, _≤_, _<_};
 ghost use lib.ListN.{length};
 ghost use Rattle.rules.specs.Limits.{recordSize};
 ghost use Rattle.rules.specs.Bytes.{recordPlace};
+ghost use Rattle.rules.specs.Script.{contentSet, listSet, coverSet};
 ghost use Rattle.job.specs.Fields.{fieldsOf};
 ghost use Rattle.actions.specs.Shows.{slices};
 ghost use Rattle.monitor.specs.Steps.{held, Script, Safe, Carries};
@@ -43,6 +47,42 @@ fn target(job: &[u8], base: usize, i: usize) -> u8
 {
     let f = fields_at(job, base, i);
     f.target
+}
+
+// The readers of the line that record i puts out.
+fn readers_at(job: &[u8], base: usize, i: usize) -> u8
+    requires { ⌜ recordPlace base i + recordSize ≤ length (now job) ⌝ }
+    ensures { λ r. ⌜ r ≡ fieldsOf (now (job .entry)) (recordPlace base i) .target % 256 ⌝ }
+{
+    let f = fields_at(job, base, i);
+    f.target
+}
+
+// What the content of a new node joins, by record i.
+fn content_at(job: &[u8], base: usize, i: usize) -> u8
+    requires { ⌜ recordPlace base i + recordSize ≤ length (now job) ⌝ }
+    ensures { λ r. ⌜ r ≡ contentSet (fieldsOf (now (job .entry)) (recordPlace base i) .target) (fieldsOf (now (job .entry)) (recordPlace base i) .fifth % 256) ⌝ }
+{
+    let f = fields_at(job, base, i);
+    content_set(f.target, f.fifth)
+}
+
+// What its list joins.
+fn list_at(job: &[u8], base: usize, i: usize) -> u8
+    requires { ⌜ (recordPlace base i + recordSize ≤ length (now job)) × (fieldsOf (now job) (recordPlace base i) .target ≤ 3) ⌝ }
+    ensures { λ r. ⌜ r ≡ listSet (fieldsOf (now (job .entry)) (recordPlace base i) .target) (fieldsOf (now (job .entry)) (recordPlace base i) .sixth % 256) ⌝ }
+{
+    let f = fields_at(job, base, i);
+    list_set(f.target, f.sixth)
+}
+
+// What a cover joins, by record i.
+fn cover_at(job: &[u8], base: usize, i: usize) -> u8
+    requires { ⌜ recordPlace base i + recordSize ≤ length (now job) ⌝ }
+    ensures { λ r. ⌜ r ≡ coverSet (fieldsOf (now (job .entry)) (recordPlace base i) .fifth % 256) ⌝ }
+{
+    let f = fields_at(job, base, i);
+    cover_set(f.fifth)
 }
 
 // Which of two neighbouring commands it is: 0 for the first, on the side of the children, 1 for the second, on that of the right siblings.
@@ -136,6 +176,7 @@ pub fn carry_out(
                 places,
                 m,
             ),
+            readers_at(job, base, at),
             lines,
             pc,
             r,
@@ -151,7 +192,8 @@ pub fn carry_out(
                 places,
                 m,
             ),
-            target(job, base, at),
+            content_at(job, base, at),
+            list_at(job, base, at),
             side(command, 11),
             words,
             places,
@@ -174,7 +216,7 @@ pub fn carry_out(
             pc,
             r,
         ),
-        16 => moves::raise(places, pc, r),
+        16 => moves::raise(cover_at(job, base, at), places, pc, r),
         17 => enter_back(
             r,
             evaluate(

@@ -109,10 +109,16 @@ evaluate-requires-4 c κs =
     let i = known-by _ (p .0) _ _ _ (p .1 .0) _ (c .before .before .before .before .code .ensures) (omega (arith, c .before .before .before .match .keys7)) in
     expressed _ (p .0) _ _ _ (p .1 .0) (i .inside) _ (i .coded) _ (c .before .before .fields-at4 .ensures) (ap (λ (n : ℕ). rowOf n .expression) (c .before .before .before .match .keys7))
 
+readers-at-requires : tie.Need-readers-at-requires
+readers-at-requires c κs =
+    let p = c .before .before .before .before .before .before .before .before .before .before .before .before .before .before .before .pre in
+    let i = known-by _ (p .0) _ _ _ (p .1 .0) _ (c .before .before .before .before .before .code .ensures) (omega (arith, c .before .before .before .before .match .keys7)) in
+    record-there _ (p .0) _ _ _ (p .1 .0) (i .inside)
+
 output-requires : tie.Need-output-requires
 output-requires c κs =
-    let p = c .before .before .before .before .before .before .before .before .before .before .before .before .before .before .before .before .pre in
-    let i = known-by _ (p .0) _ _ _ (p .1 .0) _ (c .before .before .before .before .before .before .code .ensures) (omega (arith, c .before .before .before .before .before .match .keys7)) in
+    let p = c .before .before .before .before .before .before .before .before .before .before .before .before .before .before .before .before .before .pre in
+    let i = known-by _ (p .0) _ _ _ (p .1 .0) _ (c .before .before .before .before .before .before .before .code .ensures) (omega (arith, c .before .before .before .before .before .before .match .keys7)) in
     (timely _ (p .0) _ _ _ (p .1 .0) (i .inside) (p .1 .1), p .1 .0 .room)
 
 fields-at-requires-5 : tie.Need-fields-at-requires-5
@@ -134,10 +140,16 @@ write-requires c κs =
     let i = known-by _ (p .0) _ _ _ (p .1 .0) _ (c .before .before .before .before .before .before .code .ensures) (omega (arith, c .before .before .before .before .before .match .keys8)) in
     (timely _ (p .0) _ _ _ (p .1 .0) (i .inside) (p .1 .1), at-cursor _ (p .0) _ _ _ (p .1 .0) (i .inside))
 
-raise-requires : tie.Need-raise-requires
-raise-requires c κs =
+cover-at-requires : tie.Need-cover-at-requires
+cover-at-requires c κs =
     let p = c .before .before .before .before .before .before .before .before .before .before .before .pre in
     let i = known-by _ (p .0) _ _ _ (p .1 .0) _ (c .before .code .ensures) (omega (arith, c .match .keys9)) in
+    record-there _ (p .0) _ _ _ (p .1 .0) (i .inside)
+
+raise-requires : tie.Need-raise-requires
+raise-requires c κs =
+    let p = c .before .before .before .before .before .before .before .before .before .before .before .before .pre in
+    let i = known-by _ (p .0) _ _ _ (p .1 .0) _ (c .before .before .code .ensures) (omega (arith, c .before .match .keys9)) in
     (timely _ (p .0) _ _ _ (p .1 .0) (i .inside) (p .1 .1), p .1 .0 .cursor)
 
 fields-at-requires-6 : tie.Need-fields-at-requires-6
@@ -196,18 +208,25 @@ evaluate-requires-7 c κs =
     let i = known-by _ (p .0) _ _ _ (p .1 .0) _ (c .before .before .before .before .before .before .code .ensures) (omega (arith, c .before .before .before .if2 .taken)) in
     expressed _ (p .0) _ _ _ (p .1 .0) (i .inside) _ (i .coded) _ (c .before .before .fields-at7 .ensures) (insert-row _ (c .before .before .before .before .if1 .left) (c .before .before .before .if2 .taken) .1)
 
-target-requires-2 : tie.Need-target-requires-2
-target-requires-2 c κs =
+content-at-requires : tie.Need-content-at-requires
+content-at-requires c κs =
     let p = c .before .before .before .before .before .before .before .before .before .before .before .before .before .before .before .before .before .pre in
     let i = known-by _ (p .0) _ _ _ (p .1 .0) _ (c .before .before .before .before .before .before .before .code .ensures) (omega (arith, c .before .before .before .before .if2 .taken)) in
     record-there _ (p .0) _ _ _ (p .1 .0) (i .inside)
 
+list-at-requires : tie.Need-list-at-requires
+list-at-requires c κs =
+    let p = c .before .before .before .before .before .before .before .before .before .before .before .before .before .before .before .before .before .before .pre in
+    let i = known-by _ (p .0) _ _ _ (p .1 .0) _ (c .before .before .before .before .before .before .before .before .code .ensures) (omega (arith, c .before .before .before .before .before .if2 .taken)) in (
+      record-there _ (p .0) _ _ _ (p .1 .0) (i .inside),
+      mark-by _ (p .0) _ _ _ (p .1 .0) (i .inside) _ (i .coded) (insert-row _ (c .before .before .before .before .before .before .if1 .left) (c .before .before .before .before .before .if2 .taken) .0),
+    )
+
 insert-on-requires : tie.Need-insert-on-requires
 insert-on-requires c κs =
-    let p = c .before .before .before .before .before .before .before .before .before .before .before .before .before .before .before .before .before .before .before .before .pre in
-    let i = known-by _ (p .0) _ _ _ (p .1 .0) _ (c .before .before .before .before .before .before .before .before .before .before .code .ensures) (omega (arith, c .before .before .before .before .before .before .before .if2 .taken)) in
-    let l = mark-by _ (p .0) _ _ _ (p .1 .0) (i .inside) _ (i .coded) (insert-row _ (c .before .before .before .before .before .before .before .before .if1 .left) (c .before .before .before .before .before .before .before .if2 .taken) .0) in
-    (timely _ (p .0) _ _ _ (p .1 .0) (i .inside) (p .1 .1), (at-cursor _ (p .0) _ _ _ (p .1 .0) (i .inside), (omega (arith, c .before .side .ensures, c .before .before .before .before .before .before .before .before .if1 .left, c .before .before .before .before .before .before .before .if2 .taken), omega (arith, l, c .before .before .target2 .ensures))))
+    let p = c .before .before .before .before .before .before .before .before .before .before .before .before .before .before .before .before .before .before .before .before .before .pre in
+    let i = known-by _ (p .0) _ _ _ (p .1 .0) _ (c .before .before .before .before .before .before .before .before .before .before .before .code .ensures) (omega (arith, c .before .before .before .before .before .before .before .before .if2 .taken)) in
+    (timely _ (p .0) _ _ _ (p .1 .0) (i .inside) (p .1 .1), (at-cursor _ (p .0) _ _ _ (p .1 .0) (i .inside), omega (arith, c .before .side .ensures, c .before .before .before .before .before .before .before .before .before .if1 .left, c .before .before .before .before .before .before .before .before .if2 .taken)))
 
 remove-requires : tie.Need-remove-requires
 remove-requires c κs =
@@ -257,10 +276,10 @@ returns-6 c =
 
 returns-7 : tie.Need-returns-7
 returns-7 c =
-    let p = c .before .before .before .before .before .before .before .before .before .before .before .before .before .before .before .before .before .before .before .pre in
-    let i = known-by _ (p .0) _ _ _ (p .1 .0) _ (c .before .before .before .before .before .before .before .before .before .code .ensures) (omega (arith, c .before .before .before .before .before .before .before .before .match .keys7)) in
-    as-step _ _ _ _ _ _ _ (i .inside) (outputs _ (p .0) _ _ _ (p .1 .0) (i .inside) _ (i .coded) _ refl _ _ _ (c .before .before .before .before .before .before .before .before .before .before .before .top .ensures) (record { words = refl; levels = refl; values = refl; board = c .before .lines .given }) (c .before .before .before .before .before .before .before .before .match .keys7)
-    (c .before .before .output .ensures _ _ _ _ _ _ (p .1 .0 .cursor) (evaluated _ (p .0) _ _ _ (p .1 .0) (i .inside) _ (i .coded) _ (c .before .before .before .before .before .before .before .fields-at4 .ensures) (c .before .before .before .before .evaluate4 .ensures))))
+    let p = c .before .before .before .before .before .before .before .before .before .before .before .before .before .before .before .before .before .before .before .before .pre in
+    let i = known-by _ (p .0) _ _ _ (p .1 .0) _ (c .before .before .before .before .before .before .before .before .before .before .code .ensures) (omega (arith, c .before .before .before .before .before .before .before .before .before .match .keys7)) in
+    as-step _ _ _ _ _ _ _ (i .inside) (outputs _ (p .0) _ _ _ (p .1 .0) (i .inside) _ (i .coded) _ refl _ _ _ (c .before .before .before .before .before .before .before .before .before .before .before .before .top .ensures) (record { words = refl; levels = refl; values = refl; board = c .before .lines .given }) _ (c .before .before .before .before .readers-at .ensures) (c .before .before .before .before .before .before .before .before .before .match .keys7)
+    (c .before .before .output .ensures _ _ _ _ _ _ (p .1 .0 .cursor) (evaluated _ (p .0) _ _ _ (p .1 .0) (i .inside) _ (i .coded) _ (c .before .before .before .before .before .before .before .before .fields-at4 .ensures) (c .before .before .before .before .before .evaluate4 .ensures))))
 
 returns-8 : tie.Need-returns-8
 returns-8 c =
@@ -271,9 +290,9 @@ returns-8 c =
 
 returns-9 : tie.Need-returns-9
 returns-9 c =
-    let p = c .before .before .before .before .before .before .before .before .before .before .before .before .pre in
-    let i = known-by _ (p .0) _ _ _ (p .1 .0) _ (c .before .before .code .ensures) (omega (arith, c .before .match .keys9)) in
-    as-step _ _ _ _ _ _ _ (i .inside) (raises _ (p .0) _ _ _ (p .1 .0) (i .inside) _ (i .coded) _ refl _ _ _ (c .before .before .before .before .top .ensures) (record { words = refl; levels = refl; values = refl; board = refl }) (c .before .match .keys9) (c .raise .ensures _ _ _ _ _))
+    let p = c .before .before .before .before .before .before .before .before .before .before .before .before .before .pre in
+    let i = known-by _ (p .0) _ _ _ (p .1 .0) _ (c .before .before .before .code .ensures) (omega (arith, c .before .before .match .keys9)) in
+    as-step _ _ _ _ _ _ _ (i .inside) (raises _ (p .0) _ _ _ (p .1 .0) (i .inside) _ (i .coded) _ refl _ _ _ (c .before .before .before .before .before .top .ensures) (record { words = refl; levels = refl; values = refl; board = refl }) _ (c .before .cover-at .ensures) (c .before .before .match .keys9) (c .raise .ensures _ _ _ _ _))
 
 returns-10 : tie.Need-returns-10
 returns-10 c =
@@ -311,10 +330,10 @@ returns-14 c =
 
 returns-15 : tie.Need-returns-15
 returns-15 c =
-    let p = c .before .before .before .before .before .before .before .before .before .before .before .before .before .before .before .before .before .before .before .before .before .before .before .pre in
-    let i = known-by _ (p .0) _ _ _ (p .1 .0) _ (c .before .before .before .before .before .before .before .before .before .before .before .before .before .code .ensures) (omega (arith, c .before .before .before .before .before .before .before .before .before .before .if2 .taken)) in
-    as-step _ _ _ _ _ _ _ (i .inside) (inserts _ (p .0) _ _ _ (p .1 .0) (i .inside) _ (i .coded) _ refl _ _ _ (c .before .before .before .before .before .before .before .before .before .before .before .before .before .before .before .top .ensures) (record { words = c .before .words2 .given; levels = refl; values = refl; board = refl }) _ _ (c .before .before .before .before .before .target2 .ensures)
-    (omega (arith, c .before .before .before .before .side .ensures, c .before .before .before .before .before .before .before .before .before .before .before .if1 .left)) (omega (arith, c .before .before .before .before .side .ensures, c .before .before .before .before .before .before .before .before .before .before .before .if1 .left, c .before .before .before .before .before .before .before .before .before .before .if2 .taken)) (c .before .before .insert-on .ensures _ _ _ _ _ (evaluated _ (p .0) _ _ _ (p .1 .0) (i .inside) _ (i .coded) _ (c .before .before .before .before .before .before .before .before .before .fields-at7 .ensures) (c .before .before .before .before .before .before .evaluate7 .ensures))))
+    let p = c .before .before .before .before .before .before .before .before .before .before .before .before .before .before .before .before .before .before .before .before .before .before .before .before .pre in
+    let i = known-by _ (p .0) _ _ _ (p .1 .0) _ (c .before .before .before .before .before .before .before .before .before .before .before .before .before .before .code .ensures) (omega (arith, c .before .before .before .before .before .before .before .before .before .before .before .if2 .taken)) in
+    as-step _ _ _ _ _ _ _ (i .inside) (inserts _ (p .0) _ _ _ (p .1 .0) (i .inside) _ (i .coded) _ refl _ _ _ (c .before .before .before .before .before .before .before .before .before .before .before .before .before .before .before .before .top .ensures) (record { words = c .before .words2 .given; levels = refl; values = refl; board = refl }) _ _ _ (c .before .before .before .before .before .before .content-at .ensures) (c .before .before .before .before .before .list-at .ensures)
+    (omega (arith, c .before .before .before .before .side .ensures, c .before .before .before .before .before .before .before .before .before .before .before .before .if1 .left)) (omega (arith, c .before .before .before .before .side .ensures, c .before .before .before .before .before .before .before .before .before .before .before .before .if1 .left, c .before .before .before .before .before .before .before .before .before .before .before .if2 .taken)) (c .before .before .insert-on .ensures _ _ _ _ _ (evaluated _ (p .0) _ _ _ (p .1 .0) (i .inside) _ (i .coded) _ (c .before .before .before .before .before .before .before .before .before .before .fields-at7 .ensures) (c .before .before .before .before .before .before .before .evaluate7 .ensures))))
 
 returns-16 : tie.Need-returns-16
 returns-16 c =
@@ -330,4 +349,4 @@ returns-17 c =
     as-end _ _ _ _ _ (outside-by _ (p .0) _ _ _ (p .1 .0) _ (c .before .before .before .before .before .code .ensures) (from-twenty _ (c .before .if3 .left) (m .0 .0 .0 .0 .0 .1) (m .0 .0 .0 .0 .1) (m .0 .0 .0 .1) (m .0 .0 .1) (m .0 .1)) (m .1)) (c .halt .ensures)
 
 pub carry-out-spec : {M : Type 1} → statement M
-carry-out-spec = tie.close (tie.spec (λ c κs. search needs) (λ c. search needs) shared-slice-read-word (λ c κs. search needs) onward-requires fields-at-requires evaluate-requires target-requires assign-requires fields-at-requires-2 evaluate-requires-2 (λ c κs. search needs) enter-if-requires (λ c κs. search needs) jump-requires fields-at-requires-3 evaluate-requires-3 (λ c κs. search needs) enter-while-requires (λ c κs. search needs) leave-requires fields-at-requires-4 evaluate-requires-4 output-requires fields-at-requires-5 evaluate-requires-5 write-requires raise-requires fields-at-requires-6 evaluate-requires-6 (λ c κs. search needs) enter-back-requires go-left-requires go-last-requires (λ c κs. search needs) come-back-requires go-requires fields-at-requires-7 evaluate-requires-7 target-requires-2 (λ c κs. search needs) insert-on-requires (λ c κs. search needs) remove-requires (λ c κs. search needs) returns (λ c. search needs) (λ c. search needs) returns-2 (λ c. search needs) (λ c. search needs) returns-3 returns-4 (λ c. search needs) (λ c. search needs) returns-5 returns-6 (λ c. search needs) (λ c. search needs) (λ c. search needs) returns-7 (λ c. search needs) (λ c. search needs) returns-8 returns-9 (λ c. search needs) (λ c. search needs) (λ c. search needs) returns-10 (λ c. search needs) returns-11 (λ c. search needs) returns-12 (λ c. search needs) returns-13 (λ c. search needs) returns-14 (λ c. search needs) (λ c. search needs) returns-15 (λ c. search needs) (λ c. search needs) returns-16 returns-17)
+carry-out-spec = tie.close (tie.spec (λ c κs. search needs) (λ c. search needs) shared-slice-read-word (λ c κs. search needs) onward-requires fields-at-requires evaluate-requires target-requires assign-requires fields-at-requires-2 evaluate-requires-2 (λ c κs. search needs) enter-if-requires (λ c κs. search needs) jump-requires fields-at-requires-3 evaluate-requires-3 (λ c κs. search needs) enter-while-requires (λ c κs. search needs) leave-requires fields-at-requires-4 evaluate-requires-4 readers-at-requires output-requires fields-at-requires-5 evaluate-requires-5 write-requires cover-at-requires raise-requires fields-at-requires-6 evaluate-requires-6 (λ c κs. search needs) enter-back-requires go-left-requires go-last-requires (λ c κs. search needs) come-back-requires go-requires fields-at-requires-7 evaluate-requires-7 content-at-requires list-at-requires (λ c κs. search needs) insert-on-requires (λ c κs. search needs) remove-requires (λ c κs. search needs) returns (λ c. search needs) (λ c. search needs) returns-2 (λ c. search needs) (λ c. search needs) returns-3 returns-4 (λ c. search needs) (λ c. search needs) returns-5 returns-6 (λ c. search needs) (λ c. search needs) (λ c. search needs) returns-7 (λ c. search needs) (λ c. search needs) returns-8 returns-9 (λ c. search needs) (λ c. search needs) (λ c. search needs) returns-10 (λ c. search needs) returns-11 (λ c. search needs) returns-12 (λ c. search needs) returns-13 (λ c. search needs) returns-14 (λ c. search needs) (λ c. search needs) returns-15 (λ c. search needs) (λ c. search needs) returns-16 returns-17)
