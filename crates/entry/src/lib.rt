@@ -42,7 +42,7 @@ fn kept(outcome: Outcome, n: usize) -> usize
 }
 
 // The run over a job's bytes, with a budget and what the caller lends: a node table of a record to a place, the variables' levels and values, and an
-// area for board lines of four bytes each.
+// area for board lines of five bytes each.
 pub fn run_job(
     job: &[u8],
     budget: u64,
@@ -71,7 +71,7 @@ fn few(n: usize) -> usize
 }
 
 // The run over a bare section, with a budget and what the caller lends, which a tree and variables stand in: a node table of a record to a place, the
-// variables' levels and values, and an area for board lines of four bytes each.
+// variables' levels and values, and an area for board lines of five bytes each.
 pub fn follow_job(
     section: &[u8],
     budget: u64,
