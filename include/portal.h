@@ -10,10 +10,12 @@
    The library is for x86-64. It keeps nothing from one call to the next and allocates nothing, so calls from several threads are fine as long as none
    writes what another one is lent. A call takes less than 64 kilobytes of stack.
 
-   What to show. The lines are for the public. The ending is for the house: never publish it, nor how long a call took. The lines hold no house number, but
-   where a board ends may depend on one: a script can count to 100, put each number out, and stop itself where the count equals a house number. So publish a
-   board only where portal_ending(answer) is PORTAL_FINISHED. Two finished boards of the same script over the same public parts are always the same.
-   docs/GUARANTEE.md has the example and the figures. A tree that is kept asks for one thing more: see portal_follow. */
+   What to show. Each line is for a set of parties: hand a reader the lines for which portal_sees(reader, portal_readers(lines, i)) holds, in their order, and
+   no others; the public is the reader 0. The ending and the number of lines are for the house: never publish them, nor how long a call took. The lines of a
+   reader hold no number of other parties, but where they end may depend on one: a script can count to 100, put each number out, and stop itself where the count
+   equals a number of somebody else's. So hand out lines only where portal_ending(answer) is PORTAL_FINISHED. What a reader gets of two finished runs of the same
+   script, over parts that are the same to them, is always the same. docs/GUARANTEE.md has the example and the figures. A tree that is kept asks for one thing
+   more: see portal_follow. */
 #ifndef PORTAL_H
 #define PORTAL_H
 
@@ -21,9 +23,9 @@
 #include <stdint.h>
 
 /* The version of this header and of the library beside it. The first number changes where a program must be changed. */
-#define PORTAL_VERSION "1.9.0"
-#define PORTAL_VERSION_MAJOR 1
-#define PORTAL_VERSION_MINOR 9
+#define PORTAL_VERSION "2.0.0"
+#define PORTAL_VERSION_MAJOR 2
+#define PORTAL_VERSION_MINOR 0
 #define PORTAL_VERSION_PATCH 0
 
 /* The largest job, in bytes. Read up to one byte more, so that a longer one is seen and turned back. */
@@ -32,7 +34,10 @@
 /* The largest budget, in steps. */
 #define PORTAL_MAX_BUDGET 1000000
 
-/* No run has more lines than steps, so an area of 4 * PORTAL_MAX_LINES bytes is never full. */
+/* A line has five bytes: a little-endian number of four, and the set of its readers. */
+#define PORTAL_LINE_BYTES 5
+
+/* No run has more lines than steps, so an area of PORTAL_LINE_BYTES * PORTAL_MAX_LINES bytes is never full. */
 #define PORTAL_MAX_LINES PORTAL_MAX_BUDGET
 
 /* The largest follow-on script, in bytes: 1,024 records of 16. Read up to one byte more, as of a job. */
@@ -64,9 +69,9 @@ enum {
     PORTAL_WRONG_SIZE = 1,          /* under 8 or over 23,048 bytes */
     PORTAL_BROKEN_LAYOUT = 2,       /* the trailer's offsets do not fit the job, or a section holds a part of a record */
     PORTAL_BAD_COUNT = 3,           /* more than 64 variables, 1,024 records or 512 nodes, or no node */
-    PORTAL_BAD_VARIABLE_LEVEL = 4,  /* a variable's level is above 1 */
+    PORTAL_BAD_VARIABLE_LEVEL = 4,  /* not given any more: every byte is a level, a set of eight parties */
     PORTAL_BAD_PARENT = 5,          /* a node's parent does not come before it, or record 0 is no root */
-    PORTAL_BAD_TREE = 6,            /* a node's level is above 1, or a rule of the tree is broken */
+    PORTAL_BAD_TREE = 6,            /* a rule of the tree is broken */
     PORTAL_BAD_FIELD = 7,           /* a command above 19, or a field that it reads is out of range */
     PORTAL_BAD_BLOCKS = 8,          /* if, else, while and end do not match, or more than 16 of them are nested */
     PORTAL_BAD_BUDGET = 9,          /* the budget is not 1 to 1,000,000 */
@@ -75,7 +80,7 @@ enum {
     PORTAL_SPARE_BYTE = 12,         /* a byte that nobody reads is not zero */
     PORTAL_BAD_ORDER = 13,          /* a node's parent is neither the record before it nor above that record */
     PORTAL_BAD_AREA = 14,           /* from portal_write alone: the area is shorter than the job */
-    PORTAL_FLOW = 21,               /* a command would have let house data flow to the public */
+    PORTAL_FLOW = 21,               /* a command would have let a party's data flow to others */
     PORTAL_NO_NODE = 22,            /* the node to go to, to remove or to come back to does not exist */
     PORTAL_TABLE_FULL = 23,         /* a new node, where there are as many as places */
     PORTAL_BOARD_FULL = 24,         /* a board line, where the area is full */
@@ -88,11 +93,11 @@ enum {
    job        the job's bytes
    job_len    how many there are; of any number, wrong ones come back as PORTAL_WRONG_SIZE
    budget     how many steps the job may take, 1 to PORTAL_MAX_BUDGET
-   lines      an area for the board lines, four little-endian bytes each
-   lines_len  how many bytes the area has: room for lines_len / 4 lines
+   lines      an area for the board lines, PORTAL_LINE_BYTES each
+   lines_len  how many bytes the area has: room for lines_len / PORTAL_LINE_BYTES lines
 
    Returns the ending and the number of lines: take them out with portal_ending and portal_lines. The lines stand at the beginning of the area, in the
-   order in which the job put them out: read them with portal_line. Every byte behind the last line is as it was.
+   order in which the job put them out: read them with portal_line and portal_readers. Every byte behind the last line is as it was.
 
    NULL: job may be NULL where job_len is 0 (the answer is PORTAL_WRONG_SIZE), lines may be NULL where lines_len is 0 (room for no line). Otherwise each
    points to as many bytes as its length says.
@@ -107,7 +112,7 @@ uint64_t portal_run(const uint8_t *job, size_t job_len, uint64_t budget, uint8_t
    table       words for the tree, PORTAL_PLACE_WORDS for each place; they may hold anything
    table_len   how many words: a table of table_len / PORTAL_PLACE_WORDS places, 1 to PORTAL_MAX_PLACES and at least as many as the job has nodes. The more
                places, the more nodes can be added later
-   levels      a byte for the level of each variable
+   levels      a byte for the level of each variable, a set of eight parties
    levels_len  how many bytes, at least as many as the job has variables: PORTAL_MAX_VARIABLES is always enough
    values      a number for the value of each variable
    values_len  how many numbers, at least as many as the job has variables
@@ -200,10 +205,16 @@ static inline size_t portal_lines(uint64_t answer) { return answer & 0xffffffffu
 
 /* Line number i, counted from 0. */
 static inline int32_t portal_line(const uint8_t *lines, size_t i) {
-    const uint8_t *at = lines + 4 * i;
+    const uint8_t *at = lines + PORTAL_LINE_BYTES * i;
     uint32_t bits = at[0] | PORTAL_CAST(uint32_t, at[1]) << 8 | PORTAL_CAST(uint32_t, at[2]) << 16 | PORTAL_CAST(uint32_t, at[3]) << 24;
     return bits < 0x80000000u ? PORTAL_CAST(int32_t, bits) : -PORTAL_CAST(int32_t, 0xffffffffu - bits) - 1;
 }
+
+/* The readers of line number i: a bit for each party, 0 where the line is for everyone. */
+static inline uint8_t portal_readers(const uint8_t *lines, size_t i) { return lines[PORTAL_LINE_BYTES * i + 4]; }
+
+/* Whether a reader, as a set of parties, sees a line: where its readers are all among them. */
+static inline int portal_sees(uint8_t reader, uint8_t readers) { return (readers & ~reader) == 0; }
 
 /* What an ending is called, as `inspect` and `tools/job` call it; "unknown" for a number that is none. */
 static inline const char *portal_ending_name(int ending) {

@@ -34,10 +34,10 @@ module _ (pc : Level) (m : Memory) where
   go-lines l none = tt
   go-lines l (some p) = good-need (OneMore m) _ _ _ λ _. good-need (OneMore m) _ _ _ λ _. omega arith
 
-  insert-lines : (places : ℕ) (p : Place) (q : Option Place) (mark : ℕ) (e : Expression) → Good (OneMore m) (insertAt pc m places p q mark e)
+  insert-lines : (places : ℕ) (p : Place) (q : Option Place) (c l : Level) (e : Expression) → Good (OneMore m) (insertAt pc m places p q c l e)
   unfolding OneMore insertAt withTree
-  insert-lines places p none mark e = tt
-  insert-lines places p (some q) mark e =
+  insert-lines places p none c l e = tt
+  insert-lines places p (some q) c l e =
       good-need (OneMore m) _ _ _ λ _. good-need (OneMore m) _ _ _ λ _. good-given (OneMore m) _ _ λ _.
       good-need (OneMore m) _ _ _ λ _. omega arith
 
@@ -45,17 +45,18 @@ module _ (pc : Level) (m : Memory) where
   unfolding OneMore effect assign output moveTo goTo goToLast removeAt write withVariables withTree withCursor withLine
   effect-lines lent Action.skip = omega arith
   effect-lines lent (Action.assign i e) = good-need (OneMore m) _ _ _ λ _. good-given (OneMore m) _ _ λ _. omega arith
-  effect-lines lent (Action.output e) =
-      good-need (OneMore m) _ _ _ λ _. good-given (OneMore m) _ _ λ z. good-need (OneMore m) _ _ _ λ _. omega (arith, length-append (m .lines) (z ∷ []))
+  effect-lines lent (Action.output r e) =
+      good-need (OneMore m) _ _ _ λ _. good-given (OneMore m) _ _ λ z. good-need (OneMore m) _ _ _ λ _.
+      omega (arith, length-append (m .lines) (record { number = z; readers = r } ∷ []))
   effect-lines lent Action.goRoot = good-need (OneMore m) _ _ _ λ _. omega arith
   effect-lines lent Action.goParent = go-lines _ _
   effect-lines lent (Action.go d) = go-lines _ _
   effect-lines lent Action.goLeft = go-lines _ _
   effect-lines lent Action.goLast = go-lines _ _
-  effect-lines lent (Action.insert d mark e) = insert-lines _ _ _ mark e
+  effect-lines lent (Action.insert d c l e) = insert-lines _ _ _ c l e
   effect-lines lent (Action.remove d) = good-need (OneMore m) _ _ _ λ _. good-need (OneMore m) _ _ _ λ _. omega arith
   effect-lines lent (Action.write e) = good-need (OneMore m) _ _ _ λ _. good-given (OneMore m) _ _ λ _. omega arith
-  effect-lines lent Action.raise = good-need (OneMore m) _ _ _ λ _. omega arith
+  effect-lines lent (Action.raise l) = good-need (OneMore m) _ _ _ λ _. omega arith
 
 module _ (lent : Buffers) (cs : List Command) where
   -- a state with one line more at most

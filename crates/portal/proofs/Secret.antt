@@ -5,18 +5,18 @@ use mathlib.Core.Logic.{⊎-map}
 use mathlib.Core.List.{List}
 use Prim.Native.Nat.{ℕ, _+_, _*_, _/_, _%_, _≤_}
 use native.Mathlib.Omega.{arith}
-use lib.ListN.{length, take}
+use lib.ListN.{length}
 use Rattle.rules.specs.Limits.{maxBudget}
 use Rattle.rules.specs.Level.{Level}
 use Rattle.rules.specs.Number.{range}
 use Rattle.rules.specs.Check.{accepted, checkBytes}
-use Rattle.rules.specs.Run.{State}
+use Rattle.rules.specs.Run.{Line, State}
 use Rattle.rules.specs.Outcome.{Outcome, rejected, ran, answer, runJob, boardLines}
-use Rattle.rules.specs.Public.{Finishes, Alike, Indistinguishable, Noninterference}
+use Rattle.rules.specs.Public.{Finishes, Alike, seenLines, Indistinguishable, Noninterference}
 use Rattle.rules.proofs.Noninterference.{noninterference}
 use Rattle.rules.proofs.Endings.{finishes}
-use Rattle.actions.specs.Board.{spell, written}
-use Rattle.actions.proofs.Board.{written-lines, spell-prefix}
+use Rattle.actions.specs.Board.{spell, seenBoard}
+use Rattle.actions.proofs.Board.{written-seen, spell-prefix}
 use Rattle.portal.specs.Portal.{buffersFor, numberOf, Handed, handBack, portal}
 use Rattle.portal.specs.Secrecy.{endingIn, countIn, linesIn, Unseen, SecretPortal}
 use Rattle.portal.proofs.Counted.{few-lines}
@@ -47,11 +47,11 @@ module _ (b : List ℕ) (n : ℕ) (area : List ℕ) (h : Handed) (is : h ≡ por
   unfolding countIn portal handBack numberOf
   count-is = ap countIn is ∙ lower _ _ (few-lines b n (buffersFor area)) ∙ counted outcome
 
-  pub lines-are : linesIn h ≡ spell (boardLines outcome)
+  pub lines-are : (o : Level) → linesIn o h ≡ spell (seenLines o (boardLines outcome))
   unfolding linesIn portal handBack
-  lines-are =
-      ap (λ (k : ℕ). take (4 * k) (h .area)) count-is ∙ ap (λ k. take (4 * length (boardLines outcome)) (k .area)) is
-      ∙ written-lines (boardLines outcome) area
+  lines-are o =
+      ap (λ (k : ℕ). seenBoard o k (h .area)) count-is ∙ ap (λ k. seenBoard o (length (boardLines outcome)) (k .area)) is
+      ∙ written-seen (boardLines outcome) area o
 
   pub finish : endingIn h ≡ 0 → (s : State) × Finishes outcome s
   finish z = finishes b n (buffersFor area) (sym ending-is ∙ z)
@@ -62,17 +62,18 @@ module _ (o : Level) (a b : List ℕ) (n m : ℕ) (x y : List ℕ) (h k : Handed
   unfolding Noninterference
   untold = noninterference o a b n m (buffersFor x) (buffersFor y) ha hb alike
 
-  unseen : Unseen h k
+  unseen : Unseen o h k
   unfolding boardLines
   unseen =
       record {
-        lines = rw (lines-are a n x h p, lines-are b m y k q) (⊎-map (spell-prefix _ _) (spell-prefix _ _) (untold .lines));
+        lines = rw (lines-are a n x h p o, lines-are b m y k q o) (⊎-map (spell-prefix _ _) (spell-prefix _ _) (untold .lines));
         finish = λ z w.
             let f = finish a n x h p z in
             let g = finish b m y k q w in
-            lines-are a n x h p
-            ∙ ap spell (ap boardLines (f .1) ∙ (untold .finish (f .0) (g .0) (f .1) (g .1)) .lines ∙ sym (ap boardLines (g .1)))
-            ∙ sym (lines-are b m y k q);
+            let seen : Outcome → List Line = λ v. seenLines o (boardLines v) in
+            lines-are a n x h p o
+            ∙ ap spell (ap seen (f .1) ∙ (untold .finish (f .0) (g .0) (f .1) (g .1)) .lines ∙ sym (ap seen (g .1)))
+            ∙ sym (lines-are b m y k q o);
       }
 
 pub secret-portal : (o : Level) → SecretPortal o

@@ -2,9 +2,8 @@
 -- secrecy rule for histories are the monitor's. Assumes nothing.
 use mathlib.Core.Path.{_≡_, refl, sym, _∙_, ap, subst}
 use mathlib.Core.List.{List, [], _∷_, map}
-use Prim.Native.Nat.{ℕ, _*_, _/_, _%_, _<_, _≤_}
+use Prim.Native.Nat.{ℕ, _/_, _%_, _<_, _≤_}
 use native.Mathlib.Omega.{arith}
-use lib.ListN.{take}
 use Rattle.rules.specs.Limits.{maxBudget, badFollowOn}
 use Rattle.rules.specs.Level.{Level}
 use Rattle.rules.specs.Number.{range}
@@ -13,9 +12,10 @@ use Rattle.rules.specs.Outcome as Rules
 use Rattle.rules.specs.Outcome.{endingNumber, answer}
 use Rattle.rules.specs.Public.{Comparable}
 use Rattle.rules.specs.History.{sectionScript}
+use Rattle.actions.specs.Board.{seenBoard}
 use Rattle.monitor.specs.declared.entry.Outcome.{Outcome}
 use Rattle.monitor.specs.Promises.{answerOf, placesIn, Tree, Leaves, Promises}
-use Rattle.monitor.specs.Secrecy.{boardOf, SecretCalls}
+use Rattle.monitor.specs.Secrecy.{seenOf, SecretCalls}
 use Rattle.monitor.specs.Follow.{StandsIn, Follows, over, none}
 use Rattle.monitor.specs.Histories.{Call, CallHistory, UnseenHistory, SecretHistories, SecretJobHistories}
 use Rattle.monitor.proofs.Secret.{secret-calls}
@@ -33,19 +33,19 @@ module _ (o : Outcome) (few : answerOf o .lines ≤ maxBudget) (x′ : Words) (n
   unfolding endingIn numberOf
   ending-in = ap (λ (k : ℕ). k / range) is ∙ upper _ _ few
 
-  lines-in : linesIn (shown n x′) ≡ boardOf o x′
-  unfolding linesIn countIn boardOf numberOf
-  lines-in = ap (λ (k : ℕ). take (4 * k) (x′ .board)) (ap (λ (k : ℕ). k % range) is ∙ lower _ _ few)
+  lines-in : (r : Level) → linesIn r (shown n x′) ≡ seenOf r o x′
+  unfolding linesIn countIn seenOf numberOf
+  lines-in r = ap (λ (k : ℕ). seenBoard r k (x′ .board)) (ap (λ (k : ℕ). k % range) is ∙ lower _ _ few)
 
--- the lines of two calls, from those of their outcomes
-unseen : (p q : Outcome) → answerOf p .lines ≤ maxBudget → answerOf q .lines ≤ maxBudget → (x y : Words) (n m : ℕ) → n ≡ numberOf (answerOf p)
-    → m ≡ numberOf (answerOf q) → Comparable (boardOf p x) (boardOf q y)
-    → (answerOf p .ending ≡ 0 → answerOf q .ending ≡ 0 → boardOf p x ≡ boardOf q y) → Unseen (shown n x) (shown m y)
-unseen p q fp fq x y n m ip iq lines finish =
+-- what a reader r sees of the lines of two calls, from what r sees of those of their outcomes
+unseen : (r : Level) (p q : Outcome) → answerOf p .lines ≤ maxBudget → answerOf q .lines ≤ maxBudget → (x y : Words) (n m : ℕ)
+    → n ≡ numberOf (answerOf p) → m ≡ numberOf (answerOf q) → Comparable (seenOf r p x) (seenOf r q y)
+    → (answerOf p .ending ≡ 0 → answerOf q .ending ≡ 0 → seenOf r p x ≡ seenOf r q y) → Unseen r (shown n x) (shown m y)
+unseen r p q fp fq x y n m ip iq lines finish =
     record {
-      lines = rw (lines-in p fp x n ip, lines-in q fq y m iq) lines;
+      lines = rw (lines-in p fp x n ip r, lines-in q fq y m iq r) lines;
       finish = λ e f.
-          lines-in p fp x n ip ∙ finish (sym (ending-in p fp x n ip) ∙ e) (sym (ending-in q fq y m iq) ∙ f) ∙ sym (lines-in q fq y m iq);
+          lines-in p fp x n ip r ∙ finish (sym (ending-in p fp x n ip) ∙ e) (sym (ending-in q fq y m iq) ∙ f) ∙ sym (lines-in q fq y m iq r);
     }
 
 -- a stop has a number from 21 on
@@ -110,7 +110,7 @@ secret-start o a b n m x x′ y y′ r s p q ha hb alike =
     let eq = sym (ending-in (q .outcome) fq y′ s (q .number)) in
     record {
       lines =
-          unseen (p .outcome) (q .outcome) fp fq x′ y′ r s (p .number) (q .number) (u .lines) (λ e f. (u .finish e f) .lines);
+          unseen o (p .outcome) (q .outcome) fp fq x′ y′ r s (p .number) (q .number) (u .lines) (λ e f. (u .finish e f) .lines);
       variables = λ e f. (u .finish (ep ∙ e) (eq ∙ f)) .variables;
       trees = λ e f. (u .finish (ep ∙ e) (eq ∙ f)) .trees;
     }
@@ -144,7 +144,7 @@ read-off o (c ∷ cs) (d ∷ ds) x y h k u =
     let fq = few-followed (q .promise) in
     let ep = sym (ending-in (p .outcome) fp (c .left) (c .number) (p .number)) in
     let eq = sym (ending-in (q .outcome) fq (d .left) (d .number) (q .number)) in (
-      unseen (p .outcome) (q .outcome) fp fq (c .left) (d .left) (c .number) (d .number) (p .number) (q .number) (u .0) (λ e f. (u .1 e f) .0 .lines),
+      unseen o (p .outcome) (q .outcome) fp fq (c .left) (d .left) (c .number) (d .number) (p .number) (q .number) (u .0) (λ e f. (u .1 e f) .0 .lines),
       λ e f. let w = u .1 (ep ∙ e) (eq ∙ f) in (w .0 .agree, read-off o cs ds (c .left) (d .left) (h .1 .1) (k .1 .1) (w .1)),
     )
 

@@ -76,7 +76,7 @@ SameScripts cs ds = map (λ c. sectionScript (c .section)) cs ≡ map (λ d. sec
 module _ (o : Level) where
   -- what two calls of portal_start with n variables left: the lines are unseen; if both finish, o sees the same variables and trees
   pub record UnseenStart (n : ℕ) (x y : Words) (r s : ℕ) : Type 0 where
-    pub lines : Unseen (shown r x) (shown s y)
+    pub lines : Unseen o (shown r x) (shown s y)
     pub variables : endingIn (shown r x) ≡ 0 → endingIn (shown s y) ≡ 0 → (i : ℕ) → i < n
         → seenVariable o (variableIn x i) ≡ seenVariable o (variableIn y i)
     pub trees : endingIn (shown r x) ≡ 0 → endingIn (shown s y) ≡ 0
@@ -93,7 +93,7 @@ module _ (o : Level) where
   UnseenPortalHistory [] ds = Unit {0}
   UnseenPortalHistory (c ∷ cs) [] = Unit {0}
   UnseenPortalHistory (c ∷ cs) (d ∷ ds) =
-      Unseen (seen c) (seen d)
+      Unseen o (seen c) (seen d)
       × (endingIn (seen c) ≡ 0 → endingIn (seen d) ≡ 0
       → AgreeLent placesIn Tree StandsIn o (c .left) (d .left) × UnseenPortalHistory cs ds)
 

@@ -37,7 +37,7 @@ fn number(o: Outcome) -> u64
     }
 }
 
-// The job is run with 512 places and room for 64 variables. The lines are put at the beginning of the area, four bytes each.
+// The job is run with 512 places and room for 64 variables. The lines are put at the beginning of the area, five bytes each, the readers last.
 #[no_mangle]
 pub extern "C" fn portal_run(job: &[u8], budget: u64, lines: &mut [u8]) -> u64
     ensures { λ r. ⌜ handed r (now (lines .exit)) ≡ portal (now (job .entry)) budget (now (lines .entry)) ⌝ }
