@@ -13,8 +13,8 @@ ghost use Prim.Native.Nat.{_<_, _≤_};
 ghost use Rattle.frames.specs.Bounds.{Fits};
 ghost use Rattle.history.specs.Room.{Room};
 
-// Four bytes for each of 65,535 lines.
-pub const AREA: usize = 262140;
+// Five bytes for each of 65,535 lines.
+pub const AREA: usize = 327675;
 
 // The state after an event, and the variables that stand.
 pub struct After {

@@ -200,9 +200,9 @@ pub fn run(
     lines: &mut [u8],
     v: Variables,
 ) -> Told
-    requires { ⌜ (out .used ≤ 65536) × Room v × (4 * h .lines ≤ length (now lines)) ⌝ }
+    requires { ⌜ (out .used ≤ 65536) × Room v × (5 * h .lines ≤ length (now lines)) ⌝ }
     ensures { λ r. ⌜ (r .out .used ≤ 65536) × Room (r .variables) ⌝ }
 {
-    let area = 4 * h.lines;
+    let area = 5 * h.lines;
     run_lent(kind, body, h, buf, out, words, &mut lines[..area], v)
 }

@@ -9,8 +9,7 @@ use lib.Dec.{eqb}
 use lib.ListN.{length, take, getD, set}
 use lib.Seq.{length-take-le, take-suc, take-suc-set}
 use borrow.Author.Tests.{lt-ltb, le-ltb}
-use Rattle.rules.specs.Bytes.{full}
-use Rattle.print.specs.Waiting.{size, push, pushes, Signed, Shown, Listed, more, Numbers}
+use Rattle.print.specs.Waiting.{size, push, pushes, Shown, Lined, Listed, more, Numbers}
 
 push-room : (w : List ℕ) (b : ℕ) → length w < size → push w b ≡ w ++ (b ∷ [])
 unfolding push
@@ -42,13 +41,13 @@ pub pushed : (w t : List ℕ) (i : ℕ) → i < length t → push (pushes w (tak
 pushed w t i h =
     sym (ap (λ (n : ℕ). pushes w (take n t)) (add-one i) ∙ ap (λ (l : List ℕ). pushes w l) (take-suc t i 0 h) ∙ pushes-end w (take i t) (getD t i 0))
 
--- a line more, from what its three parts leave
+-- a line more, from what its name, its board line and its end leave
 pub lined :
-    (name area w u p v x : List ℕ) (n bits : ℕ) → Listed name area w n u → p ≡ pushes u name → bits ≡ full area (4 * n) → Signed bits p v → x ≡ push v 10
+    (name area w u p v x : List ℕ) (n : ℕ) → Listed name area w n u → p ≡ pushes u name → Lined area (5 * n) p v → x ≡ push v 10
     → Listed name area w (n + 1) x
-lined name area w u p v x n bits h named read s ended =
+lined name area w u p v x n h named s ended =
     subst (λ (k : ℕ). Listed name area w k x) (sym (add-one n)) (subst (λ (l : List ℕ). Listed name area w (suc n) l) (sym ended) (more h
-    (subst (λ (l : List ℕ). Signed (full area (4 * n)) l v) named (subst (λ (k : ℕ). Signed k p v) read s))))
+    (subst (λ (l : List ℕ). Lined area (5 * n) l v) named s)))
 
 -- a number of a row more, behind its space
 pub numbered :

@@ -2,11 +2,11 @@
 use mathlib.Core.Bool.{Bool, true, false, cond}
 use mathlib.Core.List.{List, [], _∷_, _++_}
 use mathlib.Core.Path.{_≡_}
-use Prim.Native.Nat.{ℕ, zero, suc, _*_, _-_, _≤_, _<_}
+use Prim.Native.Nat.{ℕ, zero, suc, _+_, _*_, _-_, _≤_, _<_}
 use lib.Dec.{ltb, eqb}
 use lib.ListN.{length, getD}
 use Rattle.io.specs.Digits.{digits, Fewest}
-use Rattle.rules.specs.Bytes.{full}
+use Rattle.rules.specs.Bytes.{byte, full}
 
 -- how many bytes the buffer has
 abbrev pub size : ℕ
@@ -32,10 +32,16 @@ pub record Signed (bits : ℕ) (w v : List ℕ) : Type 0 where
   pub positive : bits < 2147483648 → Number bits w v
   pub negative : 2147483648 ≤ bits → Number (4294967296 - bits) (push w 45) v
 
+-- the board line at a place of an area more: "prints it in decimal after the number and a space" (32)
+pub record Lined (area : List ℕ) (at : ℕ) (w v : List ℕ) : Type 0 where
+  pub numbered : List ℕ
+  pub number : Signed (full area at) w numbered
+  pub readers : Number (byte area (at + 4)) (push numbered 32) v
+
 -- the first n lines of an area more, each behind a name and before a line's end (10)
 pub data Listed (name area : List ℕ) (w : List ℕ) : ℕ → List ℕ → Type 0 where
   none : Listed name area w zero w
-  more : {n : ℕ} {u v : List ℕ} → Listed name area w n u → Signed (full area (4 * n)) (pushes u name) v → Listed name area w (suc n) (push v 10)
+  more : {n : ℕ} {u v : List ℕ} → Listed name area w n u → Lined area (5 * n) (pushes u name) v → Listed name area w (suc n) (push v 10)
 
 -- a number of 32 bits more, as a signed one or not
 abbrev pub Shown : Bool → ℕ → List ℕ → List ℕ → Type 0

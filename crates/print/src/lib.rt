@@ -4,9 +4,10 @@ pub mod preorder;
 pub mod runner;
 
 ghost use mathlib.Core.Path.{_≡_};
-ghost use Prim.Native.Nat.{_/_, _<_, _≤_, min};
+ghost use Prim.Native.Nat.{_+_, _/_, _<_, _≤_, min};
 ghost use lib.ListN.{length, set, take};
-ghost use Rattle.print.specs.Waiting.{push, pushes, Number, Signed, Shown, Listed, Row};
+ghost use Rattle.print.specs.Waiting.{push, pushes, Number, Signed, Shown, Lined, Listed, Row};
+use job::reads::byte_at;
 use job::reads::full_at;
 
 // How many bytes the buffer has: as many as io::large_buffer gives.
@@ -159,18 +160,29 @@ fn least(n: usize, most: usize) -> usize
     if n < most { n } else { most }
 }
 
+// Puts the board line at a place of an area: its number, a space and its reader set.
+fn line(buf: &mut [u8; SIZE], out: Out, area: &[u8], at: usize) -> Out
+    requires { ⌜ (out .used ≤ 65536) × (at + 5 ≤ length (now area)) ⌝ }
+    ensures { λ r. ⌜ (r .used ≤ 65536) × (r .fd ≡ out .fd) ⌝ }
+    ensures { λ r. ⌜ Lined (now (area .entry)) at (take (out .used) (now (buf .entry))) (take (r .used) (now (buf .exit))) ⌝ }
+{
+    let r = signed(buf, out, full_at(area, at));
+    let s = byte(buf, r, b' ');
+    number(buf, s, byte_at(area, at + 4) as u64)
+}
+
 // Puts the first n board lines of an area, as far as it has so many, each behind a name and on a line of its own.
 pub fn lines(buf: &mut [u8; SIZE], out: Out, name: &[u8], area: &[u8], n: usize) -> Out
     requires { ⌜ out .used ≤ 65536 ⌝ }
     ensures { λ r. ⌜ (r .used ≤ 65536) × (r .fd ≡ out .fd) ⌝ }
-    ensures { λ r. ⌜ Listed (now (name .entry)) (now (area .entry)) (take (out .used) (now (buf .entry))) (min n (length (now (area .entry)) / 4)) (take (r .used) (now (buf .exit))) ⌝ }
+    ensures { λ r. ⌜ Listed (now (name .entry)) (now (area .entry)) (take (out .used) (now (buf .entry))) (min n (length (now (area .entry)) / 5)) (take (r .used) (now (buf .exit))) ⌝ }
 {
-    let count = least(n, area.len() / 4);
+    let count = least(n, area.len() / 5);
     let mut r = out;
     let mut i = 0;
     while i < count {
         r = text(buf, r, name);
-        r = signed(buf, r, full_at(area, 4 * i));
+        r = line(buf, r, area, 5 * i);
         r = byte(buf, r, b'\n');
         i += 1;
     }

@@ -12,8 +12,8 @@ pub const WORDS: usize = table::CELL * PLACES;
 
 pub const VARIABLES: usize = 64;
 
-// Four bytes for each of 256 lines.
-pub const AREA: usize = 1024;
+// Five bytes for each of 256 lines.
+pub const AREA: usize = 1280;
 
 // How many variables a job has that the checks accept.
 pub fn variables_of(job: &[u8]) -> usize

@@ -47,8 +47,8 @@ fn run(job: &[u8], h: Header, k: u64, buf: &mut [u8; SIZE], out: Out) -> Out
     let mut words = [0u32; WORDS];
     let mut levels = [0u8; VARIABLES];
     let mut values = [0i32; VARIABLES];
-    let mut lines = [0u8; 4096];
-    let area = 4 * capacity(h.lines);
+    let mut lines = [0u8; 5120];
+    let area = 5 * capacity(h.lines);
     run_lent(
         job,
         h,

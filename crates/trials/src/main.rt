@@ -26,12 +26,12 @@ fn run_lent(
 
 // Lends a job buffers of the lengths that it asks for.
 fn run_one(name: &[u8], bytes: &[u8], s: Settings)
-    requires { ⌜ (s .words ≤ 5130) × (s .room ≤ 64) × (s .lines ≤ 1024) ⌝ }
+    requires { ⌜ (s .words ≤ 5130) × (s .room ≤ 64) × (s .lines ≤ 1280) ⌝ }
 {
     let mut words = [0u32; 5130];
     let mut levels = [0u8; 64];
     let mut values = [0i32; 64];
-    let mut lines = [0u8; 1024];
+    let mut lines = [0u8; 1280];
     let count = s.words;
     let room = s.room;
     let area = s.lines;

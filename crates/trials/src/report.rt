@@ -1,10 +1,13 @@
 // Prints what a job comes to, on a line.
 use super::settings::at_most;
+use job::reads::byte_at;
 use job::reads::signed_at;
 use libc::STDOUT_FILENO;
 use monitor::Outcome;
 use print::answer;
 use rules::numbers::bits;
+ghost use Prim.Native.Nat.{_+_, _≤_};
+ghost use lib.ListN.{length};
 
 // A name with a number.
 fn item(name: &[u8], n: u64) {
@@ -37,13 +40,21 @@ fn first(name: &[u8], list: &[i32], n: usize) {
     numbers(&list[..k]);
 }
 
-// The first board lines, of four bytes each.
+// The board line at a place: its number and its reader set.
+fn line(lines: &[u8], at: usize)
+    requires { ⌜ at + 5 ≤ length (now lines) ⌝ }
+{
+    signed(signed_at(lines, at));
+    item(b" ", byte_at(lines, at + 4) as u64);
+}
+
+// The first board lines, of five bytes each.
 fn board(lines: &[u8], n: usize) {
     io::write_all(STDOUT_FILENO, b", board");
-    let k = at_most(n, lines.len() / 4);
+    let k = at_most(n, lines.len() / 5);
     let mut i = 0;
     while i < k {
-        signed(signed_at(lines, 4 * i));
+        line(lines, 5 * i);
         i += 1;
     }
 }

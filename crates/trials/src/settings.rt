@@ -21,7 +21,7 @@ pub fn at_most(n: usize, most: usize) -> usize
 // Each number ends where the next word begins: the first p behind the comma is that of places, the first r behind that the one of room, and the first
 // l behind that the one of lines.
 pub fn read(text: &[u8]) -> Settings
-    ensures { λ r. ⌜ (r .words ≤ 5130) × (r .room ≤ 64) × (r .lines ≤ 1024) ⌝ }
+    ensures { λ r. ⌜ (r .words ≤ 5130) × (r .room ≤ 64) × (r .lines ≤ 1280) ⌝ }
 {
     let comma = find(text, 0, b',');
     let p = find(text, comma, b'p');
@@ -35,6 +35,6 @@ pub fn read(text: &[u8]) -> Settings
         budget: budget as u64,
         words: 10 * places,
         room,
-        lines: 4 * lines,
+        lines: 5 * lines,
     }
 }

@@ -6,7 +6,7 @@ use Rattle.trials.proofs.report.board.Statement.{statement}
 use Rattle.trials.proofs.report.board.Tie as tie
 
 abbrev Inv-loop : tie.InvT-loop
-Inv-loop lines n k i₀ i = (i ≤ k) × (k ≤ length lines / 4)
+Inv-loop lines n k i₀ i = (i ≤ k) × (k ≤ length lines / 5)
 
 abbrev μ-loop : tie.MeasureT-loop
 μ-loop lines n k i₀ i = k - i
@@ -15,4 +15,4 @@ pub board-spec : {M : Type 1} → statement M
 board-spec =
     tie.close
     (tie.spec Inv-loop μ-loop (λ c. search needs) (λ c κs. search needs) (λ c κs. search needs) (λ c. search needs) (λ c. search needs) (λ c κs. search needs)
-    (λ c κs. search needs) (λ c. search needs) (λ c. search needs) (λ c. search needs) (λ c. search needs))
+    (λ c. search needs) (λ c. search needs) (λ c. search needs) (λ c. search needs))
