@@ -2,7 +2,8 @@
 //! that sets those bytes to zero and prints each change as section, record, byte
 //! and old number, in rising order."
 
-use crate::job::{decode_first, Job, Refusal, NODE_BYTES, RECORD_BYTES, VARIABLE_BYTES};
+use crate::job::{decode_first, Job, Refusal, FIRST_READS, READS};
+use crate::job::{NODE_BYTES, RECORD_BYTES, VARIABLE_BYTES};
 use crate::mistake::Mistake;
 
 /// What the program puts out.
@@ -54,7 +55,12 @@ pub fn clean(bytes: &[u8], mistake: Mistake) -> Result<(Vec<u8>, Vec<Change>), R
         Mistake::CleanerHasNewRules => crate::job::decode(bytes)?,
         _ => decode_first(bytes, mistake)?,
     };
-    let cleaned = job.plain(mistake).encode();
+    // "the cleaner of R-4 and the tool of R-10 keep their old rules" (R-12)
+    let rows = match mistake {
+        Mistake::CleanerKeepsSets => &READS,
+        _ => &FIRST_READS,
+    };
+    let cleaned = job.plain(rows, mistake).encode();
     let mut changes = changes(&job, bytes, &cleaned);
     if mistake == Mistake::ReportBackwards {
         changes.reverse();

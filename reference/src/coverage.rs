@@ -10,11 +10,11 @@ use crate::follow;
 use crate::generate::Case;
 use crate::history::{self, Event, Expected, Model};
 use crate::job::{self, command, kind, operator, Job, Record, Target, MAX_BLOCKS, READS};
-use crate::mistake::Mistake;
+use crate::mistake::{Mistake, RULED_COMMANDS};
 use crate::run::{self, Outcome, State};
 use crate::table::Fault;
 use crate::tree::{Path, Tree};
-use crate::{Level, HOUSE, PUBLIC};
+use crate::{apart, join, Level, PUBLIC};
 
 /// How often each thing came up, by its name.
 #[derive(Clone, Debug, Default, PartialEq, Eq)]
@@ -42,6 +42,8 @@ struct Steps {
     back_in_back: u64,
     back_in_while: u64,
     back_elsewhere: u64,
+    /// What R-12 brings, by the place in [`SETS`].
+    sets: [u64; SETS.len()],
     /// By command and the new node's levels.
     insertions: BTreeMap<(u8, [Level; 3]), u64>,
 }
@@ -184,6 +186,9 @@ impl Coverage {
         self.count_all(String::from(DEEPEST), steps.deepest);
         self.count_all(String::from(COUNTED), steps.counted_under_cover);
         self.count_all(String::from(PUBLIC_LAST), steps.public_lasts);
+        for (name, count) in SETS.into_iter().zip(steps.sets) {
+            self.count_all(String::from(name), count);
+        }
         self.count_all(String::from(BACK_IN_BACK), steps.back_in_back);
         self.count_all(String::from(BACK_IN_WHILE), steps.back_in_while);
         self.count_all(String::from(BACK_ELSEWHERE), steps.back_elsewhere);
@@ -195,7 +200,9 @@ impl Coverage {
     /// The levels of the nodes that an accepted job brings.
     fn add_nodes(&mut self, case: &Case) {
         for node in job::split(&case.bytes).expect("check 2 passed").nodes {
-            self.count(node_name([node.existence, node.content, node.list]));
+            self.count(node_name(
+                [node.existence, node.content, node.list].map(some),
+            ));
         }
     }
 
@@ -204,6 +211,11 @@ impl Coverage {
         let at = |script: &[Record]| script.get(outcome.index).map(|record| record.command);
         match outcome.ending {
             Ending::Finished => {}
+            Ending::Tree => {
+                if shows(case, outcome, Mistake::TreeSetsCompared) {
+                    self.count(String::from(APART_TREE));
+                }
+            }
             Ending::Field => {
                 let parts = job::split(&case.bytes).expect("check 2 passed");
                 let record = &parts.script[outcome.index];
@@ -221,6 +233,9 @@ impl Coverage {
                 let script = job::split(&case.bytes).expect("check 2 passed").script;
                 let command = at(&script).expect("a stop has a record");
                 self.count(stop_name(ending, command));
+                if ending == Ending::Rule && shows(case, outcome, Mistake::SetsCompared) {
+                    self.count(apart_stop_name(command));
+                }
                 if ending == Ending::Missing
                     && command == command::END
                     && place_taken(case, outcome)
@@ -250,8 +265,10 @@ impl Steps {
     fn add(&mut self, state: &State, record: &Record) {
         self.add_block(state, record);
         let command = usize::from(record.command);
-        let context = state.guards.iter().copied().max().unwrap_or(PUBLIC);
-        self.levels[command][usize::from(context)][usize::from(state.cursor_level)] += 1;
+        let context = state.guards.iter().copied().fold(PUBLIC, join);
+        let (outer, inner) = (some(context), some(state.cursor_level));
+        self.levels[command][usize::from(outer)][usize::from(inner)] += 1;
+        self.add_sets(state, record, context);
         if READS[command].expression {
             // The right side of operator 0 is ignored, and may be anything.
             let right_kind = match record.operator {
@@ -262,14 +279,14 @@ impl Steps {
             by_kinds[usize::from(record.left_kind)][usize::from(right_kind)] += 1;
         }
         self.deepest += (state.guards.len() == MAX_BLOCKS) as u64;
-        if record.command == command::ASSIGN && state.cursor_level == HOUSE {
+        if record.command == command::ASSIGN && state.cursor_level != PUBLIC {
             let (level, _) = state.variables[usize::from(record.target)];
             self.counted_under_cover += (level == PUBLIC) as u64;
         }
         if record.command == command::LAST_CHILD {
             let (_, above) = state.cursor.split_last().expect("a child");
             let public = state.tree.at(&state.cursor).existence == PUBLIC;
-            self.public_lasts += (public && state.tree.at(above).list == HOUSE) as u64;
+            self.public_lasts += (public && state.tree.at(above).list != PUBLIC) as u64;
         }
         let new_node = match (record.command, state.cursor.split_last()) {
             (command::NEW_FIRST_CHILD, _) => &state.tree.at(&state.cursor).children[0],
@@ -278,8 +295,36 @@ impl Steps {
             }
             _ => return,
         };
-        let insertion = (record.command, levels(new_node));
+        let insertion = (record.command, levels(new_node).map(some));
         *self.insertions.entry(insertion).or_insert(0) += 1;
+    }
+
+    /// What R-12 brings.
+    fn add_sets(&mut self, state: &State, record: &Record, context: Level) {
+        let mut met = |place: usize, met: bool| self.sets[place] += met as u64;
+        met(
+            0,
+            record.command == command::PRINT && record.target != PUBLIC,
+        );
+        met(
+            1,
+            record.command == command::PRINT && context != PUBLIC && record.target != context,
+        );
+        met(2, record.command == command::COVER && record.sets[0] > 1);
+        let joined = record.sets[0] != PUBLIC && record.sets[0] != state.cursor_level;
+        met(3, record.command == command::COVER && joined);
+        let inserts = [command::NEW_FIRST_CHILD, command::NEW_RIGHT_SIBLING];
+        let inserted = inserts.contains(&record.command);
+        met(4, inserted && record.sets[0] > 1 && record.target % 2 == 1);
+        met(5, inserted && record.sets[1] > 1 && record.target >= 2);
+        met(6, apart(context, state.cursor_level));
+        let levels: Vec<Level> = state.variables.iter().map(|variable| variable.0).collect();
+        met(
+            7,
+            levels
+                .iter()
+                .any(|&one| levels.iter().any(|&other| apart(one, other))),
+        );
     }
 
     /// A block that was opened or closed.
@@ -312,14 +357,44 @@ fn levels(node: &Tree) -> [Level; 3] {
     [node.existence, node.content, node.list]
 }
 
+/// 0 for nobody's matters, 1 for somebody's.
+fn some(level: Level) -> Level {
+    (level != PUBLIC) as Level
+}
+
+/// R-12, in a run.
+const SETS: [&str; 8] = [
+    "line for some readers",
+    "line for more readers than the context needs",
+    "cover of a set",
+    "cover that joins a set to another",
+    "new content of a set and the first party",
+    "new list of a set and the first party",
+    "context and cursor level apart",
+    "variables of sets apart",
+];
+
+/// R-12, a 21 and a 6 that a comparison of numbers would not give.
+fn apart_stop_name(command: u8) -> String {
+    format!("stop 21 at command {command:02}, for sets apart")
+}
+
+const APART_TREE: &str = "refusal 06 for sets apart";
+
+/// Whether a monitor with `mistake` ends in another way.
+fn shows(case: &Case, outcome: &Outcome, mistake: Mistake) -> bool {
+    let other = run::outcome_with(&case.bytes, &case.limits, mistake);
+    (other.ending, other.index, other.steps) != (outcome.ending, outcome.index, outcome.steps)
+}
+
 /// Sixteen blocks open at once, in a run.
 const DEEPEST: &str = "run with 16 open blocks";
 
 /// a public counter steps while the cursor is covered.
-const COUNTED: &str = "public variable assigned at cursor level 1";
+const COUNTED: &str = "public variable assigned under cover";
 
 /// the list level counts where no house child stands.
-const PUBLIC_LAST: &str = "last child of existence 0 below a list of level 1";
+const PUBLIC_LAST: &str = "last child of existence 0 below a list that is not public";
 
 /// R-6, ifs that come back.
 const BACK_IN_BACK: &str = "if that comes back inside another";
@@ -374,7 +449,7 @@ const SPARE: [&str; 8] = [
 
 /// The first of them that is not zero in a job that check 12 turned back.
 fn spare_part(job: &Job) -> &'static str {
-    let plain = job.plain(Mistake::None);
+    let plain = job.plain(&READS, Mistake::None);
     if job.variables != plain.variables {
         return SPARE[0];
     }
@@ -390,7 +465,7 @@ fn spare_part(job: &Job) -> &'static str {
         _ if record.operator != plain.operator => SPARE[3],
         _ if record.left_kind != plain.left_kind => SPARE[3],
         _ if record.right_kind != plain.right_kind => SPARE[4],
-        _ if record.spare != plain.spare => SPARE[5],
+        _ if (record.sets, record.spare) != (plain.sets, plain.spare) => SPARE[5],
         _ if record.left != plain.left => SPARE[6],
         _ => SPARE[7],
     }
@@ -507,8 +582,9 @@ pub fn wanted_of_histories() -> Vec<String> {
 pub fn wanted() -> Vec<String> {
     let mut names = Vec::new();
     names.extend((0..command::COUNT as u8).map(command_name));
-    // No job is turned back with 11 or 14.
-    let reachable = |ending: &Ending| ![Ending::Standing, Ending::Area].contains(ending);
+    // No job is turned back with 11 or 14, and from R-12 on none with 4.
+    let reachable =
+        |ending: &Ending| ![Ending::Standing, Ending::Area, Ending::VariableLevel].contains(ending);
     names.extend(Ending::ALL.into_iter().filter(reachable).map(ending_name));
     names.extend(LONG_RUNS.map(length_name));
     let stops: [(Ending, &[u8]); 5] = [
@@ -539,6 +615,9 @@ pub fn wanted() -> Vec<String> {
     names.push(String::from(DEEPEST));
     names.push(String::from(COUNTED));
     names.push(String::from(PUBLIC_LAST));
+    names.extend(SETS.map(String::from));
+    names.extend(RULED_COMMANDS.map(apart_stop_name));
+    names.push(String::from(APART_TREE));
     let back = [BACK_IN_BACK, BACK_IN_WHILE, BACK_ELSEWHERE, PLACE_TAKEN];
     names.extend(back.map(String::from));
     names.extend(wanted_levels());
@@ -551,14 +630,13 @@ pub fn wanted() -> Vec<String> {
     names
 }
 
-/// A line needs a public context, a move a context not above the cursor level;
-/// root leaves the context as cursor level, cover leaves 1, and an if that comes
-/// back joins the context to it.
+/// By whether context and cursor level are 0: a move needs a context within the
+/// cursor level; root leaves the context as cursor level, cover leaves a set, and an
+/// if that comes back joins the context to it.
 fn wanted_levels() -> Vec<String> {
     let can_leave = |command: u8, context: Level, cursor: Level| match command {
-        command::PRINT => context == PUBLIC,
         command::ROOT => context == cursor,
-        command::COVER => cursor == HOUSE,
+        command::COVER => cursor != PUBLIC,
         command::UP
         | command::FIRST_CHILD
         | command::RIGHT_SIBLING

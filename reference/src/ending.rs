@@ -10,11 +10,11 @@ pub enum Ending {
     Layout = 2,
     /// "a count out of range"
     Count = 3,
-    /// "variable level above 1"
+    /// "variable level above 1": only by programs that keep rules from before R-12
     VariableLevel = 4,
     /// "parent rule broken"
     Parent = 5,
-    /// "level above 1, or a tree rule broken"
+    /// "a tree rule broken"
     Tree = 6,
     /// "command above 16, or a field read is out of range"
     Field = 7,

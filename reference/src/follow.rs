@@ -17,9 +17,6 @@ pub fn standing(
     if variables.len() > MAX_VARIABLES && mistake != Mistake::LentVariablesUnchecked {
         return Err(Fault::TooManyVariables);
     }
-    if variables.iter().any(|variable| variable.0 > 1) {
-        return Err(Fault::VariableLevel);
-    }
     Ok(Standing {
         variables: variables.to_vec(),
         tree: table::tree(table, mistake)?,

@@ -1,9 +1,10 @@
 //! The job's bytes: three sections and a trailer, the checks 1 to 8, the check of
-//! spare bytes (R-4) before 8, and that of the nodes' order (R-10) before 6.
+//! spare bytes (R-4) before 8, and that of the nodes' order (R-10) before 6. From R-12
+//! on every byte is a level, and 4 is for the older programs alone.
 
 use crate::ending::Ending;
 use crate::mistake::Mistake;
-use crate::Level;
+use crate::{within, Level, HOUSE, PUBLIC};
 
 pub const VARIABLE_BYTES: usize = 8;
 pub const NODE_BYTES: usize = 12;
@@ -88,6 +89,8 @@ pub struct Node {
 
 /// "Script record, 16 bytes: 0 command, 1 target, 2 operator, 3 left kind,
 /// 4 right kind, 5 to 7 ignored, 8 to 11 left number, 12 to 15 right number."
+/// "Script byte 5 gives a set to join to a new node's content and byte 6 one for its
+/// list"; "Command 16 joins the set in byte 5" (R-12).
 #[derive(Clone, Copy, Debug, Default, PartialEq, Eq)]
 pub struct Record {
     pub command: u8,
@@ -95,7 +98,10 @@ pub struct Record {
     pub operator: u8,
     pub left_kind: u8,
     pub right_kind: u8,
-    pub spare: [u8; 3],
+    /// Bytes 5 and 6.
+    pub sets: [Level; 2],
+    /// Byte 7.
+    pub spare: u8,
     pub left: u32,
     pub right: u32,
 }
@@ -134,6 +140,8 @@ pub enum Target {
     Variable,
     /// "the target is a mark, 0 to 3"
     Mark,
+    /// "Command 6 takes its reader set from the target" (R-12).
+    Readers,
 }
 
 /// Which fields a command reads besides its number.
@@ -141,44 +149,81 @@ pub enum Target {
 pub struct Reads {
     pub target: Target,
     pub expression: bool,
+    /// How many of bytes 5 and 6 (R-12).
+    pub sets: usize,
 }
 
 const fn reads(target: Target, expression: bool) -> Reads {
-    Reads { target, expression }
+    Reads {
+        target,
+        expression,
+        sets: 0,
+    }
 }
+
+const fn with_sets(sets: usize, reads: Reads) -> Reads {
+    Reads { sets, ..reads }
+}
+
+/// A row for each command.
+pub type Rows = [Reads; command::COUNT];
 
 /// "One fixed table of seventeen rows says which fields each command reads;
 /// the others are ignored." "Commands 1, 2, 4, 6, 11, 12 and 15 read an
 /// expression." Command 17 is "an if", and reads what an if reads; 18 and 19 are
-/// moves, and read nothing.
-pub const READS: [Reads; command::COUNT] = [
+/// moves, and read nothing. "Bytes 5 and 6 stop being spare for commands 11 and 12,
+/// byte 5 for 16 and byte 1 for 6" (R-12).
+pub const READS: Rows = [
     reads(Target::Ignored, false),
     reads(Target::Variable, true),
     reads(Target::Ignored, true),
     reads(Target::Ignored, false),
     reads(Target::Ignored, true),
     reads(Target::Ignored, false),
+    reads(Target::Readers, true),
+    reads(Target::Ignored, false),
+    reads(Target::Ignored, false),
+    reads(Target::Ignored, false),
+    reads(Target::Ignored, false),
+    with_sets(2, reads(Target::Mark, true)),
+    with_sets(2, reads(Target::Mark, true)),
+    reads(Target::Ignored, false),
+    reads(Target::Ignored, false),
     reads(Target::Ignored, true),
-    reads(Target::Ignored, false),
-    reads(Target::Ignored, false),
-    reads(Target::Ignored, false),
-    reads(Target::Ignored, false),
-    reads(Target::Mark, true),
-    reads(Target::Mark, true),
-    reads(Target::Ignored, false),
-    reads(Target::Ignored, false),
-    reads(Target::Ignored, true),
-    reads(Target::Ignored, false),
+    with_sets(1, reads(Target::Ignored, false)),
     reads(Target::Ignored, true),
     reads(Target::Ignored, false),
     reads(Target::Ignored, false),
 ];
+
+/// The rows before R-12.
+pub const FIRST_READS: Rows = first_reads();
+
+const fn first_reads() -> Rows {
+    let mut rows = READS;
+    rows[command::PRINT as usize] = reads(Target::Ignored, true);
+    rows[command::NEW_FIRST_CHILD as usize] = reads(Target::Mark, true);
+    rows[command::NEW_RIGHT_SIBLING as usize] = reads(Target::Mark, true);
+    rows[command::COVER as usize] = reads(Target::Ignored, false);
+    rows
+}
 
 /// The rules of a day: R-4's cleaner and R-10's rearranger keep those of theirs.
 struct Rules {
     commands: usize,
     spare: bool,
     order: bool,
+    /// Whether a level is a set of parties, and no longer 0 or 1 alone.
+    sets: bool,
+}
+
+impl Rules {
+    fn rows(&self) -> &'static Rows {
+        match self.sets {
+            true => &READS,
+            false => &FIRST_READS,
+        }
+    }
 }
 
 /// Before R-4: spare bytes hold anything, and there is no command from 17 on.
@@ -186,6 +231,7 @@ const FIRST: Rules = Rules {
     commands: command::FIRST_COUNT,
     spare: false,
     order: false,
+    sets: false,
 };
 
 /// Before R-10: "Otherwise the order is open."
@@ -193,12 +239,22 @@ const UNORDERED: Rules = Rules {
     commands: command::COUNT,
     spare: true,
     order: false,
+    sets: false,
 };
 
 const TODAY: Rules = Rules {
     order: true,
+    sets: true,
     ..UNORDERED
 };
+
+/// Today's rules by a monitor with `mistake`.
+const fn today(mistake: Mistake) -> Rules {
+    Rules {
+        sets: !matches!(mistake, Mistake::LevelsAbove1TurnedBack),
+        ..TODAY
+    }
+}
 
 /// The job in `bytes`, or the first check that turns it back.
 pub fn decode(bytes: &[u8]) -> Result<Job, Refusal> {
@@ -207,7 +263,7 @@ pub fn decode(bytes: &[u8]) -> Result<Job, Refusal> {
 
 /// The job by the rules of today.
 pub fn decode_with(bytes: &[u8], mistake: Mistake) -> Result<Job, Refusal> {
-    decode_by(&TODAY, bytes, mistake)
+    decode_by(&today(mistake), bytes, mistake)
 }
 
 /// The job by the rules before R-4.
@@ -225,34 +281,37 @@ pub fn decode_unordered(bytes: &[u8], mistake: Mistake) -> Result<Job, Refusal> 
 fn decode_by(rules: &Rules, bytes: &[u8], mistake: Mistake) -> Result<Job, Refusal> {
     let job = split(bytes)?;
     check_counts(&job)?;
-    check_variables(&job)?;
+    if !rules.sets {
+        check_variables(&job)?;
+    }
     check_parents(&job)?;
     match rules.order {
-        true => check_order_and_tree(&job, mistake)?,
-        false => check_tree(&job, mistake)?,
+        true => check_order_and_tree(&job, rules, mistake)?,
+        false => check_tree(&job, rules, mistake)?,
     }
-    check_fields(&job.script, job.variables.len(), rules.commands, mistake)?;
+    check_fields(&job.script, job.variables.len(), rules, mistake)?;
     match rules.spare {
-        true => check_spare_and_blocks(&job, mistake)?,
+        true => check_spare_and_blocks(&job, rules, mistake)?,
         false => check_blocks(&job.script, mistake)?,
     }
     Ok(job)
 }
 
 /// 13 is "checked after 5 and before 6".
-fn check_order_and_tree(job: &Job, mistake: Mistake) -> Result<(), Refusal> {
+fn check_order_and_tree(job: &Job, rules: &Rules, mistake: Mistake) -> Result<(), Refusal> {
     if mistake == Mistake::OrderAfterTree {
-        check_tree(job, mistake)?;
+        check_tree(job, rules, mistake)?;
         return check_order(job, mistake);
     }
     check_order(job, mistake)?;
-    check_tree(job, mistake)
+    check_tree(job, rules, mistake)
 }
 
 /// Checks 7, 12 and 8 of a bare script over so many variables: it has no records
 /// of other sections.
 pub fn check_script(script: &[Record], variables: usize, mistake: Mistake) -> Result<(), Refusal> {
-    check_fields(script, variables, command::COUNT, mistake)?;
+    let rules = &today(mistake);
+    check_fields(script, variables, rules, mistake)?;
     if mistake == Mistake::SectionSpareUnchecked {
         return check_blocks(script, mistake);
     }
@@ -260,16 +319,16 @@ pub fn check_script(script: &[Record], variables: usize, mistake: Mistake) -> Re
         script: script.to_vec(),
         ..Job::default()
     };
-    check_spare_and_blocks(&bare, mistake)
+    check_spare_and_blocks(&bare, rules, mistake)
 }
 
 /// 12 is "checked after 7 and before 8".
-fn check_spare_and_blocks(job: &Job, mistake: Mistake) -> Result<(), Refusal> {
+fn check_spare_and_blocks(job: &Job, rules: &Rules, mistake: Mistake) -> Result<(), Refusal> {
     if mistake == Mistake::SpareAfterBlocks {
         check_blocks(&job.script, mistake)?;
-        return check_spare(job, mistake);
+        return check_spare(job, rules, mistake);
     }
-    check_spare(job, mistake)?;
+    check_spare(job, rules, mistake)?;
     check_blocks(&job.script, mistake)
 }
 
@@ -324,7 +383,8 @@ fn check_counts(job: &Job) -> Result<(), Refusal> {
     }
 }
 
-/// Check 4: "variable level above 1".
+/// Check 4: "variable level above 1". From R-12 on it "is never given again" but by
+/// the programs that keep older rules.
 fn check_variables(job: &Job) -> Result<(), Refusal> {
     match job.variables.iter().position(|variable| variable.level > 1) {
         Some(index) => refuse(Ending::VariableLevel, index),
@@ -376,10 +436,21 @@ fn way_up(nodes: &[Node], from: usize) -> impl Iterator<Item = usize> + '_ {
     })
 }
 
-/// Check 6: "level above 1, or a tree rule broken".
-fn check_tree(job: &Job, mistake: Mistake) -> Result<(), Refusal> {
+/// Check 6: "level above 1, or a tree rule broken"; from R-12 on "only for a broken
+/// tree rule".
+fn check_tree(job: &Job, rules: &Rules, mistake: Mistake) -> Result<(), Refusal> {
     for index in 0..job.nodes.len() {
-        if !node_keeps_rules(&job.nodes, index, mistake) {
+        let Node {
+            existence,
+            content,
+            list,
+            ..
+        } = job.nodes[index];
+        let levels = rules.sets
+            || [existence, content, list]
+                .iter()
+                .all(|&level| level <= HOUSE);
+        if !levels || !node_keeps_rules(&job.nodes, index, mistake) {
             return refuse(Ending::Tree, index);
         }
     }
@@ -388,24 +459,26 @@ fn check_tree(job: &Job, mistake: Mistake) -> Result<(), Refusal> {
 
 /// "the root has existence 0; content and list are not below existence; a
 /// child's existence is not below its parent's existence, not above its
-/// parent's list level, and not below that of the sibling to its left."
+/// parent's list level, and not below that of the sibling to its left." "not above
+/// means contained in, and below in the tree rules means not containing" (R-12)
 fn node_keeps_rules(nodes: &[Node], index: usize, mistake: Mistake) -> bool {
+    let within = |a: Level, b: Level| match mistake {
+        Mistake::TreeSetsCompared => a <= b,
+        _ => within(a, b),
+    };
     let node = &nodes[index];
-    if node.existence > 1 || node.content > 1 || node.list > 1 {
-        return false;
-    }
-    if node.content < node.existence || node.list < node.existence {
+    if !within(node.existence, node.content) || !within(node.existence, node.list) {
         return false;
     }
     if index == 0 {
-        return node.existence == 0;
+        return node.existence == PUBLIC;
     }
     let parent = &nodes[node.parent as usize];
-    if node.existence < parent.existence || node.existence > parent.list {
+    if !within(parent.existence, node.existence) || !within(node.existence, parent.list) {
         return false;
     }
     match left_sibling(nodes, index, mistake) {
-        Some(left) => node.existence >= nodes[left].existence,
+        Some(left) => within(nodes[left].existence, node.existence),
         None => true,
     }
 }
@@ -424,11 +497,12 @@ fn left_sibling(nodes: &[Node], index: usize, mistake: Mistake) -> Option<usize>
 fn check_fields(
     script: &[Record],
     variables: usize,
-    commands: usize,
+    rules: &Rules,
     mistake: Mistake,
 ) -> Result<(), Refusal> {
     let in_range = |record: &Record| {
-        (record.command as usize) < commands && fields_in_range(record, variables, mistake)
+        (record.command as usize) < rules.commands
+            && fields_in_range(record, variables, rules.rows(), mistake)
     };
     match script.iter().position(|record| !in_range(record)) {
         Some(index) => refuse(Ending::Field, index),
@@ -436,12 +510,13 @@ fn check_fields(
     }
 }
 
-fn fields_in_range(record: &Record, variables: usize, mistake: Mistake) -> bool {
-    let Some(reads) = READS.get(record.command as usize) else {
+fn fields_in_range(record: &Record, variables: usize, rows: &Rows, mistake: Mistake) -> bool {
+    let Some(reads) = rows.get(record.command as usize) else {
         return false;
     };
     let target = match reads.target {
-        Target::Ignored => true,
+        // Each byte is a set.
+        Target::Ignored | Target::Readers => true,
         Target::Variable => (record.target as usize) < variables,
         Target::Mark => record.target <= 3,
     };
@@ -468,8 +543,12 @@ fn operand_in_range(kind: u8, number: u32, variables: usize) -> bool {
 
 /// Check 12: "a spare byte not zero [...] its index is the record's own in its
 /// section, and sections are searched in file order".
-fn check_spare(job: &Job, mistake: Mistake) -> Result<(), Refusal> {
-    let plain = job.plain(mistake);
+fn check_spare(job: &Job, rules: &Rules, mistake: Mistake) -> Result<(), Refusal> {
+    let rows = match mistake {
+        Mistake::SetsStaySpare => &FIRST_READS,
+        _ => rules.rows(),
+    };
+    let plain = job.plain(rows, mistake);
     let variable = unlike(&job.variables, &plain.variables);
     let node = unlike(&job.nodes, &plain.nodes);
     let record = unlike(&job.script, &plain.script);
@@ -565,16 +644,22 @@ fn is_if(command: u8, mistake: Mistake) -> bool {
 impl Record {
     /// The fields that `self` reads, with all others taken from `other`.
     pub fn over(&self, other: &Record) -> Record {
+        self.over_by(&READS, other)
+    }
+
+    /// The same by the rows of a day.
+    pub fn over_by(&self, rows: &Rows, other: &Record) -> Record {
         let mut record = Record {
             command: self.command,
             ..*other
         };
-        let Some(reads) = READS.get(self.command as usize) else {
+        let Some(reads) = rows.get(self.command as usize) else {
             return record;
         };
         if reads.target != Target::Ignored {
             record.target = self.target;
         }
+        record.sets[..reads.sets].copy_from_slice(&self.sets[..reads.sets]);
         if !reads.expression {
             return record;
         }
@@ -598,10 +683,10 @@ impl Record {
         self.over(&Record::default())
     }
 
-    /// The same by a monitor with `mistake`.
-    fn plain_with(&self, mistake: Mistake) -> Record {
-        let mut record = self.plain();
-        let reads = READS.get(self.command as usize);
+    /// The same by the rows of a day, and by a monitor with `mistake`.
+    fn plain_by(&self, rows: &Rows, mistake: Mistake) -> Record {
+        let mut record = self.over_by(rows, &Record::default());
+        let reads = rows.get(self.command as usize);
         let forgets = mistake == Mistake::UnreadNumberForgotten;
         if forgets && reads.is_some_and(|reads| reads.expression) {
             record.left = self.left;
@@ -617,8 +702,8 @@ fn number_read(kind: u8) -> bool {
 
 impl Job {
     /// The job with 0 in every byte that nobody reads.
-    pub fn plain(&self, mistake: Mistake) -> Job {
-        let clean = |record: &Record| record.plain_with(mistake);
+    pub fn plain(&self, rows: &Rows, mistake: Mistake) -> Job {
+        let clean = |record: &Record| record.plain_by(rows, mistake);
         Job {
             variables: self
                 .variables
@@ -671,7 +756,8 @@ pub fn section(script: &[Record]) -> Vec<u8> {
     for record in script {
         bytes.extend([record.command, record.target, record.operator]);
         bytes.extend([record.left_kind, record.right_kind]);
-        bytes.extend(record.spare);
+        bytes.extend(record.sets);
+        bytes.push(record.spare);
         bytes.extend(record.left.to_le_bytes());
         bytes.extend(record.right.to_le_bytes());
     }
@@ -722,7 +808,8 @@ fn record_from(bytes: &[u8]) -> Record {
         operator: bytes[2],
         left_kind: bytes[3],
         right_kind: bytes[4],
-        spare: spare_at(bytes, 5),
+        sets: [bytes[5], bytes[6]],
+        spare: bytes[7],
         left: u32_at(bytes, 8),
         right: u32_at(bytes, 12),
     }

@@ -7,7 +7,8 @@
 //! - [`run`]: checks 9 and 10, the steps, the whole outcome.
 //! - [`follow`] and [`table`]: a script over a lent tree; [`writer`]: such a tree as a job
 //!   again; [`history`]: the events of the `history` program.
-//! - [`portal`]: the two programs around a run, as functions.
+//! - [`portal`]: the two programs around a run, as functions; [`summary`]: how many
+//!   parties each node carries matters of (R-12).
 //! - [`public`]: public parts, agreement, and what a leak is.
 //! - [`generate`]: cases and pairs of cases from a seed.
 //! - [`coverage`]: what a set of generated cases has reached.
@@ -30,17 +31,36 @@ pub mod random;
 pub mod run;
 pub mod shrink;
 pub mod source;
+pub mod summary;
 pub mod table;
 pub mod tree;
 pub mod writer;
 
-/// "A level is 0 (public) or 1 (house)."
+/// "A level becomes one byte, a set of eight parties whose matters a number
+/// carries; 0 is public and the old 1 is the first party." (R-12)
 pub type Level = u8;
 
 pub const PUBLIC: Level = 0;
+/// The first party.
 pub const HOUSE: Level = 1;
+pub const PARTIES: u32 = 8;
 
-/// "Joining takes the higher."
+/// "Joining is union".
 pub fn join(a: Level, b: Level) -> Level {
-    a.max(b)
+    a | b
+}
+
+/// "not above means contained in": each party of `a` is one of `b`.
+pub fn within(a: Level, b: Level) -> bool {
+    (0..PARTIES).all(|party| !holds(a, party) || holds(b, party))
+}
+
+/// Whether a party is one of the set.
+pub fn holds(level: Level, party: u32) -> bool {
+    (level >> party) % 2 == 1
+}
+
+/// Neither is contained in the other.
+pub fn apart(a: Level, b: Level) -> bool {
+    !within(a, b) && !within(b, a)
 }

@@ -91,6 +91,32 @@ pub enum Mistake {
     RemovalNotCounted,
     /// A new node starts with the count of the node that was removed last.
     ReusedCountKept,
+    // Sets of parties.
+    /// A set lies within another where its number is not above.
+    SetsCompared,
+    /// A set lies within another where they have a party in common.
+    SetsMeet,
+    /// Cover replaces the cursor level in place of joining it.
+    CoverReplaces,
+    /// Cover joins 1, whatever its set.
+    CoverIgnoresSet,
+    /// Cover joins 1 besides its set.
+    CoverAlwaysJoins1,
+    /// A line is given only where L is 0, whatever its reader set.
+    LineMustBePublic,
+    /// A line keeps the set 0.
+    LineForAll,
+    /// A line keeps its own level in place of the reader set.
+    LineKeepsItsLevel,
+    /// An insertion is not tested against a neighbour whose set neither contains C
+    /// nor is contained in it.
+    NeighbourApartUntested,
+    /// A mark takes the place of the set beside it.
+    MarkHidesSet,
+    /// A new node gets no sets.
+    NewSetsForgotten,
+    /// Byte 5 goes to the list and byte 6 to the content.
+    NewSetsExchanged,
     /// The rule of this command is not tested.
     NoRule(u8),
     // Checks of the bytes.
@@ -100,6 +126,13 @@ pub enum Mistake {
     RightSideAlwaysChecked,
     /// A 17th nested block is accepted.
     SeventeenBlocksAccepted,
+    // Sets of parties in the bytes.
+    /// 4 and 6 are given for levels above 1.
+    LevelsAbove1TurnedBack,
+    /// The tree rules compare numbers.
+    TreeSetsCompared,
+    /// Bytes 1, 5 and 6 are spare as before.
+    SetsStaySpare,
     // The nodes' order.
     /// A node's parent is sought from the node itself on, so that 13 never comes.
     OrderFromTheNode,
@@ -119,6 +152,13 @@ pub enum Mistake {
     CleanerHasNewRules,
     /// The last change comes first.
     ReportBackwards,
+    /// Sets that only R-12 reads are kept.
+    CleanerKeepsSets,
+    // The summary.
+    /// Only the content is counted.
+    SummaryOfContent,
+    /// The joined set itself is printed.
+    SummaryIsTheSet,
     // The rearranger.
     /// The rearranger turns back what today's rules do.
     ArrangerHasNewRules,
@@ -193,7 +233,7 @@ pub const RULED_COMMANDS: [u8; 14] = [1, 6, 7, 8, 9, 10, 11, 12, 13, 14, 15, 16,
 
 impl Mistake {
     /// Every mistake that a job shows, without `None` and `NoRule`.
-    pub const ALL: [Mistake; 50] = [
+    pub const ALL: [Mistake; 65] = [
         Mistake::MoveRaisesCursorLevel,
         Mistake::ChildrenLevelFromChildren,
         Mistake::RootResetsCursorLevel,
@@ -235,6 +275,21 @@ impl Mistake {
         Mistake::LeftOfFirstIsUp,
         Mistake::RemovalNotCounted,
         Mistake::ReusedCountKept,
+        Mistake::SetsCompared,
+        Mistake::SetsMeet,
+        Mistake::CoverReplaces,
+        Mistake::CoverIgnoresSet,
+        Mistake::CoverAlwaysJoins1,
+        Mistake::LineMustBePublic,
+        Mistake::LineForAll,
+        Mistake::LineKeepsItsLevel,
+        Mistake::NeighbourApartUntested,
+        Mistake::MarkHidesSet,
+        Mistake::NewSetsForgotten,
+        Mistake::NewSetsExchanged,
+        Mistake::LevelsAbove1TurnedBack,
+        Mistake::TreeSetsCompared,
+        Mistake::SetsStaySpare,
         Mistake::LeftIsPreviousRecord,
         Mistake::RightSideAlwaysChecked,
         Mistake::SeventeenBlocksAccepted,
@@ -247,11 +302,15 @@ impl Mistake {
     ];
 
     /// The mistakes that the cleaner shows.
-    pub const CLEANING: [Mistake; 3] = [
+    pub const CLEANING: [Mistake; 4] = [
         Mistake::UnreadNumberForgotten,
         Mistake::CleanerHasNewRules,
         Mistake::ReportBackwards,
+        Mistake::CleanerKeepsSets,
     ];
+
+    /// The mistakes that the summary shows.
+    pub const SUMMING: [Mistake; 2] = [Mistake::SummaryOfContent, Mistake::SummaryIsTheSet];
 
     /// The mistakes that the rearranger shows.
     pub const ARRANGING: [Mistake; 5] = [
@@ -300,9 +359,9 @@ impl Mistake {
     /// The mistakes that leak from one script of a history to the next.
     pub const LEAKING_ON: [Mistake; 1] = [Mistake::CursorStays];
 
-    /// The mistakes by which public lines come to depend on house parts of an
-    /// accepted job.
-    pub const LEAKING: [Mistake; 14] = [
+    /// The mistakes by which the lines that a reader sees come to depend on parts
+    /// of an accepted job that are hidden from them.
+    pub const LEAKING: [Mistake; 19] = [
         Mistake::MoveRaisesCursorLevel,
         Mistake::ChildrenLevelFromChildren,
         Mistake::RootResetsCursorLevel,
@@ -317,5 +376,10 @@ impl Mistake {
         Mistake::BackResetsLevel,
         Mistake::LastJoinsExistence,
         Mistake::LastJoinsNothing,
+        Mistake::SetsCompared,
+        Mistake::SetsMeet,
+        Mistake::CoverReplaces,
+        Mistake::LineForAll,
+        Mistake::NeighbourApartUntested,
     ];
 }

@@ -5,7 +5,7 @@ use std::fmt::Write;
 use crate::generate::{Case, Pair};
 use crate::job::{self, command, kind, operator, Job, Node, Record, Target, NO_PARENT, READS};
 use crate::run::Outcome;
-use crate::Level;
+use crate::{Level, PUBLIC};
 
 /// Variables, tree and script of a job, accepted or not.
 pub fn job(job: &Job) -> String {
@@ -45,7 +45,8 @@ pub fn section(is_job: bool, bytes: &[u8]) -> String {
 }
 
 pub fn pair(pair: &Pair) -> String {
-    format!("left\n{}right\n{}", case(&pair.left), case(&pair.right))
+    let (left, right) = (case(&pair.left), case(&pair.right));
+    format!("reader {}\nleft\n{left}right\n{right}", pair.reader)
 }
 
 pub fn outcome(outcome: &Outcome) -> String {
@@ -55,7 +56,11 @@ pub fn outcome(outcome: &Outcome) -> String {
         outcome.ending,
         outcome.index,
         outcome.steps,
-        outcome.lines
+        outcome
+            .lines
+            .iter()
+            .map(|line| (line.number, line.readers))
+            .collect::<Vec<_>>()
     );
     let Some(last) = &outcome.last else {
         return text;
@@ -79,7 +84,7 @@ fn level_name(level: Level) -> String {
     match level {
         0 => String::from("public"),
         1 => String::from("house"),
-        other => format!("level {other}"),
+        other => format!("set {other}"),
     }
 }
 
@@ -161,6 +166,13 @@ pub fn record(record: &Record) -> String {
         Target::Ignored => {}
         Target::Variable => text += &format!(" v{} :=", record.target),
         Target::Mark => text += &format!(" mark {},", record.target),
+        Target::Readers if record.target == PUBLIC => {}
+        Target::Readers => text += &format!(" for {},", record.target),
+    }
+    for (set, what) in record.sets.iter().zip(["set", "list set"]).take(reads.sets) {
+        if *set != PUBLIC {
+            text += &format!(" {what} {set},");
+        }
     }
     if reads.expression {
         text += &format!(" {}", expression(record));

@@ -6,11 +6,12 @@ use crate::ending::Ending;
 use crate::job::Job;
 use crate::run::Outcome;
 use crate::tree::{Path, Row, Tree};
-use crate::{Level, PUBLIC};
+use crate::{within, Level};
 
 /// "the number and levels of all variables, the values of level 0 variables;
 /// every node of existence 0 with its parent, its place among its siblings,
-/// its three levels, and its value where content is 0"
+/// its three levels, and its value where content is 0", where "a level being public
+/// where it is contained in" the reader's set (R-12)
 #[derive(Clone, Debug, PartialEq, Eq)]
 pub struct PublicParts {
     pub variables: Vec<(Level, Option<i32>)>,
@@ -20,21 +21,23 @@ pub struct PublicParts {
 
 #[derive(Clone, Copy, Debug, PartialEq, Eq)]
 pub struct PublicNode {
+    pub existence: Level,
     pub content: Level,
     pub list: Level,
     pub value: Option<i32>,
 }
 
-/// The public parts of variables (level and value) and a tree in preorder.
-pub fn parts(variables: &[(Level, i32)], tree: &[Row]) -> PublicParts {
-    let seen = |level: Level, value: i32| (level == PUBLIC).then_some(value);
+/// What is public to a reader of variables (level and value) and a tree in preorder.
+pub fn parts(variables: &[(Level, i32)], tree: &[Row], reader: Level) -> PublicParts {
+    let seen = |level: Level, value: i32| within(level, reader).then_some(value);
     let mut nodes = BTreeMap::new();
     for (path, row) in paths(tree).into_iter().zip(tree) {
-        if row.existence == PUBLIC {
+        if within(row.existence, reader) {
             let value = seen(row.content, row.value);
             nodes.insert(
                 path,
                 PublicNode {
+                    existence: row.existence,
                     content: row.content,
                     list: row.list,
                     value,
@@ -67,16 +70,17 @@ fn paths(tree: &[Row]) -> Vec<Path> {
     all
 }
 
-/// The public parts of an accepted job.
-pub fn job_parts(job: &Job) -> PublicParts {
+/// What is public to a reader of an accepted job.
+pub fn job_parts(job: &Job, reader: Level) -> PublicParts {
     let variables: Vec<_> = job.variables.iter().map(|v| (v.level, v.value)).collect();
-    parts(&variables, &Tree::from_records(&job.nodes).preorder())
+    let tree = Tree::from_records(&job.nodes).preorder();
+    parts(&variables, &tree, reader)
 }
 
 /// "Two jobs or states agree on their public parts where all of these are
 /// equal and neither has a node of existence 0 that the other lacks."
-pub fn agree(left: &Job, right: &Job) -> bool {
-    job_parts(left) == job_parts(right)
+pub fn agree(left: &Job, right: &Job, reader: Level) -> bool {
+    job_parts(left, reader) == job_parts(right, reader)
 }
 
 /// "Two scripts are the same where they have as many records, alike in command
@@ -91,11 +95,12 @@ pub fn same_script(left: &Job, right: &Job) -> bool {
     plain(left) == plain(right)
 }
 
-/// What two runs of one script, from jobs that agree on their public parts,
-/// give away.
+/// What two runs of one script, from jobs that agree on the parts public to a
+/// reader, give away to them.
 #[derive(Clone, Copy, Debug, PartialEq, Eq)]
 pub enum Leak {
-    /// Neither run's lines are the beginning of the other's.
+    /// Of the lines that the reader sees, neither run's are the beginning of the
+    /// other's.
     Lines,
     /// Both finished, with other lines or other public parts at the end.
     LastState,
@@ -103,8 +108,9 @@ pub enum Leak {
 
 /// The leak between two outcomes, if there is one. Budgets, places and line
 /// buffers of the two runs may differ.
-pub fn leak(left: &Outcome, right: &Outcome) -> Option<Leak> {
-    if !left.lines.starts_with(&right.lines) && !right.lines.starts_with(&left.lines) {
+pub fn leak(left: &Outcome, right: &Outcome, reader: Level) -> Option<Leak> {
+    let (left_lines, right_lines) = (left.lines_for(reader), right.lines_for(reader));
+    if !left_lines.starts_with(&right_lines) && !right_lines.starts_with(&left_lines) {
         return Some(Leak::Lines);
     }
     let finished = |outcome: &Outcome| outcome.ending == Ending::Finished;
@@ -113,18 +119,18 @@ pub fn leak(left: &Outcome, right: &Outcome) -> Option<Leak> {
     }
     let last_parts = |outcome: &Outcome| {
         let last = outcome.last.as_ref()?;
-        Some(parts(&last.variables, &last.tree))
+        Some(parts(&last.variables, &last.tree, reader))
     };
-    let alike = left.lines == right.lines && last_parts(left) == last_parts(right);
+    let alike = left_lines == right_lines && last_parts(left) == last_parts(right);
     (!alike).then_some(Leak::LastState)
 }
 
 /// The leak between two histories of the same scripts, and the script that
 /// gives it: they are compared "up to and including the first script that stops
 /// or is turned away in either".
-pub fn history_leak(left: &[Outcome], right: &[Outcome]) -> Option<(usize, Leak)> {
+pub fn history_leak(left: &[Outcome], right: &[Outcome], reader: Level) -> Option<(usize, Leak)> {
     for (number, (left, right)) in left.iter().zip(right).enumerate() {
-        if let Some(leak) = leak(left, right) {
+        if let Some(leak) = leak(left, right, reader) {
             return Some((number, leak));
         }
         let finished = |outcome: &Outcome| outcome.ending == Ending::Finished;

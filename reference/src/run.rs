@@ -4,7 +4,7 @@ use crate::ending::Ending;
 use crate::job::{self, command, kind, operator, Block, Job, Record};
 use crate::mistake::Mistake;
 use crate::tree::{Path, Row, Tree};
-use crate::{join, Level, HOUSE, PUBLIC};
+use crate::{apart, join, within, Level, HOUSE, PUBLIC};
 
 pub const MAX_BUDGET: u64 = 1_000_000;
 pub const MAX_PLACES: usize = 512;
@@ -40,9 +40,29 @@ pub struct Outcome {
     pub ending: Ending,
     pub index: usize,
     pub steps: u64,
-    pub lines: Vec<i32>,
+    pub lines: Vec<Line>,
     /// None for a job turned back: it "changes no lent buffer".
     pub last: Option<Last>,
+}
+
+impl Outcome {
+    /// The numbers of all lines.
+    pub fn numbers(&self) -> Vec<i32> {
+        self.lines.iter().map(|line| line.number).collect()
+    }
+
+    /// "A reader sees the lines whose set lies within their own".
+    pub fn lines_for(&self, reader: Level) -> Vec<Line> {
+        let seen = |line: &&Line| within(line.readers, reader);
+        self.lines.iter().filter(seen).copied().collect()
+    }
+}
+
+/// "A line keeps its reader set" (R-12).
+#[derive(Clone, Copy, Debug, PartialEq, Eq)]
+pub struct Line {
+    pub number: i32,
+    pub readers: Level,
 }
 
 /// "Its last variables and tree are those that stand when it has ended."
@@ -97,7 +117,7 @@ pub struct State {
     /// The record to be carried out next.
     pub next: usize,
     pub steps: u64,
-    pub lines: Vec<i32>,
+    pub lines: Vec<Line>,
 }
 
 /// "an if that remembers the working node and the cursor level"
@@ -350,7 +370,7 @@ impl<'a> Monitor<'a> {
             command::REMOVE_FIRST_CHILD => self.remove_first_child()?,
             command::REMOVE_RIGHT_SIBLING => self.remove_right_sibling()?,
             command::SET_VALUE => self.set_value(record)?,
-            command::COVER => self.cover()?,
+            command::COVER => self.cover(record)?,
             other => unreachable!("command {other} does not pass check 7"),
         }
         self.state.next += 1;
@@ -377,6 +397,15 @@ impl<'a> Monitor<'a> {
         }
     }
 
+    /// "not above means contained in".
+    fn within(&self, a: Level, b: Level) -> bool {
+        match self.mistake {
+            Mistake::SetsCompared => a <= b,
+            Mistake::SetsMeet => a & b != PUBLIC || a == PUBLIC,
+            _ => within(a, b),
+        }
+    }
+
     /// A stop 21 where the rule of the record does not hold.
     fn rule(&self, holds: bool) -> Result<(), Ending> {
         let command = self.script[self.state.next].command;
@@ -400,7 +429,7 @@ impl<'a> Monitor<'a> {
         let expression = self.evaluate(record);
         let level = self.without_cursor(&expression);
         let target = record.target as usize;
-        let rule = self.rule(level <= self.state.variables[target].0);
+        let rule = self.rule(self.within(level, self.state.variables[target].0));
         self.state.variables[target].1 = self.value(&expression, rule, Ok(()))?;
         Ok(())
     }
@@ -514,7 +543,8 @@ impl<'a> Monitor<'a> {
         Ok(())
     }
 
-    /// Command 6: E joined with the context is 0; 24 where the line buffer is full.
+    /// Command 6: "takes its reader set from the target, and L must be contained in
+    /// it", where L is E joined with the context (R-3); 24 where the line buffer is full.
     fn print(&mut self, record: &Record) -> Result<(), Ending> {
         let expression = self.evaluate(record);
         let level = self.without_cursor(&expression);
@@ -522,14 +552,24 @@ impl<'a> Monitor<'a> {
             true => Err(Ending::LinesFull),
             false => Ok(()),
         };
-        let line = self.value(&expression, self.rule(level == PUBLIC), room)?;
-        self.state.lines.push(line);
+        let tested = match self.mistake {
+            Mistake::LineMustBePublic => PUBLIC,
+            _ => record.target,
+        };
+        let rule = self.rule(self.within(level, tested));
+        let number = self.value(&expression, rule, room)?;
+        let readers = match self.mistake {
+            Mistake::LineForAll => PUBLIC,
+            Mistake::LineKeepsItsLevel => level,
+            _ => record.target,
+        };
+        self.state.lines.push(Line { number, readers });
         Ok(())
     }
 
     /// The rule of 7 to 10, 16, 18 and 19: "context not above cursor level".
     fn move_rule(&self) -> Result<(), Ending> {
-        self.rule(self.context() <= self.state.cursor_level)
+        self.rule(self.within(self.context(), self.state.cursor_level))
     }
 
     /// Command 7: "cursor level becomes the context".
@@ -670,12 +710,14 @@ impl<'a> Monitor<'a> {
 
     fn insertion_rule(&self, parent: &Tree, neighbour: Option<&Tree>) -> Result<(), Ending> {
         let c = self.c();
-        self.rule(c <= parent.list)?;
-        match neighbour {
-            Some(old) if self.mistake != Mistake::InsertionIgnoresNeighbour => {
-                self.rule(c <= old.existence)
-            }
-            _ => Ok(()),
+        self.rule(self.within(c, parent.list))?;
+        let Some(old) = neighbour else {
+            return Ok(());
+        };
+        match self.mistake {
+            Mistake::InsertionIgnoresNeighbour => Ok(()),
+            Mistake::NeighbourApartUntested if apart(c, old.existence) => Ok(()),
+            _ => self.rule(self.within(c, old.existence)),
         }
     }
 
@@ -692,7 +734,8 @@ impl<'a> Monitor<'a> {
     }
 
     /// "content is L, and 1 if the mark is odd; list is C, and 1 if the mark
-    /// is 2 or 3"
+    /// is 2 or 3"; "Script byte 5 gives a set to join to a new node's content and byte
+    /// 6 one for its list; the old mark still joins 1" (R-12)
     fn new_node(&self, record: &Record, e: Level, value: i32) -> Tree {
         let c = self.c();
         let l = match self.mistake {
@@ -700,11 +743,21 @@ impl<'a> Monitor<'a> {
             _ => join(e, c),
         };
         let mark = record.target;
+        let marked = |marked: bool, set: Level| match (marked, self.mistake) {
+            (true, Mistake::MarkHidesSet) => HOUSE,
+            (true, _) => join(HOUSE, set),
+            (false, _) => set,
+        };
+        let [content, list] = match self.mistake {
+            Mistake::NewSetsForgotten => [PUBLIC; 2],
+            Mistake::NewSetsExchanged => [record.sets[1], record.sets[0]],
+            _ => record.sets,
+        };
         Tree {
             value,
             existence: c,
-            content: if mark % 2 == 1 { HOUSE } else { l },
-            list: if mark == 2 || mark == 3 { HOUSE } else { c },
+            content: join(l, marked(mark % 2 == 1, content)),
+            list: join(c, marked(mark == 2 || mark == 3, list)),
             children: Vec::new(),
         }
     }
@@ -731,7 +784,7 @@ impl<'a> Monitor<'a> {
             Mistake::RemovalTestsWorkingNode => &self.state.cursor,
             _ => removed,
         };
-        self.rule(self.c() <= self.state.tree.at(tested).existence)
+        self.rule(self.within(self.c(), self.state.tree.at(tested).existence))
     }
 
     /// Command 15: "L not above its content".
@@ -741,17 +794,26 @@ impl<'a> Monitor<'a> {
             Mistake::SettingForgetsCursorLevel => join(expression.level, self.context()),
             _ => join(expression.level, self.c()),
         };
-        let rule = self.rule(l <= self.working_node().content);
+        let rule = self.rule(self.within(l, self.working_node().content));
         let value = self.value(&expression, rule, Ok(()))?;
         let cursor = &self.state.cursor;
         self.state.tree.at_mut(cursor).value = value;
         Ok(())
     }
 
-    /// Command 16: "cursor level becomes 1", with the rule of 7.
-    fn cover(&mut self) -> Result<(), Ending> {
+    /// Command 16: "joins the set in byte 5 to the cursor level, or 1 where it is
+    /// zero" (R-12), with the rule of 7.
+    fn cover(&mut self, record: &Record) -> Result<(), Ending> {
         self.move_rule()?;
-        self.state.cursor_level = HOUSE;
+        let set = match (record.sets[0], self.mistake) {
+            (PUBLIC, _) | (_, Mistake::CoverIgnoresSet) => HOUSE,
+            (set, Mistake::CoverAlwaysJoins1) => join(set, HOUSE),
+            (set, _) => set,
+        };
+        self.state.cursor_level = match self.mistake {
+            Mistake::CoverReplaces => set,
+            _ => join(self.state.cursor_level, set),
+        };
         Ok(())
     }
 

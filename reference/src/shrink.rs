@@ -9,6 +9,7 @@ use crate::job::{
 };
 use crate::mistake::Mistake;
 use crate::run::Limits;
+use crate::{within, Level};
 
 /// Shrinks `start`, for which `failing` holds.
 pub fn case(start: &Case, failing: &dyn Fn(&Case) -> bool) -> Case {
@@ -85,13 +86,15 @@ fn smaller_cases(case: &Case) -> Box<dyn Iterator<Item = Case> + '_> {
     }
 }
 
-/// Edits of both sides, then of one. House nodes come last in both while they are
-/// edited, so that a node of existence 0 has the same index on the left and on the
-/// right.
+/// Edits of both sides, then of one. Nodes that are hidden from the reader come last
+/// in both while they are edited, so that one that is not has the same index on the
+/// left and on the right.
 fn smaller_pairs(pair: &Pair) -> Box<dyn Iterator<Item = Pair> + '_> {
-    let sorted = |case: &Case| public_first(&job::split(&case.bytes).expect("accepted"));
+    let reader = pair.reader;
+    let sorted = |case: &Case| public_first(&job::split(&case.bytes).expect("accepted"), reader);
     let (left, right) = (sorted(&pair.left), sorted(&pair.right));
     let build = |left: &Job, right: &Job| Pair {
+        reader: pair.reader,
         left: Case {
             bytes: hanging(left).encode(),
             limits: pair.left.limits,
@@ -137,11 +140,11 @@ fn hanging(job: &Job) -> Job {
 }
 
 /// The nodes of existence 0 before all others.
-fn public_first(job: &Job) -> Job {
-    let (public, house): (Vec<usize>, Vec<usize>) =
-        (0..job.nodes.len()).partition(|&index| job.nodes[index].existence == 0);
+fn public_first(job: &Job, reader: Level) -> Job {
+    let (seen, hidden): (Vec<usize>, Vec<usize>) =
+        (0..job.nodes.len()).partition(|&index| within(job.nodes[index].existence, reader));
     Job {
-        nodes: renumbered(&job.nodes, &[public, house].concat()),
+        nodes: renumbered(&job.nodes, &[seen, hidden].concat()),
         ..job.clone()
     }
 }
@@ -267,6 +270,16 @@ fn simpler_records(record: &Record) -> Vec<Record> {
             command: command::NOTHING,
             ..Record::default()
         });
+    }
+    // A line for all, and no sets.
+    if record.command == command::PRINT {
+        simpler.push(Record {
+            target: 0,
+            ..*record
+        });
+    }
+    for sets in [[0, 0], [record.sets[0], 0], [0, record.sets[1]]] {
+        simpler.push(Record { sets, ..*record });
     }
     if READS
         .get(record.command as usize)
@@ -573,6 +586,7 @@ fn smaller_history_pairs(histories: &HistoryPair) -> Box<dyn Iterator<Item = His
         limits: events[0].limits(),
     };
     let pair = Pair {
+        reader: histories.reader,
         left: job(&histories.left),
         right: job(&histories.right),
     };

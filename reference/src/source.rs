@@ -162,7 +162,12 @@ pub fn end() -> Record {
 }
 
 pub fn print(expression: impl Into<Expression>) -> Record {
-    with(command::PRINT, 0, expression)
+    print_for(PUBLIC, expression)
+}
+
+/// A line for a set of readers.
+pub fn print_for(readers: Level, expression: impl Into<Expression>) -> Record {
+    with(command::PRINT, readers, expression)
 }
 
 pub fn root() -> Record {
@@ -213,6 +218,16 @@ pub fn cover() -> Record {
     bare(command::COVER)
 }
 
+/// A cover that joins a set.
+pub fn cover_with(set: Level) -> Record {
+    with_sets([set, PUBLIC], cover())
+}
+
+/// The record with bytes 5 and 6.
+pub fn with_sets(sets: [Level; 2], record: Record) -> Record {
+    Record { sets, ..record }
+}
+
 pub fn public_variable(value: i32) -> Variable {
     Variable {
         level: PUBLIC,
@@ -224,6 +239,15 @@ pub fn public_variable(value: i32) -> Variable {
 pub fn house_variable(value: i32) -> Variable {
     Variable {
         level: HOUSE,
+        value,
+        ..Variable::default()
+    }
+}
+
+/// A variable of a set of parties.
+pub fn variable_of(level: Level, value: i32) -> Variable {
+    Variable {
+        level,
         value,
         ..Variable::default()
     }

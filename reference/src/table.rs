@@ -35,8 +35,6 @@ pub enum Fault {
     TooManyRecords,
     /// More than 64 variables.
     TooManyVariables,
-    /// A variable's level above 1.
-    VariableLevel,
     /// No places, so no root.
     NoPlaces,
     /// A link that is neither [`NO_LINK`] nor a place.
@@ -57,18 +55,15 @@ pub enum Fault {
     RootSibling,
     /// More than 512 live nodes.
     TooManyNodes,
-    /// A node's level above 1.
-    Level,
     /// A broken tree rule.
     Rule,
 }
 
 impl Fault {
-    pub const ALL: [Fault; 17] = [
+    pub const ALL: [Fault; 15] = [
         Fault::PartRecord,
         Fault::TooManyRecords,
         Fault::TooManyVariables,
-        Fault::VariableLevel,
         Fault::NoPlaces,
         Fault::Link,
         Fault::Cycle,
@@ -80,7 +75,6 @@ impl Fault {
         Fault::RootParent,
         Fault::RootSibling,
         Fault::TooManyNodes,
-        Fault::Level,
         Fault::Rule,
     ];
 }
@@ -103,9 +97,6 @@ pub fn tree(table: &[Lent], mistake: Mistake) -> Result<Tree, Fault> {
     let (tree, _) = reader.subtree(0, NO_LINK, NO_LINK)?;
     if reader.free_place_is_faulty() {
         return Err(Fault::Link);
-    }
-    if tree.has_level_above_1() {
-        return Err(Fault::Level);
     }
     if !tree.keeps_rules() && mistake != Mistake::LentRulesUnchecked {
         return Err(Fault::Rule);

@@ -1,7 +1,7 @@
 //! An ordinary tree: each node owns its children, left to right.
 
 use crate::job;
-use crate::Level;
+use crate::{within, Level, PUBLIC};
 
 #[derive(Clone, Debug, PartialEq, Eq)]
 pub struct Tree {
@@ -97,30 +97,21 @@ impl Tree {
         }
     }
 
-    pub fn has_level_above_1(&self) -> bool {
-        let own = [self.existence, self.content, self.list];
-        own.iter().any(|&level| level > 1) || self.children.iter().any(Tree::has_level_above_1)
-    }
-
     /// "Every tree, at start and after each step: the root has existence 0",
     /// and the rules for all nodes below it.
     pub fn keeps_rules(&self) -> bool {
-        self.existence == 0 && self.keeps_rules_below()
+        self.existence == PUBLIC && self.keeps_rules_below()
     }
 
     fn keeps_rules_below(&self) -> bool {
-        let own = self.existence <= self.content
-            && self.existence <= self.list
-            && self.content <= 1
-            && self.list <= 1;
-        let children = self
-            .children
-            .iter()
-            .all(|child| self.existence <= child.existence && child.existence <= self.list);
+        let own = within(self.existence, self.content) && within(self.existence, self.list);
+        let children = self.children.iter().all(|child| {
+            within(self.existence, child.existence) && within(child.existence, self.list)
+        });
         let siblings = self
             .children
             .windows(2)
-            .all(|pair| pair[0].existence <= pair[1].existence);
+            .all(|pair| within(pair[0].existence, pair[1].existence));
         own && children && siblings && self.children.iter().all(Tree::keeps_rules_below)
     }
 }

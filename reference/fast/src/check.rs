@@ -1,8 +1,8 @@
-//! Checks 1 to 8, with 13 before 6 and 12 before 8. Each section is read once; of
+//! Checks 1 to 8, with 13 before 6 and 12 before 8, and no 4 since R-12. Each section is read once; of
 //! two faults the one whose check comes first is given.
 
 use crate::arena::{Node, NONE};
-use crate::{ending, Answer, Buffers, Op, Variable};
+use crate::{ending, within, Answer, Buffers, Op, Variable};
 use crate::{MAX_BLOCKS, MAX_BYTES, MAX_NODES, MAX_RECORDS, MAX_VARIABLES};
 
 /// Codes of decoded records: the paper's command numbers, with the three kinds of
@@ -53,8 +53,14 @@ pub mod operator {
 const EXPRESSION: u8 = 1;
 const VARIABLE_TARGET: u8 = 2;
 const MARK_TARGET: u8 = 4;
+const READERS_TARGET: u8 = 8;
+/// Byte 5; byte 6.
+const FIRST_SET: u8 = 16;
+const SECOND_SET: u8 = 32;
+const TARGET: u8 = VARIABLE_TARGET | MARK_TARGET | READERS_TARGET;
 
-/// "Commands 1, 2, 4, 6, 11, 12 and 15 read an expression."
+/// "Commands 1, 2, 4, 6, 11, 12 and 15 read an expression." "Bytes 5 and 6 stop being
+/// spare for commands 11 and 12, byte 5 for 16 and byte 1 for 6" (R-12).
 const READS: [u8; 20] = [
     0,
     EXPRESSION | VARIABLE_TARGET,
@@ -62,17 +68,17 @@ const READS: [u8; 20] = [
     0,
     EXPRESSION,
     0,
+    EXPRESSION | READERS_TARGET,
+    0,
+    0,
+    0,
+    0,
+    EXPRESSION | MARK_TARGET | FIRST_SET | SECOND_SET,
+    EXPRESSION | MARK_TARGET | FIRST_SET | SECOND_SET,
+    0,
+    0,
     EXPRESSION,
-    0,
-    0,
-    0,
-    0,
-    EXPRESSION | MARK_TARGET,
-    EXPRESSION | MARK_TARGET,
-    0,
-    0,
-    EXPRESSION,
-    0,
+    FIRST_SET,
     EXPRESSION,
     0,
     0,
@@ -101,13 +107,13 @@ pub fn check(buffers: &mut Buffers, job: &[u8]) -> Result<(), Answer> {
     if counts.0 > MAX_VARIABLES || !(1..=MAX_NODES).contains(&counts.1) || counts.2 > MAX_RECORDS {
         return refuse(ending::COUNT, 0);
     }
-    let variable = check_variables(buffers, &job[..nodes])?;
+    let variable = check_variables(buffers, &job[..nodes]);
     let node = check_nodes(buffers, &job[nodes..script])?;
     check_script(buffers, &job[script..trailer], variable.or(node))
 }
 
-/// Check 4, and the first variable with a spare byte that is not zero.
-fn check_variables(buffers: &mut Buffers, section: &[u8]) -> Result<Option<usize>, Answer> {
+/// The first variable with a spare byte that is not zero.
+fn check_variables(buffers: &mut Buffers, section: &[u8]) -> Option<usize> {
     buffers.variable_count = section.len() / 8;
     let mut spare = None;
     for (index, (bytes, variable)) in section
@@ -115,9 +121,6 @@ fn check_variables(buffers: &mut Buffers, section: &[u8]) -> Result<Option<usize
         .zip(&mut buffers.variables)
         .enumerate()
     {
-        if bytes[0] > 1 {
-            return Err(Answer::turned_back(ending::VARIABLE_LEVEL, index));
-        }
         if spare.is_none() && bytes[1] | bytes[2] | bytes[3] != 0 {
             spare = Some(index);
         }
@@ -126,7 +129,7 @@ fn check_variables(buffers: &mut Buffers, section: &[u8]) -> Result<Option<usize
             value: number(bytes, 4),
         };
     }
-    Ok(spare)
+    spare
 }
 
 /// Checks 5, 13 and 6, and the first node with a spare byte that is not zero. A 5
@@ -171,15 +174,15 @@ fn check_nodes(buffers: &mut Buffers, section: &[u8]) -> Result<Option<usize>, A
             ..Node::default()
         };
         let (e, c, l) = (node.existence, node.content, node.list);
-        let mut keeps = (e | c | l) <= 1 && e <= c && e <= l;
+        let mut keeps = within(e, c & l);
         if index == 0 {
             keeps = keeps && e == 0;
         } else {
             let above = arena.at(node.parent);
-            keeps = keeps && above.existence <= e && e <= above.list;
+            keeps = keeps && within(above.existence, e) && within(e, above.list);
             let left = arena.last_child(node.parent);
             if left != NONE {
-                keeps = keeps && arena.at(left).existence <= e;
+                keeps = keeps && within(arena.at(left).existence, e);
             }
         }
         if !keeps {
@@ -304,14 +307,15 @@ fn decoded(bytes: &[u8], variables: usize) -> Option<Op> {
         operator: bytes[2],
         left_kind: bytes[3],
         right_kind: bytes[4],
+        sets: [bytes[5], bytes[6]],
         jump: 0,
         left: number(bytes, 8),
         right: number(bytes, 12),
     };
-    if reads == 0 {
+    if reads & EXPRESSION == 0 {
         return Some(op);
     }
-    let target = match reads & (VARIABLE_TARGET | MARK_TARGET) {
+    let target = match reads & TARGET {
         VARIABLE_TARGET => (op.target as usize) < variables,
         MARK_TARGET => op.target <= 3,
         _ => true,
@@ -330,16 +334,19 @@ fn decoded(bytes: &[u8], variables: usize) -> Option<Op> {
 fn clean(bytes: &[u8]) -> bool {
     let word = |at: usize| number(bytes, at);
     let reads = READS[bytes[0] as usize];
-    if reads == 0 {
-        return word(0) == bytes[0] as i32 && word(4) | word(8) | word(12) == 0;
+    let sets = (reads & FIRST_SET != 0 || bytes[5] == 0)
+        && (reads & SECOND_SET != 0 || bytes[6] == 0)
+        && bytes[7] == 0;
+    if reads & EXPRESSION == 0 {
+        return sets && word(0) == bytes[0] as i32 && bytes[4] == 0 && word(8) | word(12) == 0;
     }
-    let target = reads & (VARIABLE_TARGET | MARK_TARGET) != 0 || bytes[1] == 0;
+    let target = reads & TARGET != 0 || bytes[1] == 0;
     let unread = |kind: u8, at: usize| kind >= kind::VALUE && word(at) != 0;
     let right = match bytes[2] {
-        operator::LEFT => word(4) | word(12) == 0,
-        _ => bytes[5] | bytes[6] | bytes[7] == 0 && !unread(bytes[4], 12),
+        operator::LEFT => bytes[4] == 0 && word(12) == 0,
+        _ => !unread(bytes[4], 12),
     };
-    target && right && !unread(bytes[3], 8)
+    sets && target && right && !unread(bytes[3], 8)
 }
 
 #[inline(always)]

@@ -65,9 +65,7 @@ pub fn follow(
 
 /// Whether an accepted job could hold these variables.
 pub(crate) fn variables_stand(levels: &[u8], values: &[i32]) -> bool {
-    levels.len() == values.len()
-        && levels.len() <= MAX_VARIABLES
-        && levels.iter().all(|&level| level <= 1)
+    levels.len() == values.len() && levels.len() <= MAX_VARIABLES
 }
 
 fn load_variables(buffers: &mut Buffers, levels: &[u8], values: &[i32]) -> bool {
@@ -181,13 +179,12 @@ pub(crate) fn walk(
 /// a list of level `most`.
 #[inline(always)]
 fn levels_ok(record: &Record, least: u32, most: u32) -> bool {
+    let within = |a: u32, b: u32| a & !b == 0;
     let existence = record.existence;
-    least <= existence
-        && existence <= most
-        && existence <= record.content
-        && existence <= record.list
-        && record.content <= 1
-        && record.list <= 1
+    within(least, existence)
+        && within(existence, most)
+        && within(existence, record.content & record.list)
+        && record.content | record.list <= 255
 }
 
 fn store(buffers: &Buffers, lent: Lent) {

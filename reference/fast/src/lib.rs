@@ -30,7 +30,6 @@ pub mod ending {
     pub const SIZE: u8 = 1;
     pub const LAYOUT: u8 = 2;
     pub const COUNT: u8 = 3;
-    pub const VARIABLE_LEVEL: u8 = 4;
     pub const PARENT: u8 = 5;
     pub const TREE: u8 = 6;
     pub const FIELD: u8 = 7;
@@ -49,6 +48,15 @@ pub mod ending {
     pub const OUT_OF_RANGE: u8 = 27;
 }
 
+/// The portal's lines: the number and the reader set.
+pub const LINE_BYTES: usize = 5;
+
+/// "not above means contained in"
+#[inline(always)]
+pub fn within(a: u8, b: u8) -> bool {
+    a & !b == 0
+}
+
 #[derive(Clone, Copy, Default)]
 pub struct Variable {
     pub value: i32,
@@ -63,6 +71,8 @@ pub struct Op {
     pub operator: u8,
     pub left_kind: u8,
     pub right_kind: u8,
+    /// Bytes 5 and 6.
+    pub sets: [u8; 2],
     /// Where an if, else, while or end goes that does not go on.
     pub jump: u16,
     pub left: i32,

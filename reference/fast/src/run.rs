@@ -2,10 +2,11 @@
 
 use crate::arena::{Arena, Node, NONE};
 use crate::check::{check, code, kind, operator};
-use crate::{ending, Answer, Buffers, Limits, Op, Variable};
+use crate::{ending, within, Answer, Buffers, Limits, Op, Variable, LINE_BYTES};
 use crate::{MAX_BLOCKS, MAX_BUDGET, MAX_NODES, MAX_VARIABLES};
 
-/// The answer for a job; its lines go to `area`, 4 little-endian bytes each.
+/// The answer for a job; its lines go to `area`, 5 bytes each: 4 little-endian ones and
+/// the reader set.
 /// What is left in `buffers` after a run is the last state.
 pub fn run(buffers: &mut Buffers, job: &[u8], limits: Limits, area: &mut [u8]) -> Answer {
     if let Err(answer) = check(buffers, job) {
@@ -76,7 +77,7 @@ fn go(
     if to == NONE {
         return Err(ending::MISSING);
     }
-    if context > *cursor_level {
+    if !within(context, *cursor_level) {
         return Err(ending::RULE);
     }
     *cursor = to;
@@ -85,14 +86,15 @@ fn go(
 }
 
 /// "content is L, and 1 if the mark is odd; list is C, and 1 if the mark is 2
-/// or 3"
+/// or 3", with the sets of bytes 5 and 6 (R-12)
 #[inline(always)]
-fn new_node(mark: u8, value: i32, e: u8, c: u8) -> Node {
+fn new_node(op: &Op, value: i32, e: u8, c: u8) -> Node {
+    let mark = op.target;
     Node {
         value,
         existence: c,
-        content: e | c | (mark & 1),
-        list: c | (mark >> 1),
+        content: e | c | (mark & 1) | op.sets[0],
+        list: c | (mark >> 1) | op.sets[1],
         ..Node::default()
     }
 }
@@ -116,9 +118,10 @@ pub fn steps(buffers: &mut Buffers, budget: u32, places: usize, area: &mut [u8])
     } = buffers;
     let mut cursor = 0u16;
     let mut cursor_level = 0u8;
-    // The guards of the open blocks, a bit each, the innermost lowest: at most
-    // sixteen.
-    let mut guards = 0u32;
+    // The context, and what it was outside of each open block.
+    let mut context = 0u8;
+    let mut outer = [0u8; MAX_BLOCKS];
+    let mut depth = 0usize;
     // What the open blocks remember that come back, the outermost first.
     let mut backs = [Back::default(); MAX_BLOCKS];
     let mut back_count = 0usize;
@@ -131,14 +134,13 @@ pub fn steps(buffers: &mut Buffers, budget: u32, places: usize, area: &mut [u8])
         if left == 0 && op.code != code::FINISH {
             break (ending::BUDGET_USED, next);
         }
-        let context = (guards != 0) as u8;
         let c = context | cursor_level;
         match op.code {
             code::NOTHING => next += 1,
             code::ASSIGN => {
                 let (value, e) = evaluate(op, variables, arena.at(cursor), cursor_level);
                 let target = &mut variables[op.target as usize % MAX_VARIABLES];
-                if e | context > target.level {
+                if !within(e | context, target.level) {
                     break (ending::RULE, next);
                 }
                 let Some(value) = value else {
@@ -152,7 +154,9 @@ pub fn steps(buffers: &mut Buffers, budget: u32, places: usize, area: &mut [u8])
                 let Some(value) = value else {
                     break (ending::OUT_OF_RANGE, next);
                 };
-                guards = guards << 1 | e as u32;
+                outer[depth % MAX_BLOCKS] = context;
+                depth += 1;
+                context |= e;
                 next = if value == 0 {
                     op.jump as usize
                 } else {
@@ -164,14 +168,16 @@ pub fn steps(buffers: &mut Buffers, budget: u32, places: usize, area: &mut [u8])
                 let Some(value) = value else {
                     break (ending::OUT_OF_RANGE, next);
                 };
-                guards = guards << 1 | e as u32;
+                outer[depth % MAX_BLOCKS] = context;
+                depth += 1;
+                context |= e;
                 backs[back_count % MAX_BLOCKS] = Back {
                     place: cursor,
                     level: cursor_level,
                     removed: arena.removed(cursor),
                 };
                 back_count += 1;
-                cursor_level |= (guards != 0) as u8;
+                cursor_level |= context;
                 next = if value == 0 {
                     op.jump as usize
                 } else {
@@ -184,7 +190,8 @@ pub fn steps(buffers: &mut Buffers, budget: u32, places: usize, area: &mut [u8])
                     break (ending::MISSING, next);
                 }
                 back_count -= 1;
-                guards >>= 1;
+                depth -= 1;
+                context = outer[depth % MAX_BLOCKS];
                 cursor = back.place;
                 cursor_level = back.level;
                 next += 1;
@@ -198,35 +205,41 @@ pub fn steps(buffers: &mut Buffers, budget: u32, places: usize, area: &mut [u8])
                 if value == 0 {
                     next = op.jump as usize;
                 } else {
-                    guards = guards << 1 | e as u32;
+                    outer[depth % MAX_BLOCKS] = context;
+                    depth += 1;
+                    context |= e;
                     next += 1;
                 }
             }
             code::END => {
-                guards >>= 1;
+                depth -= 1;
+                context = outer[depth % MAX_BLOCKS];
                 next += 1;
             }
             code::END_WHILE => {
-                guards >>= 1;
+                depth -= 1;
+                context = outer[depth % MAX_BLOCKS];
                 next = op.jump as usize;
             }
             code::PRINT => {
                 let (value, e) = evaluate(op, variables, arena.at(cursor), cursor_level);
-                if e | context != 0 {
+                if !within(e | context, op.target) {
                     break (ending::RULE, next);
                 }
                 let Some(value) = value else {
                     break (ending::OUT_OF_RANGE, next);
                 };
-                let Some(line) = area.get_mut(4 * lines..4 * lines + 4) else {
+                let start = LINE_BYTES * lines;
+                let Some(line) = area.get_mut(start..start + LINE_BYTES) else {
                     break (ending::LINES_FULL, next);
                 };
-                line.copy_from_slice(&value.to_le_bytes());
+                line[..4].copy_from_slice(&value.to_le_bytes());
+                line[4] = op.target;
                 lines += 1;
                 next += 1;
             }
             code::ROOT => {
-                if context > cursor_level {
+                if !within(context, cursor_level) {
                     break (ending::RULE, next);
                 }
                 cursor = 0;
@@ -266,7 +279,7 @@ pub fn steps(buffers: &mut Buffers, budget: u32, places: usize, area: &mut [u8])
                 if last == NONE {
                     break (ending::MISSING, next);
                 }
-                if context > cursor_level {
+                if !within(context, cursor_level) {
                     break (ending::RULE, next);
                 }
                 cursor = last;
@@ -276,14 +289,14 @@ pub fn steps(buffers: &mut Buffers, budget: u32, places: usize, area: &mut [u8])
             code::NEW_FIRST_CHILD => {
                 let node = arena.at(cursor);
                 let (value, e) = evaluate(op, variables, node, cursor_level);
-                let below_old = node.first == NONE || c <= arena.at(node.first).existence;
-                if c > node.list || !below_old {
+                let below_old = node.first == NONE || within(c, arena.at(node.first).existence);
+                if !within(c, node.list) || !below_old {
                     break (ending::RULE, next);
                 }
                 let Some(value) = value else {
                     break (ending::OUT_OF_RANGE, next);
                 };
-                if !arena.insert_first(cursor, new_node(op.target, value, e, c), places) {
+                if !arena.insert_first(cursor, new_node(op, value, e, c), places) {
                     break (ending::TABLE_FULL, next);
                 }
                 next += 1;
@@ -294,14 +307,14 @@ pub fn steps(buffers: &mut Buffers, budget: u32, places: usize, area: &mut [u8])
                     break (ending::MISSING, next);
                 }
                 let (value, e) = evaluate(op, variables, node, cursor_level);
-                let below_old = node.right == NONE || c <= arena.at(node.right).existence;
-                if c > arena.at(node.parent).list || !below_old {
+                let below_old = node.right == NONE || within(c, arena.at(node.right).existence);
+                if !within(c, arena.at(node.parent).list) || !below_old {
                     break (ending::RULE, next);
                 }
                 let Some(value) = value else {
                     break (ending::OUT_OF_RANGE, next);
                 };
-                if !arena.insert_right(cursor, new_node(op.target, value, e, c), places) {
+                if !arena.insert_right(cursor, new_node(op, value, e, c), places) {
                     break (ending::TABLE_FULL, next);
                 }
                 next += 1;
@@ -311,7 +324,7 @@ pub fn steps(buffers: &mut Buffers, budget: u32, places: usize, area: &mut [u8])
                 if first == NONE {
                     break (ending::MISSING, next);
                 }
-                if c > arena.at(first).existence {
+                if !within(c, arena.at(first).existence) {
                     break (ending::RULE, next);
                 }
                 arena.remove_first(cursor, first, back_count > 0);
@@ -322,7 +335,7 @@ pub fn steps(buffers: &mut Buffers, budget: u32, places: usize, area: &mut [u8])
                 if right == NONE {
                     break (ending::MISSING, next);
                 }
-                if c > arena.at(right).existence {
+                if !within(c, arena.at(right).existence) {
                     break (ending::RULE, next);
                 }
                 arena.remove_right(cursor, right, back_count > 0);
@@ -331,7 +344,7 @@ pub fn steps(buffers: &mut Buffers, budget: u32, places: usize, area: &mut [u8])
             code::SET_VALUE => {
                 let node = arena.at_mut(cursor);
                 let (value, e) = evaluate(op, variables, node, cursor_level);
-                if e | c > node.content {
+                if !within(e | c, node.content) {
                     break (ending::RULE, next);
                 }
                 let Some(value) = value else {
@@ -341,10 +354,11 @@ pub fn steps(buffers: &mut Buffers, budget: u32, places: usize, area: &mut [u8])
                 next += 1;
             }
             code::COVER => {
-                if context > cursor_level {
+                if !within(context, cursor_level) {
                     break (ending::RULE, next);
                 }
-                cursor_level = 1;
+                let set = op.sets[0];
+                cursor_level |= if set == 0 { 1 } else { set };
                 next += 1;
             }
             _ => break (ending::FINISHED, 0),

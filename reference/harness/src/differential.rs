@@ -7,6 +7,7 @@ use std::thread;
 use reference::coverage::Coverage;
 use reference::generate::{self, Case};
 use reference::mistake::Mistake;
+use reference::portal::{line_bytes, LINE_BYTES};
 use reference::run::{self, Limits, Outcome};
 use reference::{print, shrink};
 
@@ -271,9 +272,9 @@ impl fmt::Display for Difference {
     }
 }
 
-/// Bytes at the end of an area that are no line: 0 to 3.
+/// Bytes at the end of an area that are no line: 0 to 4.
 pub fn spare(seed: u64) -> usize {
-    (seed / 5 % 4) as usize
+    (seed / 5 % 5) as usize
 }
 
 fn fast_unlike(case: &Case, expected: &Outcome) -> Option<Unlike> {
@@ -322,9 +323,9 @@ pub type Call<'a> = &'a dyn Fn(&[u8], u64, &mut [u8]) -> u64;
 /// of the area and around it. Neither the job nor the area need be aligned:
 /// both stand `spare` bytes further than they would.
 pub fn portal_unlike(call: Call, case: &Case, spare: usize, mistake: Mistake) -> Option<Unlike> {
-    let length = 4 * case.limits.lines + spare;
+    let length = LINE_BYTES * case.limits.lines + spare;
     let limits = Limits {
-        lines: length / 4,
+        lines: length / LINE_BYTES,
         ..Limits::ample(case.limits.budget)
     };
     let outcome = run::outcome_with(&case.bytes, &limits, mistake);
@@ -334,9 +335,9 @@ pub fn portal_unlike(call: Call, case: &Case, spare: usize, mistake: Mistake) ->
     for (line, bytes) in outcome
         .lines
         .iter()
-        .zip(wanted[start..].chunks_exact_mut(4))
+        .zip(wanted[start..].chunks_exact_mut(LINE_BYTES))
     {
-        bytes.copy_from_slice(&line.to_le_bytes());
+        bytes.copy_from_slice(&line_bytes(line));
     }
     let wanted_answer = portal::answer(outcome.ending.number(), outcome.lines.len());
     let job = [&vec![0; spare], &case.bytes[..]].concat();

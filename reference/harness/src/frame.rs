@@ -6,7 +6,7 @@ use reference::ending::Ending;
 use reference::generate::Case;
 use reference::job::{MAX_BYTES, MAX_VARIABLES};
 use reference::random::Random;
-use reference::run::{Last, Limits, Outcome, MAX_PLACES};
+use reference::run::{Last, Limits, Line, Outcome, MAX_PLACES};
 use reference::tree::Row;
 use reference::Level;
 
@@ -88,7 +88,7 @@ pub fn stream(frames: &[Frame]) -> Vec<u8> {
 }
 
 /// What comes for a frame after its line `job K`: "`ending E index I steps S
-/// lines N`, then `line V` for each line, `variable L V` for each variable and
+/// lines N`, then `line V SET` for each line, `variable L V` for each variable and
 /// `node D E C L V` for each node in preorder [...]; variables and nodes only
 /// where the job was run".
 pub fn text(outcome: &Outcome) -> String {
@@ -103,7 +103,7 @@ pub fn text(outcome: &Outcome) -> String {
     )
     .unwrap();
     for line in &outcome.lines {
-        writeln!(text, "line {line}").unwrap();
+        writeln!(text, "line {} {}", line.number, line.readers).unwrap();
     }
     let Some(last) = &outcome.last else {
         return text;
@@ -145,7 +145,10 @@ pub fn parse(text: &str) -> Option<Outcome> {
             .map_while(|word| word.parse().ok())
             .collect();
         match (line.split(' ').next()?, &fields[..]) {
-            ("line", [value]) => outcome.lines.push(*value as i32),
+            ("line", [number, readers]) => outcome.lines.push(Line {
+                number: *number as i32,
+                readers: *readers as Level,
+            }),
             ("variable", [level, value]) => last.variables.push((*level as Level, *value as i32)),
             ("node", [depth, existence, content, list, value]) => last.tree.push(Row {
                 depth: *depth as usize,

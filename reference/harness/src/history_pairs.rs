@@ -66,7 +66,7 @@ fn given_away(pair: &HistoryPair, told: &[Told]) -> Result<(Vec<Outcome>, Vec<Ou
     let (Some(left), Some(right)) = (outcomes(count, &told[0]), outcomes(count, &told[1])) else {
         return Err(String::from("no outcome of each event is told"));
     };
-    match public::history_leak(&left, &right) {
+    match public::history_leak(&left, &right, pair.reader) {
         None => Ok((left, right)),
         Some((number, leak)) => {
             let (left, right) = (
@@ -104,10 +104,14 @@ impl Found {
 
 impl fmt::Display for Found {
     fn fmt(&self, f: &mut fmt::Formatter) -> fmt::Result {
-        let HistoryPair { left, right } = &self.pair;
+        let HistoryPair {
+            reader,
+            left,
+            right,
+        } = &self.pair;
         writeln!(
             f,
-            "leak, seed {}\nleft\n{}right\n{}{}",
+            "leak, seed {}, reader {reader}\nleft\n{}right\n{}{}",
             self.seed,
             show(left),
             show(right),

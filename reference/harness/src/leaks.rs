@@ -1,14 +1,16 @@
-//! The leak test: pairs of accepted jobs with the same script that agree on
-//! their public parts. The lines of one run must be the beginning of the
-//! other's; where both finish they must be equal. Through `replay`, which tells
-//! the last state too, its public parts must then agree as well.
+//! The leak test: pairs of accepted jobs with the same script that agree on what is
+//! public to a reader. The lines of one run that the reader sees must be the beginning
+//! of the other's; where both finish they must be equal. Through `replay`, which tells
+//! the last state too, what is public of it must then agree as well.
 
 use std::fmt;
 
+use reference::ending::Ending;
 use reference::generate::{self, Pair};
+use reference::portal::{line_of, LINE_BYTES};
 use reference::random::Random;
-use reference::run::{Outcome, MAX_BUDGET};
-use reference::{print, public, shrink};
+use reference::run::{Line, Outcome, MAX_BUDGET};
+use reference::{print, public, shrink, within, Level};
 
 use crate::differential::split_jobs;
 use crate::frame::{self, Frame};
@@ -23,11 +25,11 @@ pub struct Lent {
     pub area: usize,
 }
 
-/// Ending and lines of one run.
+/// Ending of one run, and the lines that the reader sees.
 #[derive(Clone, Debug, PartialEq, Eq)]
 pub struct Seen {
     pub ending: u64,
-    pub lines: Vec<i32>,
+    pub lines: Vec<Line>,
 }
 
 /// A pair that gives something away, or that could not be tried.
@@ -87,9 +89,10 @@ pub fn try_pair(
     for case in [&mut others.left, &mut others.right] {
         let drawn = drawn(&mut random);
         case.limits.budget = drawn.budget;
-        case.limits.lines = drawn.area / 4;
+        case.limits.lines = drawn.area / LINE_BYTES;
     }
     let mixed = Pair {
+        reader: pair.reader,
         left: pair.left.clone(),
         right: others.right.clone(),
     };
@@ -126,7 +129,7 @@ pub fn try_replay(
         }
         if let (Some(Some(left)), Some(Some(right))) = (left, right) {
             tally.runs += 2;
-            tally.count(&Seen::of(left), &Seen::of(right));
+            tally.count(&Seen::of(left, pair.reader), &Seen::of(right, pair.reader));
         }
     }
     Ok(())
@@ -158,7 +161,7 @@ fn whole_given_away(
             "an accepted job was turned back: {left:?}, {right:?}"
         ));
     }
-    let leak = public::leak(left, right)?;
+    let leak = public::leak(left, right, pair.reader)?;
     let (left, right) = (print::outcome(left), print::outcome(right));
     Some(format!("{leak:?} differ\nleft {left}right {right}"))
 }
@@ -181,23 +184,32 @@ fn drawn(random: &mut Random) -> Lent {
 
 fn run(portal: Portal, pair: &Pair, left: bool) -> Seen {
     let case = if left { &pair.left } else { &pair.right };
-    let mut area = vec![0; 4 * case.limits.lines];
+    let mut area = vec![0; LINE_BYTES * case.limits.lines];
     let answer = portal.call(&case.bytes, case.limits.budget, &mut area);
     let count = answer as u32 as usize;
     Seen {
         ending: answer >> 32,
         lines: area
-            .chunks_exact(4)
+            .chunks_exact(LINE_BYTES)
             .take(count)
-            .map(|line| i32::from_le_bytes(line.try_into().unwrap()))
+            .map(line_of)
+            .filter(|line| within(line.readers, pair.reader))
             .collect(),
     }
+}
+
+fn turned_back(number: u64) -> bool {
+    let is_it = |ending: &Ending| u64::from(ending.number()) == number;
+    Ending::ALL
+        .iter()
+        .find(|ending| is_it(ending))
+        .is_some_and(|ending| ending.turned_back())
 }
 
 /// Why two runs tell more than they may, if they do.
 fn given_away(left: &Seen, right: &Seen) -> Option<String> {
     for seen in [left, right] {
-        if (1..=10).contains(&seen.ending) {
+        if turned_back(seen.ending) {
             return Some(format!("an accepted job was turned back: {seen:?}"));
         }
     }
@@ -212,10 +224,10 @@ fn given_away(left: &Seen, right: &Seen) -> Option<String> {
 }
 
 impl Seen {
-    fn of(outcome: &Outcome) -> Seen {
+    fn of(outcome: &Outcome, reader: Level) -> Seen {
         Seen {
             ending: u64::from(outcome.ending.number()),
-            lines: outcome.lines.clone(),
+            lines: outcome.lines_for(reader),
         }
     }
 }

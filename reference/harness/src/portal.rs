@@ -1,6 +1,7 @@
 //! The portal that is tried.
 
 use reference::mistake::Mistake;
+use reference::portal::{line_bytes, LINE_BYTES};
 use reference::run::{self, Limits, MAX_PLACES};
 
 #[cfg(portal_linked)]
@@ -187,12 +188,13 @@ fn follow_linked(_: &[u8], _: u64, _: Lending, _: &mut [u8]) -> u64 {
 fn call_reference(job: &[u8], budget: u64, area: &mut [u8], mistake: Mistake) -> u64 {
     let limits = Limits {
         places: MAX_PLACES,
-        lines: area.len() / 4,
+        lines: area.len() / LINE_BYTES,
         ..Limits::ample(budget)
     };
     let outcome = run::outcome_with(job, &limits, mistake);
-    for (line, bytes) in outcome.lines.iter().zip(area.chunks_exact_mut(4)) {
-        bytes.copy_from_slice(&line.to_le_bytes());
+    let places = area.chunks_exact_mut(LINE_BYTES);
+    for (line, bytes) in outcome.lines.iter().zip(places) {
+        bytes.copy_from_slice(&line_bytes(line));
     }
     answer(outcome.ending.number(), outcome.lines.len())
 }

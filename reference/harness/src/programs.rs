@@ -1,4 +1,4 @@
-//! What the programs `board` and `inspect` must print for a job.
+//! What the programs `board`, `inspect` and `summary` must print for a job.
 
 use std::fmt::Write;
 use std::io::{ErrorKind, Write as _};
@@ -6,8 +6,10 @@ use std::process::{Command, Output, Stdio};
 use std::thread;
 
 use reference::ending::Ending;
+use reference::mistake::Mistake;
 use reference::portal::{self, BOARD_BUDGET, BOARD_LINES};
 use reference::run::{self, Limits};
+use reference::summary;
 
 /// Standard output and standard error of a program.
 #[derive(Clone, Debug, PartialEq, Eq)]
@@ -41,7 +43,7 @@ pub fn inspect(job: &[u8]) -> Streams {
         writeln!(text, "steps {}", outcome.steps).unwrap();
         writeln!(text, "lines {}", outcome.lines.len()).unwrap();
         for line in &outcome.lines {
-            writeln!(text, "  {line}").unwrap();
+            writeln!(text, "  {} {}", line.number, line.readers).unwrap();
         }
         writeln!(text, "variables {}", last.variables.len()).unwrap();
         for (index, (level, value)) in last.variables.iter().enumerate() {
@@ -66,13 +68,22 @@ pub fn inspect(job: &[u8]) -> Streams {
     }
 }
 
+/// The summary of R-12.
+pub fn summed(job: &[u8]) -> Streams {
+    let output = summary::output(job, Mistake::None);
+    Streams {
+        output: String::from_utf8_lossy(&output.standard_output).into_owned(),
+        error: output.standard_error,
+    }
+}
+
 fn name(ending: Ending) -> &'static str {
     match ending {
         Ending::Finished => "finished",
         Ending::Size => "wrong size",
         Ending::Layout => "broken layout",
         Ending::Count => "count out of range",
-        Ending::VariableLevel => "variable level out of range",
+        Ending::VariableLevel => unreachable!("only programs with older rules give 4"),
         Ending::Parent => "parent rule broken",
         Ending::Tree => "tree rule broken",
         Ending::Field => "command or field out of range",

@@ -3,9 +3,10 @@
 use std::cell::RefCell;
 
 use fast::follow::{Lent, Record};
-use fast::{Answer, Buffers, Limits};
+use fast::{Answer, Buffers, Limits, LINE_BYTES};
 use reference::ending::Ending;
 use reference::generate::Case;
+use reference::portal;
 use reference::run::{self, Last, Outcome};
 use reference::tree::Row;
 use reference::Level;
@@ -28,7 +29,7 @@ pub fn job(
     bytes: &[u8],
     limits: &run::Limits,
 ) -> (Outcome, Option<Vec<(Level, i32)>>) {
-    let mut area = vec![0; 4 * limits.lines];
+    let mut area = vec![0; LINE_BYTES * limits.lines];
     let answer = fast::run::run(
         buffers,
         bytes,
@@ -52,7 +53,7 @@ pub fn script(
     table: &mut [Record],
     variables: &mut [(Level, i32)],
 ) -> Outcome {
-    let mut area = vec![0; 4 * limits.lines];
+    let mut area = vec![0; LINE_BYTES * limits.lines];
     let (mut levels, mut values): (Vec<Level>, Vec<i32>) = variables.iter().copied().unzip();
     let lent = Lent {
         table,
@@ -70,14 +71,12 @@ pub fn script(
 fn whole(answer: Answer, area: &[u8], buffers: &Buffers) -> Outcome {
     let is_ending = |ending: &Ending| ending.number() == u32::from(answer.ending);
     let ending = Ending::ALL.into_iter().find(is_ending).expect("an ending");
-    let lines = area.chunks_exact(4).take(answer.lines as usize);
+    let lines = area.chunks_exact(LINE_BYTES).take(answer.lines as usize);
     Outcome {
         ending,
         index: answer.index as usize,
         steps: u64::from(answer.steps),
-        lines: lines
-            .map(|line| i32::from_le_bytes(line.try_into().unwrap()))
-            .collect(),
+        lines: lines.map(portal::line_of).collect(),
         last: (!ending.turned_back()).then(|| last(buffers)),
     }
 }

@@ -251,8 +251,8 @@ fn bytes_of_the_area() {
             answer
         }
     };
-    let length = 4 * case.limits.lines + 3;
-    for place in [0, 3, 7, 8, 9, length - 4, length - 1] {
+    let length = 5 * case.limits.lines + 3;
+    for place in [0, 4, 5, 9, 10, 11, length - 4, length - 1] {
         assert!(with_portal(&case, writes(place)).is_some(), "byte {place}");
     }
     let beyond = |job: &[u8], budget, area: &mut [u8]| {
@@ -282,10 +282,10 @@ fn a_refused_job_that_writes() {
     assert!(with_portal(&case, writes).is_some());
 }
 
-/// Areas of all four remainders come up, with valid and with damaged jobs.
+/// Areas of all five remainders come up, with valid and with damaged jobs.
 #[test]
 fn areas_of_odd_lengths() {
-    for remainder in 0..4 {
+    for remainder in 0..5 {
         for rest in 0..5 {
             assert!((0..100).any(|seed| spare(seed) == remainder && seed % 5 == rest));
         }
@@ -324,7 +324,7 @@ fn what_inspect_prints() {
     let variables = [public_variable(0), house_variable(7)];
     let nodes = [root_node([0, 0, 0], 10), node(0, [0, 0, 0], 3)];
     let text = |bytes: &[u8]| programs::inspect(bytes).output;
-    let expected = "ending 0 finished\nrecord 0\nsteps 6\nlines 1\n  10\nvariables 2\n  \
+    let expected = "ending 0 finished\nrecord 0\nsteps 6\nlines 1\n  10 0\nvariables 2\n  \
                     0: level 0, value 0\n  1: level 1, value 7\ntree 2\n  \
                     value 10, existence 0, content 0, list 0\n    \
                     value 3, existence 0, content 0, list 0\n";

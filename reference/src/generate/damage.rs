@@ -108,20 +108,21 @@ fn damage_levels(random: &mut Random, job: &mut Job) {
     }
 }
 
-/// A house child and a public one to its right, mostly not in records next to
-/// each other.
+/// A child that the one to its right does not contain, mostly not in records next
+/// to each other.
 fn damage_siblings(random: &mut Random, job: &mut Job) {
     if job.nodes.len() + 3 > MAX_NODES {
         return;
     }
     let parent = some_ancestor(random, &job.nodes);
-    job.nodes[parent].list = 1;
+    let [list, left, right] = random.pick(&[[1, 1, 0], [3, 1, 2], [7, 5, 6]]);
+    job.nodes[parent].list |= list;
     let house = job.nodes.len() as u16;
-    job.nodes.push(node(parent as u16, [1, 1, 1], 0));
+    job.nodes.push(node(parent as u16, [left; 3], 0));
     if random.chance(2, 3) {
-        job.nodes.push(node(house, [1, 1, 1], 0));
+        job.nodes.push(node(house, [left; 3], 0));
     }
-    job.nodes.push(node(parent as u16, [0, 0, 0], 0));
+    job.nodes.push(node(parent as u16, [right; 3], 0));
 }
 
 /// The last record, or a record on the way up from it: below it a new node may

@@ -2,11 +2,13 @@
 //! a valid case or of a damaged one.
 
 use super::{damaged, valid, valid_job, Case};
-use crate::job::{command, split, Job, Record, MAX_NODES, MAX_RECORDS, MAX_VARIABLES};
+use crate::job::{command, split, Job, Node, Record, Rows, Variable};
+use crate::job::{FIRST_READS, MAX_NODES, MAX_RECORDS, MAX_VARIABLES, READS};
 use crate::mistake::Mistake;
 use crate::random::Random;
 use crate::run::Limits;
 use crate::source::{house_variable, node, nothing, root_node};
+use crate::HOUSE;
 
 /// The case of a seed with notes in its spare bytes, or none where it has none.
 pub fn dirty(seed: u64) -> Case {
@@ -21,7 +23,8 @@ pub fn dirty(seed: u64) -> Case {
         return case;
     };
     let share = random.pick(&[1, 1, 1, 8, 64, 256]);
-    annotate(&mut random, &mut job, share);
+    let rows = random.pick(&[&READS, &FIRST_READS]);
+    annotate(&mut random, &mut job, rows, share);
     if random.chance(1, 4) {
         annotate_one(&mut random, &mut job);
     }
@@ -43,7 +46,7 @@ pub fn full_of_notes(seed: u64) -> Case {
     };
     job.nodes[0] = root_node([0, 0, 0], 1);
     job.script[..some.script.len()].copy_from_slice(&some.script);
-    annotate(&mut random, &mut job, 256);
+    annotate(&mut random, &mut job, &FIRST_READS, 256);
     Case {
         bytes: job.encode(),
         limits: Limits {
@@ -63,20 +66,25 @@ fn stored(random: &mut Random) -> Case {
     }
 }
 
-/// A job with no command that came after the cleaner.
+/// A job with no command and no level that came after the cleaner.
 fn stored_job(random: &mut Random) -> (Job, Limits) {
     loop {
         let (job, limits) = valid_job(random);
         let known = |record: &Record| usize::from(record.command) < command::FIRST_COUNT;
-        if job.script.iter().all(known) {
+        let plain_variable = |variable: &Variable| variable.level <= HOUSE;
+        let plain_node = |node: &Node| (node.existence | node.content | node.list) <= HOUSE;
+        if job.script.iter().all(known)
+            && job.variables.iter().all(plain_variable)
+            && job.nodes.iter().all(plain_node)
+        {
             return (job, limits);
         }
     }
 }
 
-/// A note in `share` of 256 spare bytes.
-fn annotate(random: &mut Random, job: &mut Job, share: usize) {
-    let plain = job.plain(Mistake::None);
+/// A note in `share` of 256 bytes that are spare by the rows of a day.
+fn annotate(random: &mut Random, job: &mut Job, rows: &Rows, share: usize) {
+    let plain = job.plain(rows, Mistake::None);
     let mut note = || match random.below(256) < share {
         true => random.between(1, 255) as u8,
         false => 0,
@@ -94,11 +102,12 @@ fn annotate(random: &mut Random, job: &mut Job, share: usize) {
             operator: note(),
             left_kind: note(),
             right_kind: note(),
-            spare: [note(), note(), note()],
+            sets: [note(), note()],
+            spare: note(),
             left: u32::from_le_bytes([note(), note(), note(), note()]),
             right: u32::from_le_bytes([note(), note(), note(), note()]),
         };
-        *record = plain.over(&notes);
+        *record = plain.over_by(rows, &notes);
     }
 }
 
@@ -115,7 +124,10 @@ fn annotate_one(random: &mut Random, job: &mut Job) {
         1 => notes.operator = 1,
         2 => notes.left_kind = 1,
         3 => notes.right_kind = 1,
-        4 => notes.spare[random.below(3)] = 1,
+        4 => match random.below(3) {
+            2 => notes.spare = 1,
+            place => notes.sets[place] = 1,
+        },
         5 => notes.left = 1 << (8 * random.below(4)),
         _ => notes.right = 1 << (8 * random.below(4)),
     }

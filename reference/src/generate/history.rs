@@ -443,7 +443,8 @@ impl<'a> Writer<'a> {
         };
         let mut entries = vec![Entry::new(what::VARIABLES, 0, count as u32)];
         for index in 0..count {
-            let (level, value) = (self.random.below(2) as u32, self.random.value() as u32);
+            let level = self.random.pick(&[0, 0, 1, 1, 2, 3, 255]);
+            let value = self.random.value() as u32;
             entries.push(Entry::new(what::VARIABLE_LEVEL, index, level));
             entries.push(Entry::new(what::VARIABLE_VALUE, index, value));
         }
@@ -675,7 +676,7 @@ fn break_table(random: &mut Random, table: &mut Vec<Lent>, places: &mut Vec<usiz
             set_level(random, record, level);
         }
         11 | 12 => {
-            let level = random.below(2) as u8;
+            let level = random.pick(&[0, 1, 1, 2]);
             set_level(random, record, level);
         }
         // What the moves of R-7 go by: another node, itself, none, no place.

@@ -1,18 +1,20 @@
-//! Pairs of histories of the same scripts, from jobs that agree on their public
-//! parts.
+//! Pairs of histories of the same scripts, from jobs that agree on what is public to
+//! a reader.
 
-use super::pairs::{agreeing, aimed, both_finish};
-use super::{levels_of, likely_mistake, script};
+use super::pairs::{agreeing, aimed, both_finish, levels_for};
+use super::{likely_mistake, script};
 use crate::history::{kind, Event};
 use crate::job::{self, Job, Record};
 use crate::mistake::Mistake;
 use crate::public;
 use crate::random::Random;
 use crate::run::{Limits, Monitor, Standing, MAX_PLACES};
+use crate::Level;
 
 /// A job and scripts over what it leaves, on two sides.
 #[derive(Clone, Debug, PartialEq, Eq)]
 pub struct HistoryPair {
+    pub reader: Level,
     pub left: Vec<Event>,
     pub right: Vec<Event>,
 }
@@ -37,7 +39,7 @@ impl HistoryPair {
             left.kind == kind::SCRIPT && right.kind == kind::SCRIPT && plain(left) == plain(right)
         };
         public::same_script(&left, &right)
-            && public::agree(&left, &right)
+            && public::agree(&left, &right, self.reader)
             && left_scripts.len() == right_scripts.len()
             && left_scripts.iter().zip(right_scripts).all(same)
     }
@@ -47,19 +49,20 @@ impl HistoryPair {
 pub fn history_pair(seed: u64) -> HistoryPair {
     let mut random = Random::new(seed ^ 0x0073_6561_736f_6e00);
     let random = &mut random;
-    let (mut left, mut right) = agreeing(random);
+    let (mut left, mut right, reader) = agreeing(random);
     let mut sides = [Standing::of(&left), Standing::of(&right)];
     let mut scripts = Vec::new();
     let count = random.between(2, 4);
     for number in 0..count {
         let last = number + 1 == count;
-        let script = some_script(random, &sides, last);
+        let script = some_script(random, &sides, reader, last);
         sides = sides.map(|side| after(&side, &script));
         scripts.push(script);
     }
     left.script = scripts.remove(0);
     right.script = left.script.clone();
     let pair = HistoryPair {
+        reader,
         left: events(random, left, &scripts),
         right: events(random, right, &scripts),
     };
@@ -69,8 +72,13 @@ pub fn history_pair(seed: u64) -> HistoryPair {
 
 /// Before the last one, a script that the right monitor finishes on both sides;
 /// the last one looks around, mostly as a wrong monitor lets it.
-fn some_script(random: &mut Random, sides: &[Standing; 2], last: bool) -> Vec<Record> {
-    let levels = levels_of(&sides[0].variables);
+fn some_script(
+    random: &mut Random,
+    sides: &[Standing; 2],
+    reader: Level,
+    last: bool,
+) -> Vec<Record> {
+    let levels = levels_for(sides, reader);
     let mistake = match (last, random.below(3)) {
         (false, _) => Mistake::None,
         (true, 0) => Mistake::CursorStays,

@@ -24,7 +24,7 @@ use crate::mistake::{Mistake, RULED_COMMANDS};
 use crate::random::Random;
 use crate::run::{Limits, Monitor, Standing, MAX_BUDGET, MAX_PLACES};
 use crate::source::with;
-use crate::{Level, HOUSE, PUBLIC};
+use crate::{apart, Level, HOUSE, PUBLIC};
 
 /// The bytes of a job, with a budget and the sizes of the buffers.
 #[derive(Clone, Debug, PartialEq, Eq)]
@@ -58,7 +58,7 @@ pub fn valid(seed: u64) -> Case {
 fn valid_job(random: &mut Random) -> (Job, Limits) {
     let growth = Growth::some(random, Random::value);
     let mut job = Job {
-        variables: variables(random),
+        variables: variables(random, growth.sets),
         nodes: in_order(&nodes::any(random, growth)),
         script: Vec::new(),
     };
@@ -70,9 +70,10 @@ fn valid_job(random: &mut Random) -> (Job, Limits) {
         ![Ending::Rule, Ending::Missing, Ending::OutOfRange].contains(&ending)
     };
     let script = match (random.below(30), mistake) {
-        (0..=9, _) => script::any(random, &levels, &mut |_| true),
-        (10 | 11, _) => script::endless(random, &levels, goes_on),
-        (12..=20, Mistake::NoRule(command)) if script::MOVES.contains(&command) => {
+        (0..=5, _) => script::any(random, &levels, &mut |_| true),
+        (6..=9, _) => script::at_odds(random, &levels),
+        (10..=12, _) => script::endless(random, &levels, goes_on),
+        (13..=21, Mistake::NoRule(command)) if script::MOVES.contains(&command) => {
             script::branching(random, &levels, goes_on, command)
         }
         _ => script::short(random, &levels, goes_on),
@@ -137,7 +138,51 @@ fn likely_mistake(random: &mut Random) -> Mistake {
     }
 }
 
-fn variables(random: &mut Random) -> Vec<Variable> {
+/// Two sets that the levels of a case are made of: half of the time the first party
+/// alone, as before R-12, else mostly two of which neither contains the other.
+fn two_sets(random: &mut Random) -> [Level; 2] {
+    if random.chance(1, 2) {
+        return [HOUSE; 2];
+    }
+    let set = |random: &mut Random| match random.below(3) {
+        0 => random.between(1, 255) as Level,
+        1 => random.pick(&[1, 2, 3]),
+        _ => 1 << random.below(8),
+    };
+    loop {
+        let sets = [set(random), set(random)];
+        if apart(sets[0], sets[1]) || random.chance(1, 8) {
+            return sets;
+        }
+    }
+}
+
+/// One of the sets, or both joined.
+fn some_of(random: &mut Random, sets: [Level; 2]) -> Level {
+    let [first, second] = sets;
+    random.pick(&[first, first, second, second, first | second])
+}
+
+/// The levels that a script has to do with.
+pub struct Palette {
+    /// The level of each variable.
+    pub variables: Vec<Level>,
+    /// Sets of parties for covers, new nodes and readers.
+    pub sets: Vec<Level>,
+}
+
+impl Palette {
+    fn new(variables: Vec<Level>) -> Palette {
+        let mut sets: Vec<Level> = variables.clone();
+        sets.retain(|&level| level != PUBLIC);
+        if sets.is_empty() {
+            sets.push(HOUSE);
+        }
+        Palette { variables, sets }
+    }
+}
+
+fn variables(random: &mut Random, sets: [Level; 2]) -> Vec<Variable> {
     let count = match random.below(40) {
         0 => 0,
         1 => MAX_VARIABLES,
@@ -145,27 +190,30 @@ fn variables(random: &mut Random) -> Vec<Variable> {
         _ => random.between(2, 6),
     };
     let variable = |random: &mut Random| Variable {
-        level: random.pick(&[PUBLIC, HOUSE]),
+        level: match random.chance(1, 2) {
+            true => PUBLIC,
+            false => some_of(random, sets),
+        },
         value: random.value(),
         ..Variable::default()
     };
     (0..count).map(|_| variable(random)).collect()
 }
 
-fn levels(variables: &[Variable]) -> Vec<Level> {
-    variables.iter().map(|variable| variable.level).collect()
+fn levels(variables: &[Variable]) -> Palette {
+    Palette::new(variables.iter().map(|variable| variable.level).collect())
 }
 
-fn levels_of(variables: &[(Level, i32)]) -> Vec<Level> {
-    variables.iter().map(|variable| variable.0).collect()
+fn levels_of(variables: &[(Level, i32)]) -> Palette {
+    Palette::new(variables.iter().map(|variable| variable.0).collect())
 }
 
 /// Limits that are accepted for `job`, some of them tight.
 fn limits(random: &mut Random, job: &Job) -> Limits {
     let budget = match random.below(1_000) {
-        0..=9 => MAX_BUDGET,
-        10..=59 => 100_000,
-        60..=249 => random.between(1, 30) as u64,
+        0..=24 => MAX_BUDGET,
+        25..=59 => 100_000,
+        60..=349 => random.between(1, 30) as u64,
         _ => 2_000,
     };
     let places = match random.below(4) {

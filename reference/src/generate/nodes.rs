@@ -2,19 +2,22 @@
 //! that a parent comes before its children and siblings stand in order; who makes
 //! a job of them lists them the way they hang.
 
+use super::{some_of, two_sets};
 use crate::arrange::renumbered;
 use crate::job::{Node, MAX_NODES, NO_PARENT};
 use crate::random::Random;
 use crate::source::node;
-use crate::{Level, HOUSE, PUBLIC};
+use crate::{within, Level, PUBLIC};
 
 /// How one tree grows.
 #[derive(Clone, Copy)]
 pub struct Growth {
     /// How often a new node's parent is the last node, the root, or any.
     pub parents: [usize; 3],
-    /// Out of five nodes, those with content 1, list 1, and existence 1 where
-    /// the tree rules leave a choice.
+    /// What levels are made of.
+    pub sets: [Level; 2],
+    /// Out of five nodes, those with a set as content, as list, and as existence
+    /// where the tree rules leave a choice.
     pub content: usize,
     pub list: usize,
     pub existence: usize,
@@ -26,6 +29,7 @@ impl Growth {
     pub fn some(random: &mut Random, value: fn(&mut Random) -> i32) -> Growth {
         Growth {
             parents: random.pick(&[[1, 1, 2], [0, 0, 1], [1, 6, 1], [4, 1, 1], [1, 0, 0]]),
+            sets: two_sets(random),
             content: random.between(1, 3),
             list: random.between(1, 4),
             existence: random.between(1, 3),
@@ -53,7 +57,7 @@ pub fn grown(random: &mut Random, growth: Growth, count: usize) -> Vec<Node> {
         let least = least_existence(&nodes, parent);
         let most = nodes[parent].list;
         let existence = if random.chance(growth.existence, 5) {
-            most
+            least | most & some_of(random, growth.sets)
         } else {
             least
         };
@@ -62,8 +66,8 @@ pub fn grown(random: &mut Random, growth: Growth, count: usize) -> Vec<Node> {
     nodes
 }
 
-/// A tree of nodes of existence 0 alone.
-pub fn public(random: &mut Random, growth: Growth) -> Vec<Node> {
+/// A tree of nodes whose existence a reader may know.
+pub fn public(random: &mut Random, growth: Growth, reader: Level) -> Vec<Node> {
     let count = match random.below(20) {
         0 => 1,
         1 => random.between(8, 20),
@@ -72,22 +76,41 @@ pub fn public(random: &mut Random, growth: Growth) -> Vec<Node> {
     let mut nodes = vec![root(random, growth)];
     while nodes.len() < count {
         let parent = some_parent(random, nodes.len(), growth);
-        push(random, &mut nodes, parent, PUBLIC, growth);
+        let least = least_existence(&nodes, parent);
+        let seen = nodes[parent].list & reader;
+        let existence = match random.chance(growth.existence, 5) {
+            true => least | seen & some_of(random, growth.sets),
+            false => least,
+        };
+        push(random, &mut nodes, parent, existence, growth);
     }
     nodes
 }
 
-/// Up to `most` more nodes of existence 1, where the list level lets them be.
-pub fn add_house(random: &mut Random, nodes: &mut Vec<Node>, most: usize, growth: Growth) {
+/// Up to `most` more nodes whose existence is hidden from a reader, where the list
+/// level lets them be.
+pub fn add_hidden(
+    random: &mut Random,
+    nodes: &mut Vec<Node>,
+    most: usize,
+    growth: Growth,
+    reader: Level,
+) {
     for _ in 0..random.between(0, most) {
         let open: Vec<usize> = (0..nodes.len())
-            .filter(|&i| nodes[i].list == HOUSE)
+            .filter(|&i| !within(nodes[i].list, reader))
             .collect();
         if open.is_empty() || nodes.len() == MAX_NODES {
             return;
         }
         let parent = random.pick(&open);
-        push(random, nodes, parent, HOUSE, growth);
+        let list = nodes[parent].list;
+        let some = least_existence(nodes, parent) | list & some_of(random, growth.sets);
+        let existence = match within(some, reader) {
+            true => list,
+            false => some,
+        };
+        push(random, nodes, parent, existence, growth);
     }
 }
 
@@ -142,7 +165,10 @@ fn push(
 }
 
 fn labelled(random: &mut Random, parent: u16, existence: Level, growth: Growth) -> Node {
-    let mut level = |share: usize| existence.max(random.chance(share, 5) as Level);
+    let mut level = |share: usize| match random.chance(share, 5) {
+        true => existence | some_of(random, growth.sets),
+        false => existence,
+    };
     let (content, list) = (level(growth.content), level(growth.list));
     let value = (growth.value)(random);
     node(parent, [existence, content, list], value)

@@ -4,10 +4,11 @@
 //! A script grows by pieces put in at one place; whoever asks for it may turn
 //! a piece down, after a look at the whole script with the piece in it.
 
+use super::Palette;
 use crate::job::{command, Record, MAX_BLOCKS, MAX_RECORDS};
 use crate::random::Random;
 use crate::source::*;
-use crate::{join, Level, HOUSE, PUBLIC};
+use crate::{apart, join, within, Level, PUBLIC};
 
 /// Commands with the rule of 7.
 pub const MOVES: [u8; 7] = [
@@ -39,7 +40,7 @@ const DRAWS: usize = 6;
 pub type Accept<'a> = &'a mut dyn FnMut(&[Record]) -> bool;
 
 /// A script that adds and removes nodes here and there.
-pub fn pruning(random: &mut Random, levels: &[Level], accept: Accept) -> Vec<Record> {
+pub fn pruning(random: &mut Random, levels: &Palette, accept: Accept) -> Vec<Record> {
     let mut writer = Writer::new(random, levels, accept);
     for _ in 0..writer.random.between(3, 12) {
         for _ in 0..writer.random.below(3) {
@@ -59,7 +60,7 @@ pub fn pruning(random: &mut Random, levels: &[Level], accept: Accept) -> Vec<Rec
 }
 
 /// A script of any size for variables of these levels.
-pub fn any(random: &mut Random, levels: &[Level], accept: Accept) -> Vec<Record> {
+pub fn any(random: &mut Random, levels: &Palette, accept: Accept) -> Vec<Record> {
     let statements = match random.below(100) {
         0 => 0,
         1 => 400,
@@ -81,7 +82,7 @@ pub fn any(random: &mut Random, levels: &[Level], accept: Accept) -> Vec<Record>
 }
 
 /// A script of a few statements.
-pub fn short(random: &mut Random, levels: &[Level], accept: Accept) -> Vec<Record> {
+pub fn short(random: &mut Random, levels: &Palette, accept: Accept) -> Vec<Record> {
     let statements = random.between(2, 12);
     let mut writer = Writer::new(random, levels, accept);
     for _ in 0..statements {
@@ -91,7 +92,7 @@ pub fn short(random: &mut Random, levels: &[Level], accept: Accept) -> Vec<Recor
 }
 
 /// A loop without an end.
-pub fn endless(random: &mut Random, levels: &[Level], accept: Accept) -> Vec<Record> {
+pub fn endless(random: &mut Random, levels: &Palette, accept: Accept) -> Vec<Record> {
     let statements = random.between(1, 8);
     let mut writer = Writer::new(random, levels, accept);
     for _ in 0..writer.random.below(3) {
@@ -107,7 +108,7 @@ pub fn endless(random: &mut Random, levels: &[Level], accept: Accept) -> Vec<Rec
 }
 
 /// A script that goes on excursions and shows what it can see afterwards.
-pub fn probing(random: &mut Random, levels: &[Level], accept: Accept) -> Vec<Record> {
+pub fn probing(random: &mut Random, levels: &Palette, accept: Accept) -> Vec<Record> {
     let mut writer = Writer::new(random, levels, accept);
     for _ in 0..writer.random.between(1, 4) {
         for _ in 0..writer.random.below(2) {
@@ -127,7 +128,7 @@ pub fn probing(random: &mut Random, levels: &[Level], accept: Accept) -> Vec<Rec
 /// and shows what it can see afterwards.
 pub fn branching(
     random: &mut Random,
-    levels: &[Level],
+    levels: &Palette,
     accept: Accept,
     command: u8,
 ) -> Vec<Record> {
@@ -144,7 +145,7 @@ pub fn branching(
 
 /// A script that goes to last children, changes something there and shows what it
 /// can see afterwards.
-pub fn going_last(random: &mut Random, levels: &[Level], accept: Accept) -> Vec<Record> {
+pub fn going_last(random: &mut Random, levels: &Palette, accept: Accept) -> Vec<Record> {
     let mut writer = Writer::new(random, levels, accept);
     for _ in 0..writer.random.between(1, 3) {
         for _ in 0..writer.random.below(2) {
@@ -159,8 +160,80 @@ pub fn going_last(random: &mut Random, levels: &[Level], accept: Accept) -> Vec<
     writer.script
 }
 
+/// A script that moves under one cover by a guard, puts on another, and shows what it
+/// can see there.
+pub fn covering_twice(random: &mut Random, levels: &Palette, accept: Accept) -> Vec<Record> {
+    let mut writer = Writer::new(random, levels, accept);
+    for _ in 0..writer.random.between(1, 2) {
+        let (guard, level) = writer.guard();
+        let first = match level {
+            PUBLIC => writer.some_set(),
+            level => level,
+        };
+        if writer.put(&[cover_with(first), when(guard), end()]) {
+            writer.place -= 1;
+            writer.put_some(&mut Writer::some_move);
+            writer.place += 1;
+        }
+        let second = writer.some_set();
+        writer.put(&[cover_with(second)]);
+        writer.look();
+    }
+    writer.script
+}
+
+/// A script that puts in a node by a guard, removes one that stands there, and shows
+/// what it can see afterwards.
+pub fn beside(random: &mut Random, levels: &Palette, accept: Accept) -> Vec<Record> {
+    let mut writer = Writer::new(random, levels, accept);
+    for _ in 0..writer.random.between(1, 2) {
+        match writer.random.chance(1, 2) {
+            true => writer.children_of_a_set(),
+            false => {
+                for _ in 0..writer.random.below(2) {
+                    writer.put_some(&mut Writer::some_move);
+                }
+            }
+        }
+        let (guard, _) = writer.guard();
+        let insertion = writer
+            .random
+            .pick(&[new_first_child(0, 1), new_right_sibling(0, 1)]);
+        writer.put(&[when(guard), insertion, end()]);
+        let removal = match insertion.command {
+            command::NEW_FIRST_CHILD => remove_first_child(),
+            _ => remove_right_sibling(),
+        };
+        writer.put(&[removal]);
+        writer.look();
+        writer.show();
+    }
+    writer.script
+}
+
+/// Commands with a rule and without an expression.
+const AT_ODDS: [u8; 9] = [
+    command::ROOT,
+    command::UP,
+    command::FIRST_CHILD,
+    command::RIGHT_SIBLING,
+    command::REMOVE_FIRST_CHILD,
+    command::REMOVE_RIGHT_SIBLING,
+    command::COVER,
+    command::LEFT_SIBLING,
+    command::LAST_CHILD,
+];
+
+/// A script whose sets do not contain each other: mostly a rule stops it.
+pub fn at_odds(random: &mut Random, levels: &Palette) -> Vec<Record> {
+    let accept: Accept = &mut |_| true;
+    let mut writer = Writer::new(random, levels, accept);
+    writer.at_odds();
+    writer.script
+}
+
 /// A script that goes away and stays there.
-pub fn leaving(random: &mut Random, levels: &[Level], accept: Accept) -> Vec<Record> {
+pub fn leaving(random: &mut Random, levels: &Palette, accept: Accept) -> Vec<Record> {
     let mut writer = Writer::new(random, levels, accept);
     for _ in 0..writer.random.below(3) {
         writer.statement(1, PUBLIC);
@@ -170,7 +243,7 @@ pub fn leaving(random: &mut Random, levels: &[Level], accept: Accept) -> Vec<Rec
 }
 
 /// A script that shows what it can see from where it starts.
-pub fn looking(random: &mut Random, levels: &[Level], accept: Accept) -> Vec<Record> {
+pub fn looking(random: &mut Random, levels: &Palette, accept: Accept) -> Vec<Record> {
     let mut writer = Writer::new(random, levels, accept);
     writer.look();
     for _ in 0..writer.random.below(3) {
@@ -239,7 +312,7 @@ impl Taste {
 
 struct Writer<'a> {
     random: &'a mut Random,
-    levels: &'a [Level],
+    levels: &'a Palette,
     accept: Accept<'a>,
     taste: Taste,
     script: Vec<Record>,
@@ -250,7 +323,7 @@ struct Writer<'a> {
 }
 
 impl<'a> Writer<'a> {
-    fn new(random: &'a mut Random, levels: &'a [Level], accept: Accept<'a>) -> Writer<'a> {
+    fn new(random: &'a mut Random, levels: &'a Palette, accept: Accept<'a>) -> Writer<'a> {
         let (script, counters) = (Vec::new(), Vec::new());
         let taste = Taste::some(random);
         Writer {
@@ -409,16 +482,17 @@ impl<'a> Writer<'a> {
         ]) {
             self.counters.push(counter);
             self.place -= 2;
-            self.body(depth - 1, join(context, self.levels[counter]));
+            self.body(depth - 1, join(context, self.levels.variables[counter]));
             self.place += 2;
             self.counters.pop();
         }
     }
 
-    /// A variable of level `least` or above that counts no open loop.
+    /// A variable whose level contains `least` and that counts no open loop.
     fn free_variable(&mut self, least: Level) -> Option<usize> {
-        let free: Vec<usize> = (0..self.levels.len())
-            .filter(|index| !self.counters.contains(index) && self.levels[*index] >= least)
+        let free: Vec<usize> = (0..self.levels.variables.len())
+            .filter(|index| !self.counters.contains(index))
+            .filter(|&index| within(least, self.levels.variables[index]))
             .collect();
         (!free.is_empty()).then(|| self.random.pick(&free))
     }
@@ -436,12 +510,12 @@ impl<'a> Writer<'a> {
             self.put_some(&mut Self::some_move);
         }
         if self.random.chance(1, 2) {
-            self.put(&[cover()]);
+            self.put_some(&mut Self::some_cover);
         }
         let weights = self.random.pick(&[[4, 1, 1], [1, 4, 1], [1, 1, 4]]);
         self.branch_with(context, &mut |writer, inner| {
             if writer.random.chance(writer.taste.covering, 8) {
-                writer.put(&[cover()]);
+                writer.put_some(&mut Self::some_cover);
             }
             for _ in 0..writer.random.between(1, 2) {
                 match writer.random.weighted(&weights) {
@@ -453,7 +527,7 @@ impl<'a> Writer<'a> {
         });
         for seen in [value(), children()] {
             if self.random.chance(1, 3) {
-                self.put(&[print(seen)]);
+                self.line(seen);
             }
         }
         for _ in 0..self.random.between(0, 3) {
@@ -504,33 +578,128 @@ impl<'a> Writer<'a> {
     /// Prints what is public here and on a way from here.
     fn look(&mut self) {
         for _ in 0..self.random.between(1, 3) {
-            self.put(&[print(value())]);
-            self.put(&[print(children())]);
+            self.line(value());
+            self.line(children());
             self.put_some(&mut Self::some_move);
         }
-        for index in 0..self.levels.len().min(6) {
-            if self.levels[index] == PUBLIC {
-                self.put(&[print(variable(index))]);
+        for index in 0..self.levels.variables.len().min(6) {
+            let level = self.levels.variables[index];
+            if level == PUBLIC || self.random.chance(1, 3) {
+                self.put(&[print_for(level, variable(index))]);
             }
+        }
+    }
+
+    /// A line for all, or else for the first set of readers that it may have.
+    fn line(&mut self, seen: Operand) {
+        if self.random.chance(1, 2) && self.put(&[print(seen)]) {
+            return;
+        }
+        for _ in 0..3 {
+            let readers = self.some_set();
+            if self.put(&[print_for(readers, seen)]) {
+                return;
+            }
+        }
+    }
+
+    /// A node whose list has every set about, two children of one set, and the cursor on
+    /// that node.
+    fn children_of_a_set(&mut self) {
+        let all = self.levels.sets.iter().copied().fold(PUBLIC, join);
+        let set = self.some_set();
+        let parent = with_sets([PUBLIC, all], new_first_child(0, 1));
+        let children = [
+            new_first_child(0, 5),
+            new_first_child(0, 7),
+            new_first_child(0, 8),
+        ];
+        let piece = [
+            &[root(), parent, first_child(), cover_with(set)][..],
+            &children,
+            &[root(), first_child()],
+        ];
+        self.put(&piece.concat());
+    }
+
+    /// Two sets at odds: a command under a guard of one, with a cover of another.
+    fn at_odds(&mut self) {
+        let count = self.levels.variables.len();
+        let some = (0..8).map(|_| {
+            (
+                self.random.below(count.max(1)),
+                self.random.pick(&self.levels.sets),
+            )
+        });
+        let at_odds = |&(index, set): &(usize, Level)| {
+            let level = self.levels.variables.get(index);
+            level.is_some_and(|&level| apart(level, set) && level < set)
+        };
+        let drawn: Vec<(usize, Level)> = some.collect();
+        let Some((index, set)) = drawn.into_iter().find(at_odds) else {
+            return;
+        };
+        // A guard that is never zero.
+        let guard = when(equal(variable(index), variable(index)));
+        let command = self.random.pick(&AT_ODDS);
+        let list = with_sets([PUBLIC, 255], new_first_child(0, 1));
+        // Below the root two nodes; below the first a public one, then one of the set.
+        let tree = [
+            list,
+            list,
+            first_child(),
+            cover_with(set),
+            new_first_child(0, 5),
+        ];
+        let public = [root(), first_child(), new_first_child(0, 6), first_child()];
+        let removes = [command::REMOVE_FIRST_CHILD, command::REMOVE_RIGHT_SIBLING];
+        let ready = match (command, removes.contains(&command)) {
+            (command::REMOVE_FIRST_CHILD, _) => vec![up(), remove_first_child()],
+            (_, true) => vec![],
+            (command::LEFT_SIBLING, _) => vec![up(), right_sibling(), cover_with(set)],
+            _ => vec![up(), cover_with(set)],
+        };
+        let end = [guard, bare(command), end()];
+        self.put(&[&tree[..], &public, &ready, &end].concat());
+    }
+
+    /// One of the sets about, or two of them joined.
+    fn some_set(&mut self) -> Level {
+        let set = self.random.pick(&self.levels.sets);
+        match self.random.chance(1, 4) {
+            true => join(set, self.random.pick(&self.levels.sets)),
+            false => set,
+        }
+    }
+
+    /// A cover for the first party, or for a set.
+    fn some_cover(&mut self) -> Record {
+        match self.random.chance(1, 2) {
+            true => cover(),
+            false => cover_with(self.some_set()),
         }
     }
 
     fn simple(&mut self, context: Level) -> Record {
         // A command that the context would stop, one time in ten.
-        let house = context == HOUSE && !self.random.chance(1, 10);
-        match self
-            .random
-            .weighted(&[1, 5, if house { 0 } else { 5 }, 12, 12, 1])
-        {
+        let least = match self.random.chance(1, 10) {
+            true => PUBLIC,
+            false => context,
+        };
+        match self.random.weighted(&[1, 5, 5, 12, 12, 1]) {
             0 => nothing(),
-            1 => self.assignment(if house { HOUSE } else { PUBLIC }),
+            1 => self.assignment(least),
             2 => {
-                let most = self.usual_level();
-                print(self.expression(most))
+                let readers = match self.random.below(3) {
+                    0 => join(least, self.some_set()),
+                    _ => least,
+                };
+                let most = join(readers, self.usual_level());
+                print_for(readers, self.expression(most))
             }
             3 => self.some_move(),
             4 => self.some_change(),
-            _ => cover(),
+            _ => self.some_cover(),
         }
     }
 
@@ -549,8 +718,10 @@ impl<'a> Writer<'a> {
     /// A public variable that counts, or a line: both go on under cover, but for
     /// what is read there.
     fn some_count(&mut self) -> Record {
-        let public: Vec<usize> = (0..self.levels.len())
-            .filter(|index| !self.counters.contains(index) && self.levels[*index] == PUBLIC)
+        let public: Vec<usize> = (0..self.levels.variables.len())
+            .filter(|index| {
+                !self.counters.contains(index) && self.levels.variables[*index] == PUBLIC
+            })
             .collect();
         let line = print(self.expression(PUBLIC));
         if public.is_empty() {
@@ -564,11 +735,19 @@ impl<'a> Writer<'a> {
     /// A command that changes the tree.
     fn some_change(&mut self) -> Record {
         let mark = self.random.below(4) as u8;
-        let most = self.random.pick(&[PUBLIC, HOUSE]);
+        let most = match self.random.chance(1, 2) {
+            true => PUBLIC,
+            false => self.some_set(),
+        };
         let expression = self.expression(most);
+        let mut set = || match self.random.chance(1, 3) {
+            true => self.random.pick(&self.levels.sets),
+            false => PUBLIC,
+        };
+        let sets = [set(), set()];
         let changes = [
-            new_first_child(mark, expression),
-            new_right_sibling(mark, expression),
+            with_sets(sets, new_first_child(mark, expression)),
+            with_sets(sets, new_right_sibling(mark, expression)),
             remove_first_child(),
             remove_right_sibling(),
             set_value(expression),
@@ -576,34 +755,40 @@ impl<'a> Writer<'a> {
         changes[self.random.weighted(&self.taste.changes)]
     }
 
-    /// An assignment to a variable of level `least` or above.
+    /// An assignment to a variable whose level contains `least`.
     fn assignment(&mut self, least: Level) -> Record {
         let Some(target) = self.free_variable(least) else {
             return nothing();
         };
-        let most = join(self.levels[target], self.usual_level());
+        let most = join(self.levels.variables[target], self.usual_level());
         assign(target, self.expression(most))
     }
 
-    /// 0, now and then 1.
+    /// 0, now and then a set.
     fn usual_level(&mut self) -> Level {
-        self.random.chance(self.taste.daring, 10) as Level
+        match self.random.chance(self.taste.daring, 10) {
+            true => self.some_set(),
+            false => PUBLIC,
+        }
     }
 
     /// A guard, and the part of its level that the text shows.
     fn guard(&mut self) -> (Expression, Level) {
-        let house: Vec<usize> = (0..self.levels.len())
-            .filter(|&index| self.levels[index] == HOUSE)
+        let house: Vec<usize> = (0..self.levels.variables.len())
+            .filter(|&index| self.levels.variables[index] != PUBLIC)
             .collect();
         match self.random.weighted(&self.taste.guards) {
-            0 if !house.is_empty() => (variable(self.random.pick(&house)).into(), HOUSE),
+            0 if !house.is_empty() => {
+                let index = self.random.pick(&house);
+                (variable(index).into(), self.levels.variables[index])
+            }
             1 => (children().into(), PUBLIC),
             2 => (value().into(), PUBLIC),
             _ => (self.expression(PUBLIC), PUBLIC),
         }
     }
 
-    /// An expression whose variables have level `most` or below.
+    /// An expression whose variables have levels within `most`.
     fn expression(&mut self, most: Level) -> Expression {
         let left = self.operand(most);
         let right = self.operand(most);
@@ -619,8 +804,8 @@ impl<'a> Writer<'a> {
     }
 
     fn operand(&mut self, most: Level) -> Operand {
-        let readable: Vec<usize> = (0..self.levels.len())
-            .filter(|&index| self.levels[index] <= most)
+        let readable: Vec<usize> = (0..self.levels.variables.len())
+            .filter(|&index| within(self.levels.variables[index], most))
             .collect();
         match self.random.weighted(&[3, 3, 2, 2]) {
             1 if !readable.is_empty() => variable(self.random.pick(&readable)),

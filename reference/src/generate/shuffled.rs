@@ -4,9 +4,10 @@
 use super::nodes::{self, Growth};
 use super::{damaged, valid, valid_job, Case};
 use crate::arrange::in_order;
-use crate::job::{split, Job, Node, MAX_NODES, NO_PARENT};
+use crate::job::{split, Job, Node, Record, FIRST_READS, MAX_NODES, NO_PARENT};
 use crate::random::Random;
 use crate::run::{Limits, MAX_PLACES};
+use crate::HOUSE;
 
 /// Draws for another order before the nodes stay in order: most trees that have
 /// another have many.
@@ -17,7 +18,7 @@ pub fn shuffled(seed: u64) -> Case {
     let mut random = Random::new(seed ^ 0x7368_7566_666c_6564);
     let case = match random.below(6) {
         0 | 1 => damaged(seed),
-        2 | 3 => {
+        2..=4 => {
             let count = random.between(5, 100);
             grown(&mut random, count)
         }
@@ -59,10 +60,21 @@ fn reordered(random: &mut Random, job: Job, limits: Limits) -> Case {
     }
 }
 
-/// A valid case but for its nodes' order, with so many of them.
+/// A valid case but for its nodes' order, with so many of them, and with nothing that
+/// came after the rearranger: no sets of parties.
 fn grown(random: &mut Random, count: usize) -> Case {
-    let (job, limits) = valid_job(random);
-    let growth = Growth::some(random, Random::value);
+    let before = |record: &Record| *record == record.over_by(&FIRST_READS, &Record::default());
+    let (job, limits) = loop {
+        let (job, limits) = valid_job(random);
+        let levels = job.variables.iter().all(|variable| variable.level <= HOUSE);
+        if levels && job.script.iter().all(before) {
+            break (job, limits);
+        }
+    };
+    let growth = Growth {
+        sets: [HOUSE; 2],
+        ..Growth::some(random, Random::value)
+    };
     let nodes = nodes::grown(random, growth, count);
     Case {
         bytes: Job { nodes, ..job }.encode(),

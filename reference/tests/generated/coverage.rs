@@ -5,6 +5,7 @@ use reference::job::{self, command};
 use reference::mistake::Mistake;
 use reference::print;
 use reference::run::{self, Limits};
+use reference::within;
 
 use super::{cases, SEEDS};
 
@@ -56,7 +57,10 @@ fn tree_rules_hold_after_each_step() {
             assert!(state.lines.len() <= limits.lines, "seed {seed}");
             // "The cursor level is never below the existence of the working node".
             let working_node = state.tree.at(&state.cursor);
-            assert!(working_node.existence <= state.cursor_level, "seed {seed}");
+            assert!(
+                within(working_node.existence, state.cursor_level),
+                "seed {seed}"
+            );
         });
     }
 }

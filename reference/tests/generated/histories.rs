@@ -126,7 +126,11 @@ fn histories_leak_nothing() {
         let pair = generate::history_pair(seed);
         assert!(pair.well_formed(), "seed {seed}");
         let [left, right] = [&pair.left, &pair.right].map(|events| outcomes(events, Mistake::None));
-        assert_eq!(public::history_leak(&left, &right), None, "seed {seed}");
+        assert_eq!(
+            public::history_leak(&left, &right, pair.reader),
+            None,
+            "seed {seed}"
+        );
     }
 }
 
@@ -136,7 +140,7 @@ fn leaks_from_script_to_script_are_found() {
         let found = (0..5 * SEEDS).find(|&seed| {
             let pair = generate::history_pair(seed);
             let [left, right] = [&pair.left, &pair.right].map(|events| outcomes(events, mistake));
-            public::history_leak(&left, &right).is_some()
+            public::history_leak(&left, &right, pair.reader).is_some()
         });
         println!("{mistake:?}: pair {found:?}");
         assert!(found.is_some(), "{mistake:?}");

@@ -1,6 +1,6 @@
 use reference::mistake::{Mistake, RULED_COMMANDS};
 use reference::run::{self, Outcome};
-use reference::{arrange, clean, generate};
+use reference::{arrange, clean, generate, summary};
 
 use super::cases;
 
@@ -47,6 +47,18 @@ fn every_mistake_of_the_rearranger_is_found() {
                 _ => generate::shuffled(seed).bytes,
             };
             arrange::output(&bytes, mistake) != arrange::output(&bytes, Mistake::None)
+        });
+        println!("{mistake:?}: case {found:?}");
+        assert!(found.is_some(), "{mistake:?}");
+    }
+}
+
+/// Every mistake of the summary shows in what it puts out for some case.
+#[test]
+fn every_mistake_of_the_summary_is_found() {
+    for mistake in Mistake::SUMMING {
+        let found = cases().iter().position(|case| {
+            summary::output(&case.bytes, mistake) != summary::output(&case.bytes, Mistake::None)
         });
         println!("{mistake:?}: case {found:?}");
         assert!(found.is_some(), "{mistake:?}");

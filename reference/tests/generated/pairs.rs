@@ -4,7 +4,7 @@ use reference::job::{self, Job};
 use reference::mistake::{Mistake, RULED_COMMANDS};
 use reference::print;
 use reference::public::{self, Leak};
-use reference::run;
+use reference::run::{self, Outcome};
 
 use super::{pairs, SEEDS};
 
@@ -44,20 +44,21 @@ fn the_reference_leaks_nothing() {
 #[test]
 fn pairs_are_not_idle() {
     let (mut nodes, mut values, mut lines, mut endings, mut finished) = (0, 0, 0, 0, 0);
-    let house_values = |job: &Job| job.variables.iter().map(|v| v.value).collect::<Vec<_>>();
+    let variable_values = |job: &Job| job.variables.iter().map(|v| v.value).collect::<Vec<_>>();
     for pair in pairs() {
         let left = job::decode(&pair.left.bytes).unwrap();
         let right = job::decode(&pair.right.bytes).unwrap();
         let left_run = run::outcome(&pair.left.bytes, &pair.left.limits);
         let right_run = run::outcome(&pair.right.bytes, &pair.right.limits);
         nodes += (left.nodes.len() != right.nodes.len()) as u64;
-        values += (house_values(&left) != house_values(&right)) as u64;
-        lines += (!left_run.lines.is_empty() && !right_run.lines.is_empty()) as u64;
+        values += (variable_values(&left) != variable_values(&right)) as u64;
+        let seen = |run: &Outcome| !run.lines_for(pair.reader).is_empty();
+        lines += (seen(&left_run) && seen(&right_run)) as u64;
         endings += (left_run.ending != right_run.ending) as u64;
         finished +=
             (left_run.ending == right_run.ending && left_run.ending == Ending::Finished) as u64;
     }
-    println!("of {SEEDS} pairs: other house nodes {nodes}, other house values {values}");
+    println!("of {SEEDS} pairs: other hidden nodes {nodes}, other hidden values {values}");
     println!("lines in both {lines}, other endings {endings}, both finished {finished}");
     for count in [nodes, values, lines, endings, finished] {
         assert!(count > SEEDS / 10);
@@ -98,10 +99,32 @@ fn agreement_ignores_house_parts_alone() {
     let mut other = job::decode(&pairs()[1].left.bytes).unwrap();
     let job = other.clone();
     other.variables[0].value = other.variables[0].value.wrapping_add(1);
-    assert!(public::agree(&job, &other), "variable 0 of a pair is house");
+    let reader = pairs()[1].reader;
+    assert!(
+        public::agree(&job, &other, reader),
+        "variable 0 of a pair is hidden"
+    );
     other.nodes[0].list ^= 1;
     assert!(
-        !public::agree(&job, &other),
+        !public::agree(&job, &other, reader),
         "the root's list level is public"
     );
+}
+
+/// Readers of every kind: nobody, the first party, other parties, several at once.
+#[test]
+fn readers_come_up() {
+    let count = |wanted: &dyn Fn(u8) -> bool| {
+        let readers = pairs().iter().map(|pair| pair.reader);
+        readers.filter(|&reader| wanted(reader)).count() as u64
+    };
+    let kinds: [&dyn Fn(u8) -> bool; 4] = [
+        &|reader| reader == 0,
+        &|reader| reader == 1,
+        &|reader| reader.count_ones() == 1 && reader != 1,
+        &|reader| reader.count_ones() > 1,
+    ];
+    for wanted in kinds {
+        assert!(count(wanted) > SEEDS / 50);
+    }
 }

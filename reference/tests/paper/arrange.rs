@@ -70,9 +70,6 @@ fn order_of_the_checks() {
     job.script = vec![bare(20)];
     job.nodes[2].spare = [0, 1, 0];
     assert_eq!(refusal(&job), (13, 3));
-    job.variables = vec![public_variable(0)];
-    job.variables[0].level = 2;
-    assert_eq!(refusal(&job), (4, 0));
 }
 
 /// "each node is followed at once by its whole subtree, children from left to

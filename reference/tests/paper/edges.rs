@@ -148,6 +148,6 @@ fn numbers() {
         (less(constant(4), constant(4)), 0),
     ] {
         let outcome = run(&job(&[], &wide(1), &[print(expression)]));
-        assert_eq!(outcome.lines, [expected], "{expression:?}");
+        assert_eq!(outcome.numbers(), [expected], "{expression:?}");
     }
 }

@@ -2,7 +2,9 @@
 
 use super::*;
 use reference::job::{Variable, NO_PARENT};
+use reference::mistake::Mistake;
 use reference::portal::{board, portal};
+use reference::{arrange, clean};
 
 fn bytes_of(hexadecimal: &str) -> Vec<u8> {
     let digits: Vec<char> = hexadecimal.chars().filter(|c| !c.is_whitespace()).collect();
@@ -21,11 +23,11 @@ fn the_example_in_hexadecimal() {
     let same = job(&[], &[root_node([0, 0, 0], 10)], &[print(value())]);
     assert_eq!(same.encode(), bytes);
     let written = board(&bytes);
-    assert_eq!(written.output, "board\n10\nend 1\n");
+    assert_eq!(written.output, "board\n10 0\nend 1\n");
     assert_eq!(written.error, "finished steps 1\n");
     let mut area = [0xee; 8];
     assert_eq!(portal(&bytes, 100, &mut area), 1);
-    assert_eq!(area, [10, 0, 0, 0, 0xee, 0xee, 0xee, 0xee]);
+    assert_eq!(area, [10, 0, 0, 0, 0, 0xee, 0xee, 0xee]);
 }
 
 #[test]
@@ -78,9 +80,17 @@ fn ending_4_variable_level() {
         ..Variable::default()
     };
     let with = |level: u8| job(&[variable(1), variable(level)], &trial_nodes(), &[]);
-    assert_eq!(refusal(&with(1)), ACCEPTED);
-    assert_eq!(refusal(&with(2)), (4, 1));
-    assert_eq!(refusal(&with(255)), (4, 1));
+    // "outside those two 4 is never given again"
+    for level in 0..=255 {
+        assert_eq!(refusal(&with(level)), ACCEPTED);
+    }
+    let (cleaner, rearranger) = (clean::output, arrange::output);
+    for program in [cleaner, rearranger] {
+        let error = |level: u8| program(&with(level).encode(), Mistake::None).standard_error;
+        assert_eq!(error(1), "");
+        assert_eq!(error(2), "refused 4 at 1\n");
+        assert_eq!(error(255), "refused 4 at 1\n");
+    }
 }
 
 #[test]
@@ -107,8 +117,13 @@ fn ending_6_levels_and_tree_rules() {
     assert_eq!(with(&[root_node([1, 1, 1], 0)]), (6, 0));
     for (levels, expected) in [
         ([2, 2, 2], (6, 1)),
-        ([0, 2, 0], (6, 1)),
-        ([0, 0, 2], (6, 1)),
+        // A level above 1 is a set like any other.
+        ([0, 2, 0], ACCEPTED),
+        ([0, 0, 2], ACCEPTED),
+        ([1, 3, 255], ACCEPTED),
+        ([1, 2, 1], (6, 1)),
+        ([1, 1, 2], (6, 1)),
+        ([3, 3, 3], (6, 1)),
         ([1, 0, 1], (6, 1)),
         ([1, 1, 0], (6, 1)),
         ([1, 1, 1], ACCEPTED),

@@ -9,6 +9,7 @@ mod endings;
 mod follow;
 mod moves;
 mod readings;
+mod sets;
 mod trials;
 mod writer;
 
@@ -18,7 +19,7 @@ use reference::source::*;
 use reference::tree::Row;
 use reference::Level;
 
-/// Ending's number, index, steps and lines.
+/// Ending's number, index, steps and the numbers of the lines.
 type Answer = (u32, usize, u64, Vec<i32>);
 
 fn answer(outcome: &Outcome) -> Answer {
@@ -26,7 +27,7 @@ fn answer(outcome: &Outcome) -> Answer {
         outcome.ending.number(),
         outcome.index,
         outcome.steps,
-        outcome.lines.clone(),
+        outcome.numbers(),
     )
 }
 

@@ -138,7 +138,11 @@ fn the_leak() {
     let left = case(&nodes);
     nodes.push(node(0, [1, 1, 1], 4));
     let right = case(&nodes);
-    let pair = Pair { left, right };
+    let pair = Pair {
+        reader: 0,
+        left,
+        right,
+    };
     assert!(pair.well_formed());
     assert_eq!(pair.leak(Mistake::LastJoinsExistence), Some(Leak::Lines));
     assert_eq!(pair.leak(Mistake::None), None);

@@ -6,6 +6,7 @@ use reference::job::{decode_first, NO_PARENT};
 use reference::mistake::Mistake;
 use reference::portal::{board, portal};
 use reference::public;
+use reference::PUBLIC;
 
 /// The job is turned back for a spare byte of its record 0, and by the rules
 /// before R-4 it is accepted.
@@ -48,7 +49,7 @@ fn reading_1_unread_sides_of_an_expression() {
             ..print(0)
         }],
     ));
-    assert_eq!(outcome.lines, [-1]);
+    assert_eq!(outcome.numbers(), [-1]);
     let plain = |record: Record| trial_job(1, &[record]);
     assert!(public::same_script(&plain(unread), &plain(assign(0, 5))));
     assert!(!public::same_script(
@@ -65,7 +66,8 @@ fn reading_2_commands_without_an_expression() {
         operator: 99,
         left_kind: 88,
         right_kind: 77,
-        spare: [1, 2, 3],
+        sets: [1, 2],
+        spare: 3,
         left: 9,
         right: 9,
     };
@@ -80,8 +82,8 @@ fn reading_2_commands_without_an_expression() {
         assert_eq!(refusal_of(&bytes), (12, index), "command {command}");
         assert!(decode_first(&bytes, Mistake::None).is_ok());
     }
-    // The target is not read by 2, 4, 6 and 15.
-    for record in [when(0), repeat(0), print(0), set_value(0)] {
+    // The target is not read by 2, 4 and 15; before R-12 not by 6.
+    for record in [when(0), repeat(0), set_value(0)] {
         let noted = Record {
             target: 255,
             ..record
@@ -115,8 +117,6 @@ fn reading_3_each_check_goes_over_its_whole_section() {
     assert_eq!(refusal(&all), (6, 0));
     all.nodes[1].parent = NO_PARENT;
     assert_eq!(refusal(&all), (5, 1));
-    all.variables[1].level = 2;
-    assert_eq!(refusal(&all), (4, 1));
 }
 
 #[test]
@@ -246,7 +246,7 @@ fn reading_10_if_and_while_push_e() {
         ];
         let outcome = run(&trial_job(1, &script));
         assert_eq!(
-            (outcome.ending.number(), outcome.lines),
+            (outcome.ending.number(), outcome.numbers()),
             (0, vec![10]),
             "{opening:?}"
         );
@@ -386,12 +386,12 @@ fn reading_15_the_shorter_slice_counts() {
 #[test]
 fn reading_16_the_portal() {
     let bytes = trial_job(1, &[print(-2), print(3)]).encode();
-    let mut area = [0xee; 7];
-    assert_eq!(portal(&bytes, 100, &mut area), (24 << 32) + 1);
-    assert_eq!(area, [0xfe, 0xff, 0xff, 0xff, 0xee, 0xee, 0xee]);
     let mut area = [0xee; 9];
+    assert_eq!(portal(&bytes, 100, &mut area), (24 << 32) + 1);
+    assert_eq!(area, [0xfe, 0xff, 0xff, 0xff, 0, 0xee, 0xee, 0xee, 0xee]);
+    let mut area = [0xee; 11];
     assert_eq!(portal(&bytes, 100, &mut area), 2);
-    assert_eq!(area, [0xfe, 0xff, 0xff, 0xff, 3, 0, 0, 0, 0xee]);
+    assert_eq!(area, [0xfe, 0xff, 0xff, 0xff, 0, 3, 0, 0, 0, 0, 0xee]);
     let mut area = [0xee; 8];
     assert_eq!(portal(&bytes, 1, &mut area), (25 << 32) + 1);
     let mut area = [0xee; 8];
@@ -403,7 +403,7 @@ fn reading_16_the_portal() {
 #[test]
 fn reading_17_the_board_runner() {
     let written = board(&trial_job(1, &[print(-2), print(3), up()]).encode());
-    assert_eq!(written.output, "board\n-2\n3\nend 2\n");
+    assert_eq!(written.output, "board\n-2 0\n3 0\nend 2\n");
     assert_eq!(written.error, "stopped 22 at 2 steps 2\n");
     let written = board(&trial_job(1, &[repeat(1), end()]).encode());
     assert_eq!(written.output, "board\nend 0\n");
@@ -486,18 +486,18 @@ fn agreement_does_not_depend_on_the_record_order() {
     let hidden = |parent| node(parent, [1, 1, 1], 5);
     let left = job(&[], &[root, a, hidden(1), b, node(3, [0, 0, 0], 9)], &[]);
     let right = job(&[], &[root, a, b, node(2, [0, 0, 0], 9)], &[]);
-    assert!(public::agree(&left, &right));
+    assert!(public::agree(&left, &right, PUBLIC));
     // Another value of content 0, another list level, a public node too many.
     for (index, other) in [(2, node(0, [0, 0, 0], 3)), (2, node(0, [0, 0, 1], 2))] {
         let mut changed = right.clone();
         changed.nodes[index] = other;
-        assert!(!public::agree(&left, &changed));
+        assert!(!public::agree(&left, &changed, PUBLIC));
     }
     let mut longer = right.clone();
     longer.nodes.push(node(3, [0, 0, 0], 0));
-    assert!(!public::agree(&left, &longer));
+    assert!(!public::agree(&left, &longer, PUBLIC));
     // House nodes come after their public siblings, so that places are kept.
     let mut hidden_value = right;
     hidden_value.nodes[0].content = 1;
-    assert!(!public::agree(&left, &hidden_value));
+    assert!(!public::agree(&left, &hidden_value, PUBLIC));
 }

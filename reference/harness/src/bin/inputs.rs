@@ -24,7 +24,7 @@ fn write(folder: &str, jobs: u64) {
     for seed in 0..jobs {
         let case = generate::case(seed);
         let budget = u16::try_from(case.limits.budget).unwrap_or(4_999);
-        let area = (4 * case.limits.lines.min(500) + seed as usize % 4) as u16;
+        let area = (5 * case.limits.lines.min(400) + seed as usize % 5) as u16;
         let input = [&budget.to_le_bytes()[..], &area.to_le_bytes(), &case.bytes].concat();
         if let Err(error) = fs::write(Path::new(folder).join(format!("{seed:05}")), input) {
             fail(&format!("{folder}: {error}"));
@@ -42,7 +42,7 @@ fn show(file: &str) {
     let case = Case {
         bytes: bytes.to_vec(),
         limits: Limits {
-            lines: area / 4,
+            lines: area / 5,
             ..Limits::ample(budget(u16::from_le_bytes([*b0, *b1])))
         },
     };

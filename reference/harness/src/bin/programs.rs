@@ -1,25 +1,27 @@
-//! Generated jobs through `board` and `inspect`, both streams compared with
+//! Generated jobs through `board`, `inspect` and `summary`, both streams compared with
 //! what the reference says that they print.
 //!
 //! Exit status: 0 no difference, 1 a difference, 2 bad usage.
 
 use harness::arguments::{fail, Arguments};
-use harness::programs::{board, inspect, printed, Streams};
+use harness::programs::{board, inspect, printed, summed, Streams};
 use reference::generate::{self, Case};
 use reference::{print, shrink};
 
-const USAGE: &str = "programs [--board PATH] [--inspect PATH] [--jobs N] [--seed N]";
+const USAGE: &str =
+    "programs [--board PATH] [--inspect PATH] [--summary PATH] [--jobs N] [--seed N]";
 
 /// A program's name, its path if it is to be tried, and what it must print for
 /// a job.
 type Program<'a> = (&'static str, Option<&'a str>, fn(&[u8]) -> Streams);
 
 fn main() {
-    let known = ["--board", "--inspect", "--jobs", "--seed"];
+    let known = ["--board", "--inspect", "--summary", "--jobs", "--seed"];
     let arguments = Arguments::read(USAGE, &known);
-    let all: [Program; 2] = [
+    let all: [Program; 3] = [
         ("board", arguments.text("--board"), board),
         ("inspect", arguments.text("--inspect"), inspect),
+        ("summary", arguments.text("--summary"), summed),
     ];
     let programs: Vec<Program> = all
         .into_iter()
