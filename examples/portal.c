@@ -14,7 +14,7 @@
 
 #include "portal.h"
 
-enum { BUDGET = 100000, LINES = 256 };
+enum { PUBLIC = 0, BUDGET = 100000, LINES = 256 };
 
 static int fail(const char *what) {
     fprintf(stderr, "portal: %s\n", what);
@@ -23,7 +23,7 @@ static int fail(const char *what) {
 
 int main(int argc, char **argv) {
     static uint8_t job[PORTAL_MAX_JOB + 1]; /* one byte more, so that a longer job is seen */
-    static uint8_t lines[4 * LINES];
+    static uint8_t lines[PORTAL_LINE_BYTES * LINES];
     int unfinished = argc == 3 && strcmp(argv[1], "--unfinished") == 0;
     if (argc != 2 + unfinished) {
         return fail("usage: portal [--unfinished] JOB-FILE");
@@ -44,7 +44,9 @@ int main(int argc, char **argv) {
     fprintf(stderr, "ending %d %s\n", ending, portal_ending_name(ending));
     if (ending == PORTAL_FINISHED || unfinished) {
         for (size_t i = 0; i < portal_lines(answer); i++) {
-            printf("%" PRId32 "\n", portal_line(lines, i));
+            if (portal_sees(PUBLIC, portal_readers(lines, i))) { /* the others are for their readers alone */
+                printf("%" PRId32 "\n", portal_line(lines, i));
+            }
         }
     }
     /* A board that is lost to a full disk is a failure, too. */

@@ -14,7 +14,7 @@
 
 #include "portal.h"
 
-enum { BUDGET = 100000, LINES = 256 };
+enum { PUBLIC = 0, BUDGET = 100000, LINES = 256 };
 
 /* What the portal keeps between calls; a copy of it is as good. */
 struct standing {
@@ -50,14 +50,16 @@ static int show(const char *name, uint64_t answer, const uint8_t *lines) {
     }
     printf("board of %s\n", name);
     for (size_t i = 0; i < portal_lines(answer); i++) {
-        printf("%" PRId32 "\n", portal_line(lines, i));
+        if (portal_sees(PUBLIC, portal_readers(lines, i))) { /* the others are for their readers alone */
+            printf("%" PRId32 "\n", portal_line(lines, i));
+        }
     }
     return 1;
 }
 
 int main(int argc, char **argv) {
     static uint8_t bytes[PORTAL_MAX_JOB + 1]; /* one byte more, so that a longer job is seen */
-    static uint8_t lines[4 * LINES];
+    static uint8_t lines[PORTAL_LINE_BYTES * LINES];
     static struct standing now, before;
     if (argc < 2) {
         return fail("usage: standing JOB-FILE SCRIPT-FILE..");

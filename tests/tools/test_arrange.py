@@ -103,7 +103,8 @@ class Arrange(unittest.TestCase):
                 self.assertEqual((old.variables, old.records), (new.variables, new.records))
                 rows = [[(depth, *one.nodes[index][1:]) for index, depth in job.preorder(one.nodes)] for one in (old, new)]
                 self.assertEqual(*rows)
-        self.assertEqual(kinds, {(True, True), (True, False), (False, False)})
+        # Refused by the old rules and accepted today: a job with sets of parties.
+        self.assertEqual(kinds, {(True, True), (True, False), (False, False), (False, True)})
 
 
 if __name__ == "__main__":

@@ -86,8 +86,10 @@ class Clean(unittest.TestCase):
             self.assertEqual(done.status, 0 if fault is None else 1)
             if fault is None:
                 self.assertIsNone(job.check(done.bytes, job.UNORDERED))
-                self.assertEqual(done.bytes, job.decode(data).clean().encode())
-        # Refused by the old rules and accepted today: a job with a later command.
+                old = job.decode(data)
+                clean = [record.clean(sets=False) for record in old.records]
+                self.assertEqual(done.bytes, job.Job(old.variables, old.nodes, clean).encode())
+        # Refused by the old rules and accepted today: a job with a later command, or with sets of parties.
         self.assertEqual(kinds, {(True, True), (True, False), (False, False), (False, True)})
 
 

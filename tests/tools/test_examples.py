@@ -16,6 +16,12 @@ def board(data):
     return lines, done.stderr.startswith(b"finished")
 
 
+def public_board(data):
+    """The lines that are for everyone."""
+    lines, ends = board(data)
+    return [line for line in lines if line.endswith(" 0")], ends
+
+
 def with_house(source, number):
     """The job with this number in every house variable and house value."""
     variables = [v._replace(value=number) if v.level else v for v in source.job.variables]
@@ -28,10 +34,10 @@ class Silent(unittest.TestCase):
         finished = 0
         for path in examples():
             source = job.parse(path.read_text(encoding="utf-8"), path.name)
-            lines, ends = board(source.job.encode())
+            lines, ends = public_board(source.job.encode())
             for number in (0, 1, 50, -1):
                 with self.subTest(path.name, number=number):
-                    other, other_ends = board(with_house(source, number))
+                    other, other_ends = public_board(with_house(source, number))
                     short, long = sorted((lines, other), key=len)
                     self.assertEqual(long[:len(short)], short)
                     if ends and other_ends:
@@ -80,7 +86,7 @@ class OtherTrees(unittest.TestCase):
     def boards(self, jobs, budget=1_000_000):
         for answer in replayed(jobs, budget):
             self.assertTrue(answer[0].startswith("ending 0 "), answer[0])
-            yield ([int(row[5:]) for row in answer if row.startswith("line ")],
+            yield ([int(row.split()[1]) for row in answer if row.startswith("line ")],
                    [(int(row.split()[1]), int(row.split()[5])) for row in answer if row.startswith("node ")])
 
     def test_walk(self):

@@ -39,7 +39,7 @@ class Help(unittest.TestCase):
         source = text[text.index("  variables\n"):text.index("\nSo a board of n lines")]
         for beds, lines in ((40, 40), (7, 7), (100, 100), (0, 100), (101, 100)):
             run = job.Run(job.parse(source.replace("beds house = 40", f"beds house = {beds}"), "help")).go()
-            self.assertEqual(run.board, list(range(1, lines + 1)))
+            self.assertEqual(run.board, [(number, 0) for number in range(1, lines + 1)])
 
     def test_no_verb(self):
         done = tool()

@@ -314,7 +314,7 @@ class Programs(unittest.TestCase):
         """The reasons come from following the rules. Where the monitor came to another end, the next script is followed from there."""
         left = "variable 0 6\nvariable 1 40\nnode 0 0 0 0 10\nnode 1 0 0 0 9\n"
         done = self.answered(f"{self.FIRST}script 1\nending 21 index 0 steps 0 lines 0\n{left}"
-                             f"script 2\nending 22 index 2 steps 2 lines 2\nline 6\nline 1\n{left}", SHOWS, SHOWS + "  up\n")
+                             f"script 2\nending 22 index 2 steps 2 lines 2\nline 6 0\nline 1 0\n{left}", SHOWS, SHOWS + "  up\n")
         self.assertEqual((done.status, done.error), (1, ""))
         first, second = done.output.split("script 2 of 2\n")
         self.assertIn("came to another end than the monitor", first)
@@ -362,7 +362,7 @@ class Followed(unittest.TestCase):
                 run_of = job.Run(script, job.Limits(budget, places, lines), standing).go()
                 index = run_of.at if run_of.ending else 0
                 rows = [f"ending {run_of.ending} index {index} steps {run_of.steps} lines {len(run_of.board)}"]
-                rows += [f"line {line}" for line in run_of.board]
+                rows += [f"line {number} {readers}" for number, readers in run_of.board]
                 rows += [f"variable {v.level} {value}" for v, value in zip(first.variables, run_of.values)]
                 rows += [f"node {n.depth} {n.existence} {n.content} {n.list} {n.value}" for n in job.drawn_tree(run_of.root)]
                 self.assertEqual(answer, rows)
@@ -382,7 +382,8 @@ class Followed(unittest.TestCase):
                 self.assertNotIn("another end", done.output)
                 boards = [(HOME / "examples" / "expected" / f"{path.stem}.out").read_text().split("\n")[1:-2] for path in [base] + scripts]
                 shown = [part.split("\n\n")[0].split("\n")[1:] for part in done.output.split("\nboard, ")[1:]]
-                self.assertEqual([[row.strip() for row in rows] for rows in shown], boards)
+                # The tool shows no readers where a line is for everyone.
+                self.assertEqual([[f"{row.strip()} 0" for row in rows] for rows in shown], boards)
                 found += 1
         self.assertGreaterEqual(found, 1)
 

@@ -42,16 +42,15 @@ DAMAGED = (
     (bytes(65 * 8) + hexed(ROOT) + struct.pack("<4H", 0, 520, 532, 532), 3, 0, "65 variables; it must have 0 to 64"),
     (with_nodes(*[TOP] + [(0, 0, 0, 0)] * 512), 3, 0, "513 nodes"),
     (with_script(*[b"\0"] * 1025), 3, 0, "1,025 records; it must have 0 to 1,024"),
-    (hexed(f"00000000 00000000 02000000 00000000 {ROOT} 0000 1000 1c00 1c00"), 4, 1, "variable 1, bytes 8 to 15: its level is 2"),
     (with_nodes((0, 0, 0, 0)), 5, 0, "node 0, bytes 0 to 11: it is the root, so its parent must be 65535, not 0"),
     (with_nodes(TOP, (1, 0, 0, 0)), 5, 1, "node 1, bytes 12 to 23: its parent is node 1; a parent must come before"),
     (with_nodes(TOP, TOP), 5, 1, "it has no parent"),
     (with_nodes(TOP, (0, 0, 0, 0), (0, 0, 0, 0), (1, 0, 0, 0)), 13, 3,
      "node 3, bytes 36 to 47: its parent is node 1, whose subtree has ended: the record before it is node 2, which is not below node 1"),
     (with_nodes(TOP, (0, 0, 0, 0), (1, 0, 0, 0), (1, 0, 0, 0), (2, 0, 0, 0)), 13, 4, "its parent is node 2, whose subtree has ended"),
-    (with_nodes(TOP, (0, 2, 2, 2)), 6, 1, "its existence level is 2"),
-    (with_nodes((65535, 0, 3, 0)), 6, 0, "its content level is 3"),
-    (with_nodes((65535, 0, 0, 4)), 6, 0, "its list level is 4"),
+    (with_nodes(TOP, (0, 2, 2, 2)), 6, 1, "it is a party2 node under node 0, whose list level is public"),
+    (with_nodes((65535, 0, 0, 6), (0, 2, 4, 2)), 6, 1, "it is a party2 node, so its content level must be party2+party3 too"),
+    (with_nodes((65535, 0, 0, 6), (0, 2, 2, 2), (0, 4, 4, 4)), 6, 2, "it is party3 and stands right of node 1, which is party2"),
     (with_nodes((65535, 1, 1, 1)), 6, 0, "it is the root, which must be public"),
     (with_nodes((65535, 0, 0, 1), (0, 1, 0, 1)), 6, 1, "its content level must be house too"),
     (with_nodes((65535, 0, 0, 1), (0, 1, 1, 0)), 6, 1, "its list level must be house too"),
@@ -244,7 +243,7 @@ class Checks(unittest.TestCase):
                 self.assertEqual(answer, [f"ending {fault.number} index {fault.index} steps 0 lines 0"], data.hex())
             else:
                 self.assertRegex(answer[0], r"^ending (0|2[0-9]) ", data.hex())
-        self.assertEqual(seen, {*range(1, 9), 12, 13})
+        self.assertEqual(seen, {1, 2, 3, 5, 6, 7, 8, 12, 13})
 
 
 if __name__ == "__main__":

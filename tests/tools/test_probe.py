@@ -142,7 +142,7 @@ class Options(unittest.TestCase):
         """Boards that are no beginning of one another; here by a program that prints the number of the job."""
         with scratch() as folder:
             path = Path(folder, "replay")
-            path.write_text("#!/bin/sh\ncat >/dev/null\nfor k in 0 1 2; do printf 'job %s\\nending 0 index 0 steps 1 lines 1\\nline %s\\n' "
+            path.write_text("#!/bin/sh\ncat >/dev/null\nfor k in 0 1 2; do printf 'job %s\\nending 0 index 0 steps 1 lines 1\\nline %s 0\\n' "
                             "$k $k; done\n")
             path.chmod(0o755)
             done = tool("probe", "-", "--count", "3", data=LEAK, REPLAY=str(path))

@@ -366,7 +366,7 @@ class Followed(unittest.TestCase):
             state = job.Run(source, job.Limits(budget, room, 3)).go()
             index = state.at if state.ending else 0
             rows = [f"ending {state.ending} index {index} steps {state.steps} lines {len(state.board)}"]
-            rows += [f"line {line}" for line in state.board]
+            rows += [f"line {number} {readers}" for number, readers in state.board]
             rows += [f"variable {v.level} {value}" for v, value in zip(source.job.variables, state.values)]
             rows += [f"node {n.depth} {n.existence} {n.content} {n.list} {n.value}" for n in job.drawn_tree(state.root)]
             self.assertEqual(answer, rows, data.hex())

@@ -10,8 +10,8 @@ from .commands import (
     REMOVE_FIRST_CHILD, SET, SUM, VALUE, WHILE)
 from .endings import ABSENT, FINISHED, FLOW, FULL_BOARD, FULL_TABLE, OVERFLOW, USED_UP, ending_text
 from .errors import quoted
-from .limits import ASKED_LINES, HOUSE, LEVELS, MAX_BUDGET, MAX_NODES, PROGRAM, PUBLIC
-from .listing import levels_text, record_text
+from .limits import ASKED_LINES, HOUSE, LEVELS, MAX_BUDGET, MAX_NODES, PROGRAM, PUBLIC, within
+from .listing import levels_text, line_text, record_text
 from .pictures import text_picture
 from .rules import RULES
 from .run import drawn_tree
@@ -66,7 +66,7 @@ class Account:
     def context(self):
         record = self.house_guard()
         if record is not None:
-            return Reason("context", HOUSE, f"line {self.line_of(record)} ({self.statement(record)}) has a house guard")
+            return Reason("context", self.run.context(), f"line {self.line_of(record)} ({self.statement(record)}) has a house guard")
         why = "every open guard is public" if self.run.blocks else "no block is open"
         return Reason("context", PUBLIC, why)
 
@@ -78,7 +78,7 @@ class Account:
         if not self.run.cursor_level:
             return Reason("cursor level", PUBLIC)
         raised = self.run.raised_by
-        return Reason("cursor level", HOUSE, f"since line {self.line_of(raised)} ({self.statement(raised)})")
+        return Reason("cursor level", self.run.cursor_level, f"since line {self.line_of(raised)} ({self.statement(raised)})")
 
     def operands(self):
         found = []
@@ -93,21 +93,29 @@ class Account:
 
     def of_node(self, what, part, level):
         why = f"the {part} level of {self.run.cursor.name}"
-        if level < self.run.cursor_level:
+        if not within(self.run.cursor_level, level):
             why = "the cursor level joins it"
-        return Reason(what, max(level, self.run.cursor_level), why)
+        return Reason(what, level | self.run.cursor_level, why)
 
     def own_house(self, node):
-        """The operands that would be house at a node, whatever the cursor level."""
-        found = []
+        """The operands that the statement may not take at a node, whatever the cursor level."""
+        found, allowed = [], self.allowed()
         for kind, number in self.record.operands():
-            if kind == NAMED and self.run.job.variables[number].level:
+            if kind == NAMED and not within(self.run.job.variables[number].level, allowed):
                 found.append(f"`{self.source.names.variables[number]}`")
-            elif kind == VALUE and node.content:
+            elif kind == VALUE and not within(node.content, allowed):
                 found.append("`value`")
-            elif kind == CHILDREN and node.list:
+            elif kind == CHILDREN and not within(node.list, allowed):
                 found.append("`children`")
         return " and ".join(dict.fromkeys(found))
+
+    def allowed(self):
+        """The parties whose matters the statement may take: those of its variable, its readers or its node."""
+        if self.record.command == ASSIGN:
+            return self.run.job.variables[self.record.target].level
+        if self.record.command == PRINT:
+            return self.record.target
+        return self.run.cursor.content if self.record.command == SET else PUBLIC
 
     # What can be done about levels.
 
@@ -173,14 +181,18 @@ class Account:
         what = {ASSIGN: "the assignment", PRINT: "the print", SET: "the set"}[command]
         if command == ASSIGN:
             name = self.source.names.variables[self.record.target]
-            operands = [Reason(name, PUBLIC, "the variable that should take the number")] + [
+            operands = [Reason(name, self.allowed(), "the variable that should take the number")] + [
                 reason for reason in operands if reason.what != name]
             self.advice.append(f"Declare a house variable{self.declared()} and use it in place of `{name}`. What depends on house "
                                "numbers can then be worked on, but not printed.")
         elif command == SET:
             node = self.run.cursor
-            operands.insert(0, Reason(f"content of {node.name}", PUBLIC, "the node that should take the value"))
+            operands.insert(0, Reason(f"content of {node.name}", node.content, "the node that should take the value"))
             self.advice.append(self.raise_part(node, "content"))
+        elif self.record.target or len(LEVELS.names) > 1:
+            operands.insert(0, Reason("readers", self.record.target, "whom the line is for"))
+            level = self.run.evaluate(self.record)[1] | self.run.context() | self.record.target
+            self.advice.append(f"Print it for those whose matters it carries: `{record_text(self.record._replace(target=level), self.source.names.variables)}`.")
         # A variable and a board line stand at no node: for them the cursor level counts through the expression alone.
         read = [f"`{word}`" for word, kind in (("value", VALUE), ("children", CHILDREN)) if self.reads(kind)]
         placed = command == SET or read
@@ -345,7 +357,13 @@ def ended_lines(run, outcome):
     else:
         lines = stop_lines(run.source, outcome, run if agrees(run, outcome) else None)
     lines += ["", f"board, {plural(len(outcome.lines), 'line')}"]
-    return lines + [f"  {line}" for line in outcome.lines]
+    return lines + [f"  {line_text(line)}" for line in outcome.lines]
+
+
+def seen_lines(path, lines, reader):
+    """The lines that a reader sees, and nothing else: what the house hands them."""
+    seen = [line for line in lines if within(line[1], reader)]
+    return [f"{path}: what {LEVELS[reader]} sees, {plural(len(seen), 'line')}"] + [f"  {line_text(line)}" for line in seen]
 
 
 def left_tree(run, outcome):

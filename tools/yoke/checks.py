@@ -5,7 +5,7 @@ from typing import NamedTuple
 from .commands import CHILDREN, COMMANDS, ELSE, END, MEAN, NAMED
 from .encoding import NODE, RECORD, TRAILER, VARIABLE, decode, decode_script
 from .endings import ending_text
-from .limits import MAX_BUDGET, MAX_BYTES, MAX_DEPTH, MAX_NODES, MAX_RECORDS, MAX_VARIABLES, NO_PARENT
+from .limits import LEVELS, MAX_BUDGET, MAX_BYTES, MAX_DEPTH, MAX_NODES, MAX_RECORDS, MAX_VARIABLES, NO_PARENT, within
 
 
 class Fault(NamedTuple):
@@ -20,16 +20,18 @@ class Fault(NamedTuple):
 
 
 class Edition(NamedTuple):
-    """Which rules a program checks by: how many commands there are, whether spare bytes are zero, and whether nodes are listed the way they hang."""
+    """Which rules a program checks by: how many commands there are, whether spare bytes are zero, whether nodes are listed the way they hang,
+    and whether a level is any set of parties."""
 
     commands: int
     spare: bool
     order: bool
+    sets: bool
 
 
-TODAY = Edition(len(COMMANDS), True, True)
-STORED = Edition(17, False, False)  # the cleaner's, whatever lands later
-UNORDERED = Edition(20, True, False)  # the rearranger's
+TODAY = Edition(len(COMMANDS), True, True, True)
+STORED = Edition(17, False, False, False)  # the cleaner's, whatever lands later
+UNORDERED = Edition(20, True, False, False)  # the rearranger's
 
 
 def plural(count, noun):
@@ -47,21 +49,21 @@ def check(data, edition=TODAY):
     _, nodes, script, _ = TRAILER.unpack(data[-8:])
     job = decode(data)
     return first_fault((
-        (4, "variable", 0, VARIABLE.size, variable_faults(job)),
+        *([] if edition.sets else [(4, "variable", 0, VARIABLE.size, variable_faults(job))]),
         (5, "node", nodes, NODE.size, parent_faults(job)),
         *([(13, "node", nodes, NODE.size, order_faults(job))] if edition.order else ()),
-        (6, "node", nodes, NODE.size, tree_faults(job)),
+        (6, "node", nodes, NODE.size, tree_faults(job, edition.sets)),
         (7, "record", script, RECORD.size, field_faults(job.records, len(job.variables), edition.commands)),
-        *(spare_searches(data, job) if edition.spare else ()),
+        *(spare_searches(data, job, edition.sets) if edition.spare else ()),
         (8, "record", script, RECORD.size, block_faults(job.records)),
     ), len(data))
 
 
-def spare_searches(data, job):
+def spare_searches(data, job, sets):
     """Check 12, section by section."""
     _, nodes, script, _ = TRAILER.unpack(data[-8:])
     sections = (("variable", 0, VARIABLE, job.variables), ("node", nodes, NODE, job.nodes), ("record", script, RECORD, job.records))
-    return [(12, section, start, form.size, spare_faults(section, data[start:], form, parts)) for section, start, form, parts in sections]
+    return [(12, section, start, form.size, spare_faults(section, data[start:], form, parts, sets)) for section, start, form, parts in sections]
 
 
 def check_section(data, variables):
@@ -142,22 +144,26 @@ def order_faults(job):
         path.append(index)
 
 
-def tree_faults(job):
+def tree_faults(job, sets=True):
     last = {}  # the last child so far, by parent
     for index, node in enumerate(job.nodes):
-        text = level_fault(node) or (place_fault(node, job, last) if index else root_fault(node))
+        text = ("" if sets else number_fault(node)) or level_fault(node) or (place_fault(node, job, last) if index else root_fault(node))
         last[node.parent] = index
         if text:
             yield index, text
 
 
-def level_fault(node):
+def number_fault(node):
     for name, level in (("existence", node.existence), ("content", node.content), ("list", node.list)):
         if level > 1:
             return f"its {name} level is {level}; it must be 0 (public) or 1 (house)"
+    return ""
+
+
+def level_fault(node):
     for name, level in (("content", node.content), ("list", node.list)):
-        if level < node.existence:
-            return f"it is a house node, so its {name} level must be house too"
+        if not within(node.existence, level):
+            return f"it is a {LEVELS[node.existence]} node, so its {name} level must be {LEVELS[node.existence | level]} too"
     return ""
 
 
@@ -167,13 +173,14 @@ def root_fault(node):
 
 def place_fault(node, job, last):
     parent = job.nodes[node.parent]
-    if node.existence < parent.existence:
-        return f"it is public under node {node.parent}, which is house"
-    if node.existence > parent.list:
-        return f"it is a house node under node {node.parent}, whose list level is public"
+    own = LEVELS[node.existence]
+    if not within(parent.existence, node.existence):
+        return f"it is {own} under node {node.parent}, which is {LEVELS[parent.existence]}"
+    if not within(node.existence, parent.list):
+        return f"it is a {own} node under node {node.parent}, whose list level is {LEVELS[parent.list]}"
     left = last.get(node.parent)
-    if left is not None and node.existence < job.nodes[left].existence:
-        return f"it is public and stands right of node {left}, which is house"
+    if left is not None and not within(job.nodes[left].existence, node.existence):
+        return f"it is {own} and stands right of node {left}, which is {LEVELS[job.nodes[left].existence]}"
     return ""
 
 
@@ -213,9 +220,9 @@ def byte_name(section, byte):
     return f"{byte}, of the {FIELDS[byte]}," if section == "record" and byte in FIELDS else str(byte)
 
 
-def spare_faults(section, data, form, parts):
+def spare_faults(section, data, form, parts, sets=True):
     for index, part in enumerate(parts):
-        clean = form.pack(*(part.clean() if section == "record" else part))
+        clean = form.pack(*(part.clean(sets) if section == "record" else part))
         for byte, (old, new) in enumerate(zip(data[index * form.size:], clean)):
             if old != new:
                 yield index, f"its byte {byte_name(section, byte)} is {old}; nobody reads it there, so it must be 0"

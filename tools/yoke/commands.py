@@ -6,10 +6,15 @@ class Row(NamedTuple):
     """A command's words in the source, and the fields that it reads."""
 
     words: str
-    target: str = ""  # "variable" or "mark" where the target is read
+    target: str = ""  # "variable", "mark" or "readers" where the target is read
     expression: bool = False
     opens: str = ""  # "if" or "while" where it opens a block
     behind: str = ""  # its words behind the expression
+    sets: int = 0  # how many of the bytes 5 and 6 are read, as sets of parties
+
+    def before_sets(self):
+        """The row of the editions before levels were sets."""
+        return self._replace(sets=0, target="" if self.target == "readers" else self.target)
 
 
 COMMANDS = (
@@ -19,17 +24,17 @@ COMMANDS = (
     Row("else"),
     Row("while", "", True, "while"),
     Row("end"),
-    Row("print", "", True),
+    Row("print", "readers", True),
     Row("root"),
     Row("up"),
     Row("first child"),
     Row("right sibling"),
-    Row("new first child", "mark", True),
-    Row("new right sibling", "mark", True),
+    Row("new first child", "mark", True, sets=2),
+    Row("new right sibling", "mark", True, sets=2),
     Row("remove first child"),
     Row("remove right sibling"),
     Row("set", "", True),
-    Row("cover"),
+    Row("cover", sets=1),
     Row("if", "", True, "if", "and come back"),
     Row("left sibling"),
     Row("last child"),

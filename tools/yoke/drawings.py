@@ -3,6 +3,7 @@
 from html import escape
 from typing import NamedTuple
 
+from .limits import LEVELS
 from .pictures import Picture, children_of, house_parts, parents_of
 
 MOST = 2_400  # pixels; a tree that would be wider or higher becomes an outline
@@ -53,7 +54,7 @@ def name_text(node):
 
 
 def value_text(node):
-    return f"house: {node.value}" if node.content and not node.existence else str(node.value)
+    return f"{LEVELS[node.content]}: {node.value}" if node.content != node.existence else str(node.value)
 
 
 def box_width(node):
@@ -61,8 +62,14 @@ def box_width(node):
 
 
 def has_tab(node):
-    """Whether a tab at the box says that the list is house; in a house node everything is."""
-    return bool(node.list and not node.existence)
+    """Whether a tab at the box says whose the list is: where that is not said of the node."""
+    return node.list != node.existence
+
+
+def tag(level, what):
+    """Whose a node or a list is, in few letters."""
+    text = LEVELS[level]
+    return f"{text if len(text) <= 6 else text[:5] + '…'} {what}"
 
 
 def svg_text(x, y, text, kind=""):
@@ -103,13 +110,13 @@ def svg_node(node, x, y):
     shapes = []
     if has_tab(node):
         shapes.append(svg_rect(x - 34, y + BOX_HEIGHT, 68, TAB_HEIGHT, "house dashed"))
-        shapes += svg_label(x, y + BOX_HEIGHT + 12, "house list", "tag")
+        shapes += svg_label(x, y + BOX_HEIGHT + 12, tag(node.list, "list"), "tag")
     if node.existence:
         shapes.append(svg_rect(left, y, width, BOX_HEIGHT, "house dashed", 4))
-        shapes += svg_label(x, y - 4, "house node", "tag")
+        shapes += svg_label(x, y - 4, tag(node.existence, "node"), "tag")
     else:
         shapes.append(svg_rect(left, y, width, BOX_HEIGHT, "box", 4))
-    if node.content and not node.existence:
+    if node.content != node.existence:
         shapes.append(svg_rect(left, y + half, width, half, "house dashed"))
     shapes += svg_label(x, y + 16, name_text(node), "name")
     shapes += svg_label(x, y + half + 16, value_text(node))
@@ -182,13 +189,13 @@ def svg_bar(node, x, y):
     """Name and value beside each other in a box; what is house is hatched and says so."""
     name, value = 16 + LETTER * len(name_text(node)), 16 + LETTER * len(value_text(node))
     shapes = [svg_rect(x, y, name + value, BAR, "house dashed" if node.existence else "box", 3)]
-    if node.content and not node.existence:
+    if node.content != node.existence:
         shapes.append(svg_rect(x + name, y, value, BAR, "house dashed"))
     shapes += svg_label(x + name / 2, y + 15, name_text(node), "name")
     shapes += svg_label(x + name + value / 2, y + 15, value_text(node))
     if node.existence or has_tab(node):
         shapes.append(svg_rect(x + name + value, y + 2, 72, BAR - 4, "house dashed"))
-        shapes += svg_label(x + name + value + 36, y + 14, "house node" if node.existence else "house list", "tag")
+        shapes += svg_label(x + name + value + 36, y + 14, tag(node.existence, "node") if node.existence else tag(node.list, "list"), "tag")
     return shapes
 
 

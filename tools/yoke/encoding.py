@@ -7,7 +7,7 @@ from .commands import ALONE, COMMANDS, CONSTANT, NAMED
 
 VARIABLE = struct.Struct("<B3xi")
 NODE = struct.Struct("<HBBB3xi")
-RECORD = struct.Struct("<BBBBB3xII")
+RECORD = struct.Struct("<BBBBBBBxII")
 TRAILER = struct.Struct("<HHHH")
 
 
@@ -30,6 +30,8 @@ class Record(NamedTuple):
     operator: int = 0
     left_kind: int = 0
     right_kind: int = 0
+    content_set: int = 0  # of a new node; of a cover, its set
+    list_set: int = 0
     left: int = 0
     right: int = 0
 
@@ -40,11 +42,12 @@ class Record(NamedTuple):
         left = [(self.left_kind, self.left)]
         return left if self.operator == ALONE else left + [(self.right_kind, self.right)]
 
-    def clean(self):
-        """The same record with zero in every field that is not read."""
-        row = COMMANDS[self.command]
+    def clean(self, sets=True):
+        """The same record with zero in every field that is not read, today or before levels were sets."""
+        row = COMMANDS[self.command] if sets else COMMANDS[self.command].before_sets()
+        own = {"content_set": self.content_set if row.sets > 0 else 0, "list_set": self.list_set if row.sets > 1 else 0}
         if not row.expression:
-            return Record(self.command)
+            return Record(self.command, **own)
 
         def number(kind, stored):
             return stored if kind in (CONSTANT, NAMED) else 0
@@ -56,8 +59,9 @@ class Record(NamedTuple):
             self.operator,
             self.left_kind,
             0 if alone else self.right_kind,
-            number(self.left_kind, self.left),
-            0 if alone else number(self.right_kind, self.right),
+            left=number(self.left_kind, self.left),
+            right=0 if alone else number(self.right_kind, self.right),
+            **own,
         )
 
 

@@ -9,7 +9,7 @@ from .encoding import decode, decode_script, encode_script
 from .endings import ending_text
 from .errors import JobError, RefusedError, Text, quoted, visible
 from .language import parse, parse_script_text, parse_text, parse_tree_text, unknown_tree
-from .limits import PROGRAM
+from .limits import LEVELS, MAX_PARTIES, PROGRAM
 from .listing import listing, script_lines
 from .streams import warn
 from .words import decoded
@@ -143,7 +143,12 @@ def source_of_section(data, path, over):
     fault = check_section(data, len(over.job.variables))
     if fault:
         raise RefusedError(shown(path), fault)
-    return parse_script_text(Text(f"list of {shown(path)}", script_lines(decode_script(data), over.names.variables)), over)
+    known = LEVELS.names
+    LEVELS.use([LEVELS.party(index) for index in range(MAX_PARTIES)])  # its sets may have parties that the tree's source does not name
+    try:
+        return parse_script_text(Text(f"list of {shown(path)}", script_lines(decode_script(data), over.names.variables)), over)
+    finally:
+        LEVELS.use(known)
 
 
 def warn_of(source, fault, what="job"):

@@ -4,7 +4,7 @@ from typing import NamedTuple
 
 from .encoding import Job, Node, Variable
 from .errors import JobError, SourceError, Text, word
-from .limits import MAX_VARIABLES, NO_PARENT, PUBLIC
+from .limits import LEVELS, MAX_PARTIES, MAX_VARIABLES, NO_PARENT, PUBLIC, UNNAMED
 from .script import Script
 from .words import Token, Words, scan
 
@@ -46,7 +46,8 @@ def parse(text, path, tree=None):
 
 def parse_text(text, tree=None):
     """A source as a job with names. Where the tree comes from another source, so do the first variables."""
-    sections = split_sections(scan(text))
+    lines = scan(text)
+    sections = split_sections(lines[take_parties(lines, tree):])
     declared = Declared(tree)
     for line in flat(sections["variables"].lines):
         declared.add(line)
@@ -63,15 +64,41 @@ def parse_text(text, tree=None):
     return Source(text.path, job, names)
 
 
+def take_parties(lines, tree=None):
+    """How many lines name the parties: the first or none. Without such a line there is one party, house; a tree brings those of its source."""
+    words = Words(lines[0]) if lines else None
+    heading = words.take("parties") if words else None
+    if heading is None:
+        if tree is None:
+            LEVELS.use(UNNAMED[:1])
+        return 0
+    if tree is not None:
+        raise SourceError(heading.place, f"the parties are those of {tree.path}, so there are none here")
+    names = []
+    while not names or words.take(","):
+        token = words.name("a party's name")
+        if token.text in LEVEL_WORDS and token.text != UNNAMED[0] or token.text in names:
+            said = "is named twice" if token.text in names else "is a word of the language and cannot name a party"
+            raise SourceError(token.place, f"'{word(token.text)}' {said}")
+        names.append(token.text)
+    words.finish()
+    if len(names) > MAX_PARTIES:
+        raise SourceError(lines[0].place(), f"there are {len(names)} parties; there may be {MAX_PARTIES}")
+    LEVELS.use(names)
+    return 1
+
+
 def parse_tree_text(text):
     """A source that has variables and a tree, and no script."""
-    refuse_section(split_sections(scan(text))["script"], "a tree in a file of its own has no script")
+    lines = scan(text)
+    refuse_section(split_sections(lines[take_parties(lines):])["script"], "a tree in a file of its own has no script")
     return parse_text(text)
 
 
 def parse_script_text(text, over):
     """A follow-on script: a script section alone, over the variables and the tree of another source."""
-    sections = split_sections(scan(text))
+    lines = scan(text)
+    sections = split_sections(lines[take_parties(lines, over):])
     for name in ("variables", "tree"):
         refuse_section(sections[name], f"a follow-on script has no {name} of its own: it runs over those that stand")
     if sections["script"].heading is None:
@@ -83,6 +110,7 @@ def parse_script_text(text, over):
 
 def unknown_tree():
     """What a follow-on script runs over where it is not said: as many variables as there may be, with the names that `list` gives."""
+    LEVELS.use(UNNAMED)
     names = [f"v{index}" for index in range(MAX_VARIABLES)]
     return Source(f"a job that is not named: v0 to v{MAX_VARIABLES - 1} (--tree TREE names one)",
                   Job([Variable(PUBLIC, 0)] * MAX_VARIABLES, [], []), Names(names, [], [], [], []))

@@ -1,4 +1,4 @@
-"""The numbers of paper 01, the two levels, and where the repository stands."""
+"""The numbers of paper 01, the levels, and where the repository stands."""
 
 from pathlib import Path
 from typing import NamedTuple
@@ -22,8 +22,38 @@ ASKED_BUDGET = 2**32 - 1
 ASKED_PLACES = MAX_NODES + 1
 ASKED_LINES = 1_024
 
-LEVELS = ("public", "house")
 PUBLIC, HOUSE = 0, 1
+MAX_PARTIES = 8
+# What parties are called where no source names them.
+UNNAMED = ("house",) + tuple(f"party{number}" for number in range(2, MAX_PARTIES + 1))
+
+
+def within(level, other):
+    """Whether every party of a level is one of the other: "not above" in the rules."""
+    return level & ~other == 0
+
+
+class Levels:
+    """Sets of parties in words, by the names of the source that is worked on."""
+
+    def __init__(self):
+        self.names = UNNAMED[:1]
+
+    def use(self, names):
+        self.names = tuple(names)
+
+    def party(self, index):
+        return self.names[index] if index < len(self.names) else UNNAMED[index]
+
+    def parties(self, level):
+        """The names of the parties of a set, the first party first."""
+        return [self.party(index) for index in range(MAX_PARTIES) if level >> index & 1]
+
+    def __getitem__(self, level):
+        return "+".join(self.parties(level)) or "public"
+
+
+LEVELS = Levels()
 
 
 class Limits(NamedTuple):

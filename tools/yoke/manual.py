@@ -23,6 +23,8 @@ a source:
 statements:
   NAME := EXPRESSION            give a variable a number
   print EXPRESSION              put a line on the public board
+  print EXPRESSION for PARTIES  put a line on the board of these parties: who
+                                is not among them may be shown nothing of it
   set EXPRESSION                give the node under the cursor a value
   if EXPRESSION, else           the lines below, further in; 0 means no
   if EXPRESSION and come back   the same; at the block's end the cursor is
@@ -33,14 +35,22 @@ statements:
                                 move the cursor, which starts at the root
   new first child: EXPRESSION   also: new right sibling; before the colon
                                 `content house`, `list house` or both, in
-                                this order, to keep more from the public
+                                this order, to keep more from the public;
+                                other parties as well, as `list alpina`
   remove first child            with all below it; also: remove right sibling
-  cover                         make the cursor's place a house matter
+  cover                         make the cursor's place a house matter;
+                                `cover alpina`: a matter of these parties
   nothing
 
 expressions, with one operator at most:
   a number, a variable, value (of the node), children (how many it has)
   A + B, A - B, A = B, A < B, mean(A, B)
+
+parties, where there is more than the house:
+  parties house, alpina, buses  # the first line; at most eight, house first
+  variables
+    beds alpina = 40            # only alpina may see what depends on it
+    seats alpina+buses = 9      # alpina and buses together
 
 What the board says is public. Where it ends may depend on house numbers, too:
 show a board only where the run has finished (tools/job probe --help).
@@ -99,8 +109,9 @@ written. The program for this is arrange, in target/bin or $ARRANGE.
   tools/job arrange stored.job arranged.job
 """,
     "picture": """\
-Draws the tree of a source or a job: in characters, or as SVG. House parts are
-hatched and labelled in the SVG, and named in brackets in the text. The text
+Draws the tree of a source or a job: in characters, or as SVG. Parts that are
+not public are hatched and labelled with their parties in the SVG, and named in
+brackets in the text. The text
 leaves out the middle of a long run of siblings, and of a long chain of only
 children; --all shows them. A large tree becomes an outline in the SVG.
 
@@ -142,6 +153,11 @@ is called new2_4. The program for this is history, in target/bin or $HISTORY.
 a script, after a stop, too; the program for this is history. The file has all
 house numbers. `list` shows it, `run` goes on with it: the job runs nothing, and
 scripts behind it find what stood.
+
+  tools/job run examples/hotels.yoke --reader alpina
+
+With --reader it shows only the lines that these parties see: those whose
+readers are all among them. That is what the house hands to alpina.
 
 It shows house numbers: it is for whoever owns them. The public sees the board.
 """,

@@ -18,7 +18,7 @@ JOB, SCRIPT, WRITE = 0, 1, 4  # kinds of events
 
 
 class Outcome(NamedTuple):
-    """A program's answer; variables are pairs of level and value, tree rows are Picture with no name."""
+    """A program's answer; lines are pairs of number and readers, variables are pairs of level and value, tree rows are Picture with no name."""
 
     ending: int
     record: int
@@ -68,6 +68,12 @@ def inspect(data):
         raise misread("inspect", problem, child.returncode, text + error.decode("utf-8", "replace")) from None
 
 
+def line_of(parts):
+    """A board line: its number, and the set of its readers."""
+    value, readers = parts
+    return int(value), int(readers)
+
+
 def read_outcome(text):
     """inspect's standard output; ValueError where it is not of its form."""
     rows = text.split("\n")
@@ -82,7 +88,7 @@ def read_outcome(text):
     if rows[2:] == [""]:
         return Outcome(ending, record, 0, [], [], [])
     steps, count = field(2, "steps"), field(3, "lines")
-    lines = [int(row) for row in rows[4:4 + count]]
+    lines = [line_of(row.split()) for row in rows[4:4 + count]]
     at = 4 + count
     count = field(at, "variables")
     variables = []
@@ -253,7 +259,7 @@ class Answers:
             raise ValueError(f"{head} {self.count} expected, there is {head} {number}")
         self.count += 1
         ending, record, steps, count = self.numbers("ending", "index", "steps", "lines")
-        lines = [value for (value,) in self.several("line")]
+        lines = [line_of(line) for line in self.several("line")]
         if len(lines) != count:
             raise ValueError(f"{count} lines expected, there are {len(lines)}")
         if brief:

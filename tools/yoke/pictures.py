@@ -2,6 +2,7 @@
 
 from typing import NamedTuple
 
+from .limits import LEVELS
 from .listing import preorder
 
 
@@ -21,11 +22,13 @@ def pictured(source):
 
 
 def house_parts(node):
-    """The house parts of a node, in words."""
-    if node.existence:
-        return "house"
-    parts = (["value"] if node.content else []) + (["list"] if node.list else [])
-    return "house " + " and ".join(parts) if parts else ""
+    """The parts of a node that are not public, in words."""
+    own = node.existence
+    parts = [(level, part) for level, part in ((node.content, "value"), (node.list, "list")) if level != own]
+    if len(parts) == 2 and node.content == node.list:
+        parts = [(node.content, "value and list")]
+    said = " and ".join(f"{LEVELS[level]} {part}" for level, part in parts)
+    return ", ".join(([LEVELS[own]] if own else []) + ([said] if said else []))
 
 
 def parents_of(nodes):

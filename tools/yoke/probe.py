@@ -12,7 +12,7 @@ from .commands import CONSTANT
 from .encoding import Job, Node, signed
 from .endings import FINISHED, ending_text
 from .errors import JobError, quoted
-from .limits import HOUSE, NO_PARENT, PROGRAM
+from .limits import NO_PARENT, PROGRAM
 from .listing import levels_text
 from .monitor import frame, replay
 
@@ -84,7 +84,9 @@ class Variations:
             public = sum(not nodes[child].existence for child in below[parent])
             below[parent].insert(dice.randint(public, len(below[parent])), len(nodes))
             parents.append(len(nodes))
-            nodes.append(Node(parent, HOUSE, HOUSE, HOUSE, self.thrown(dice)))
+            left = below[parent][below[parent].index(len(nodes)) + 1:]  # those to its right
+            own = nodes[left[0]].existence if left else nodes[parent].list
+            nodes.append(Node(parent, own, own, own, self.thrown(dice)))
             below.append([])
         return in_preorder(nodes, below)
 
@@ -93,7 +95,7 @@ class Variations:
         job = self[number]
         found = [f"{name}{levels_text(v.level, v.level, v.level)} = {v.value}"
                  for name, v, own in zip(names.variables, job.variables, self.job.variables) if v != own]
-        house = [sum(node.existence for node in nodes) for nodes in (job.nodes, self.job.nodes)]
+        house = [sum(bool(node.existence) for node in nodes) for nodes in (job.nodes, self.job.nodes)]
         if job.nodes != self.job.nodes and len(job.nodes) == len(self.job.nodes):
             found += [f"{name} = {node.value}" for name, node, own in zip(names.nodes, job.nodes, self.job.nodes) if node != own]
         elif job.nodes != self.job.nodes:
@@ -125,7 +127,8 @@ def boards(variations, count, limits, progress):
     frames = (frame(variations[number].encode(), limits) for number in range(count))
     total = 0
     for number, outcome in enumerate(replay(frames, brief=True)):
-        board = found.setdefault(tuple(outcome.lines), Board(tuple(outcome.lines), number, Counter()))
+        lines = tuple(value for value, readers in outcome.lines if not readers)  # what everyone sees
+        board = found.setdefault(lines, Board(lines, number, Counter()))
         board.endings[outcome.ending, outcome.record] += 1
         total = number + 1
         progress(total)

@@ -5,9 +5,9 @@ from .commands import ASSIGN, INSERTIONS, MOVES, PRINT, REMOVALS, SET
 CURSOR = "The cursor level counts only where the expression reads `value` or `children`."
 
 RULES = {
-    ASSIGN: f"A variable takes a number only if its level is as high as the expression and the context. {CURSOR}",
-    PRINT: f"A board line must be public: the expression and the context. {CURSOR}",
-    SET: "A node takes a value only if its content level is as high as everything that went into it: the expression, the context and "
+    ASSIGN: f"A variable takes a number only if its level has every party of the expression and the context. {CURSOR}",
+    PRINT: f"A board line must be public, or for every party of the expression and the context (`print .. for ..`). {CURSOR}",
+    SET: "A node takes a value only if its content level has every party of what went into it: the expression, the context and "
          "the cursor level.",
     **dict.fromkeys(MOVES, "The cursor moves only if the context is not above the cursor level: where the cursor stands must not "
                            "tell the public how a house guard came out."),

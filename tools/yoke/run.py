@@ -1,5 +1,7 @@
 """A run, followed by the paper's rules beside the monitor."""
 
+import functools
+import operator
 from typing import NamedTuple
 
 from .commands import (
@@ -7,7 +9,7 @@ from .commands import (
     IF_BACK, LAST_CHILD, LEFT_SIBLING, MOVES, NAMED, NEW_FIRST_CHILD, PRINT, REMOVALS, REMOVE_FIRST_CHILD, ROOT, SET, SUM, UP, VALUE, WHILE)
 from .encoding import Node, signed
 from .endings import ABSENT, FINISHED, FLOW, FULL_BOARD, FULL_TABLE, OVERFLOW, USED_UP
-from .limits import HOUSE, PUBLIC, Limits
+from .limits import HOUSE, PUBLIC, Limits, within
 from .pictures import Picture, parents_of
 
 
@@ -148,11 +150,11 @@ class Run:
         return partner
 
     def context(self):
-        return max((level for level, _ in self.blocks), default=PUBLIC)
+        return functools.reduce(operator.or_, (level for level, _ in self.blocks), PUBLIC)
 
     def position(self):
         """C of the paper."""
-        return max(self.context(), self.cursor_level)
+        return self.context() | self.cursor_level
 
     def operand(self, kind, number):
         """Value and level of an operand."""
@@ -161,14 +163,14 @@ class Run:
         if kind == NAMED:
             return self.values[number], self.job.variables[number].level
         if kind == VALUE:
-            return self.cursor.value, max(self.cursor_level, self.cursor.content)
-        return len(self.cursor.children), max(self.cursor_level, self.cursor.list)
+            return self.cursor.value, self.cursor_level | self.cursor.content
+        return len(self.cursor.children), self.cursor_level | self.cursor.list
 
     def evaluate(self, record):
         """An expression's exact result, and its level E."""
         sides = [self.operand(kind, number) for kind, number in record.operands()]
         value = OPERATIONS[record.operator](sides[0][0], sides[-1][0])
-        return value, max(level for _, level in sides)
+        return value, sides[0][1] | sides[-1][1]
 
     def go(self):
         """Steps until the run has ended."""
@@ -202,7 +204,7 @@ class Run:
 
     def flow(self, level):
         """L of the paper, for an expression of this level."""
-        return max(level, self.position())
+        return level | self.position()
 
     def step(self, record):
         """Carries out a record and gives the next one's index."""
@@ -221,7 +223,7 @@ class Run:
         if COMMANDS[command].expression:
             self.store(record)
         elif command in MOVES:
-            self.move(command)
+            self.move(record)
         elif command in REMOVALS:
             self.remove(command)
         return self.at + 1
@@ -229,8 +231,8 @@ class Run:
     def open_block(self, level, comes_back):
         self.blocks.append((level, self.at))
         self.remembered.append(Remembered(self.cursor, self.cursor_level, self.raised_by) if comes_back else None)
-        if comes_back and self.context() > self.cursor_level:
-            self.cursor_level, self.raised_by = self.context(), self.at
+        if comes_back and not within(self.context(), self.cursor_level):
+            self.cursor_level, self.raised_by = self.context() | self.cursor_level, self.at
 
     def close_block(self):
         remembered = self.remembered[-1]
@@ -250,16 +252,16 @@ class Run:
     def store(self, record):
         value, level = self.evaluate(record)
         if record.command == ASSIGN:
-            self.rule(max(level, self.context()) <= self.job.variables[record.target].level)
+            self.rule(within(level | self.context(), self.job.variables[record.target].level))
             self.values[record.target] = self.fits(value)
         elif record.command == PRINT:
-            self.rule(max(level, self.context()) == PUBLIC)
+            self.rule(within(level | self.context(), record.target))
             self.fits(value)
             if len(self.board) == self.limits.lines:
                 raise Stopped(FULL_BOARD)
-            self.board.append(value)
+            self.board.append((value, record.target))
         elif record.command == SET:
-            self.rule(self.flow(level) <= self.cursor.content)
+            self.rule(within(self.flow(level), self.cursor.content))
             self.cursor.value = self.fits(value)
         else:
             self.insert(record, value, self.flow(level))
@@ -272,12 +274,12 @@ class Run:
         at = 0 if first else self.cursor.place() + 1
         neighbour = parent.children[at] if at < len(parent.children) else None
         here = self.position()
-        self.rule(here <= parent.list and (neighbour is None or here <= neighbour.existence))
+        self.rule(within(here, parent.list) and (neighbour is None or within(here, neighbour.existence)))
         self.fits(value)
         if self.live == self.limits.places:
             raise Stopped(FULL_TABLE)
-        content = HOUSE if record.target & MARK_CONTENT else level
-        below = HOUSE if record.target & MARK_LIST else here
+        content = level | record.content_set | (HOUSE if record.target & MARK_CONTENT else PUBLIC)
+        below = here | record.list_set | (HOUSE if record.target & MARK_LIST else PUBLIC)
         made = self.source.names.record_places[self.at]
         parent.children.insert(at, Tree(f"{self.new}_{made.line}", parent, here, content, below, value, made))
         self.live += 1
@@ -298,22 +300,23 @@ class Run:
             return self.cursor.left()
         return self.cursor.right()
 
-    def move(self, command):
+    def move(self, record):
+        command = record.command
         node = self.target(command)
         if node is None:
             raise Stopped(ABSENT)
         context = self.context()
-        self.rule(context <= self.cursor_level)
+        self.rule(within(context, self.cursor_level))
         before = self.cursor_level
         if command == ROOT:
             self.cursor_level = context
         elif command == COVER:
-            self.cursor_level = HOUSE
+            self.cursor_level = before | (record.content_set or HOUSE)
         elif command == LAST_CHILD:
-            self.cursor_level = max(before, self.cursor.list)
+            self.cursor_level = before | self.cursor.list
         else:
-            self.cursor_level = max(before, node.existence)
-        if not before and self.cursor_level:
+            self.cursor_level = before | node.existence
+        if not within(self.cursor_level, before):
             self.raised_by = self.at
         self.cursor = node
 
@@ -321,6 +324,6 @@ class Run:
         node = self.target(command)
         if node is None:
             raise Stopped(ABSENT)
-        self.rule(self.position() <= node.existence)
+        self.rule(within(self.position(), node.existence))
         node.parent.children.remove(node)
         self.live -= len(drawn_tree(node))

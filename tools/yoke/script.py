@@ -6,7 +6,8 @@ from .commands import (
     ALONE, ASSIGN, CHILDREN, COMMANDS, CONSTANT, ELSE, END, IF, IF_BACK, INFIX, MARK_CONTENT, MARK_LIST, MEAN, NAMED, VALUE)
 from .encoding import Record
 from .errors import SourceError, word
-from .words import Words
+from .limits import HOUSE, LEVELS, PUBLIC
+from .words import Words, known_parties
 
 # The words of each command that is written as a line of its own.
 PHRASES = {tuple(row.words.split()): number for number, row in enumerate(COMMANDS) if number not in (ASSIGN, ELSE, END, IF_BACK)}
@@ -131,8 +132,11 @@ class Script:
         command = self.command(words)
         row = COMMANDS[command]
         if not row.expression:
-            return Record(command)
-        record = self.expression(words, command, self.mark(words) if row.target else 0)
+            return Record(command, content_set=words.level() or 0 if row.sets else 0)
+        target, content, below = self.marks(words) if row.target == "mark" else (0, 0, 0)
+        record = self.expression(words, command, target)._replace(content_set=content, list_set=below)
+        if row.target == "readers" and words.take("for"):
+            return record._replace(target=words.need_level())
         return self.coming_back(words, record) if command == IF else record
 
     def coming_back(self, words, record):
@@ -155,15 +159,24 @@ class Script:
             taken += (token.text,)
         return PHRASES[taken]
 
-    def mark(self, words):
-        """The mark of a new node, and the colon behind it."""
-        mark = 0
-        for part, bit in (("content", MARK_CONTENT), ("list", MARK_LIST)):
+    def marks(self, words):
+        """The mark of a new node with its two sets, and the colon behind them. The first party in front is the mark; behind it, it is of the set."""
+        mark, sets = 0, [0, 0]
+        for index, (part, bit) in enumerate((("content", MARK_CONTENT), ("list", MARK_LIST))):
             if words.take(part):
-                words.need("house")
-                mark |= bit
+                at = words.at
+                parties = words.parties()
+                if parties == [PUBLIC]:  # it says nothing
+                    parties, words.at = [], at
+                if not parties:
+                    words.fail(f"'{LEVELS.names[0]}'" if len(LEVELS.names) == 1 else known_parties())
+                if parties[0] == HOUSE:
+                    mark |= bit
+                    del parties[0]
+                for party in parties:
+                    sets[index] |= party
         words.need(":")
-        return mark
+        return mark, *sets
 
     def assignment(self, words):
         index = self.variable(words.name("a variable's name"))
@@ -185,7 +198,7 @@ class Script:
             operator, right = self.operation(words)
         if words.sees(*INFIX):
             raise SourceError(words.next().place, "an expression has one operator; put a part of it into a variable first")
-        return Record(command, target, operator, left[0], right[0], left[1], right[1])
+        return Record(command, target, operator, left[0], right[0], left=left[1], right=right[1])
 
     def operation(self, words):
         sign = words.next()

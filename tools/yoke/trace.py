@@ -3,7 +3,7 @@
 from .commands import ASSIGN, COMMANDS, ELSE, END, IF_BACK, INSERTIONS, MOVES, PRINT, REMOVALS, SET
 from .endings import ending_text
 from .limits import LEVELS
-from .listing import record_text
+from .listing import line_text, record_text
 from .run import drawn_tree
 
 HEAD = ("step", "line", "record", "statement", "context", "cursor", "its level", "what changed")
@@ -35,7 +35,7 @@ def changed(run, at, record, cursor, removed, back):
     if command == ASSIGN:
         return f"{names.variables[record.target]} = {run.values[record.target]}"
     if command == PRINT:
-        return f"board line {len(run.board)}: {run.board[-1]}"
+        return f"board line {len(run.board)}: {line_text(run.board[-1])}"
     if command == SET:
         return f"{cursor.name} = {cursor.value}"
     if command in MOVES:

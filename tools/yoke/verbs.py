@@ -5,17 +5,17 @@ import sys
 import traceback
 from pathlib import Path
 
-from .account import refusal_lines, report
+from .account import refusal_lines, report, seen_lines
 from .checks import STORED, UNORDERED, byte_name, check, check_limits, check_section, describe, plural
 from .drawings import svg_picture
 from .encoding import decode
 from .endings import ENDINGS, FINISHED, REFUSALS, STOPS, refused
-from .errors import JobError, RefusedError, visible
+from .errors import JobError, RefusedError, Text, visible
 from .files import (
     is_source, need_no_utf16, no_tree, read_bytes, read_either, read_over, read_script, read_section, read_source, shown,
     source_of_job, source_of_section, warn_of, write_bytes)
 from .history import History, Part, read_part
-from .limits import ASKED_BUDGET, ASKED_LINES, ASKED_PLACES, HOME, PROGRAM, Limits
+from .limits import ASKED_BUDGET, ASKED_LINES, ASKED_PLACES, HOME, LEVELS, PROGRAM, PUBLIC, UNNAMED, Limits
 from .listing import listing, preorder, record_text, script_lines
 from .manual import DESCRIPTIONS, LANGUAGE, STATUS
 from .monitor import history, outcome, stored, written
@@ -24,7 +24,7 @@ from .probe import Variations, boards, probe_report, terminal_progress
 from .run import Run
 from .streams import lost, warn
 from .trace import trace
-from .words import natural
+from .words import Words, natural, scan
 
 
 def do_assemble(options):
@@ -200,6 +200,8 @@ def do_run(options):
     need_one_stdin(options.job, options.tree, *options.scripts)
     if options.save == "-":
         raise JobError("--save needs a file: standard output has the account of the run")
+    if options.reader is not None and (options.scripts or options.save):
+        raise JobError("--reader shows the lines of one job: it goes with no scripts behind it and no --save")
     source, data = read_either(options.job, options.tree)
     path = source.path if source else shown(options.job)
     limits, asked = limits_of(options)
@@ -223,8 +225,22 @@ def do_run(options):
         for row in trace(run):
             print(row)
         print()
+    if options.reader is not None:
+        return seen_by(options.reader, path, answer)
     print("\n".join(report(run.go(), answer, options.all)))
     save(options, data, [], limits)
+    return 0 if answer.ending == FINISHED else 1
+
+
+def seen_by(text, path, answer):
+    """What a reader is handed of a run."""
+    words = Words(scan(Text("--reader", [text]))[0]) if text.strip() else None
+    reader = words.need_level() if words else PUBLIC
+    if words:
+        words.finish()
+    print("\n".join(seen_lines(path, answer.lines, reader)))
+    if answer.ending != FINISHED:
+        print("\nThe run was stopped, and where a board ends may tell something: hand out none.")
     return 0 if answer.ending == FINISHED else 1
 
 
@@ -351,6 +367,7 @@ def parser():
     add_limits(one)
     one.add_argument("--trace", action="store_true", help="first a line for each step")
     one.add_argument("--all", action="store_true", help="leave nothing out of the last tree, however long a row is")
+    one.add_argument("--reader", metavar="PARTIES", help="show only the lines that these parties see, as alpina or alpina+buses; public for nobody's")
     one.add_argument("--save", metavar="FILE", help="write the variables and the tree that stand in the end to FILE, as a job without a script")
     one = verb("probe", "run it with many house numbers and compare the boards", do_probe)
     one.add_argument("job", metavar="SOURCE|JOB", help="a source or a job, or - for standard input")
@@ -373,6 +390,7 @@ def parsed(arguments):
 
 def act(arguments):
     try:
+        LEVELS.use(UNNAMED[:1])
         options = parsed(arguments)
         return options.function(options)
     except SystemExit as leaving:  # the help, or a call that is no call

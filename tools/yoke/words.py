@@ -1,10 +1,12 @@
 """The lines and words of a source."""
 
+import functools
+import operator
 import re
 from typing import NamedTuple
 
 from .errors import Place, SourceError, Text, word
-from .limits import LEVELS
+from .limits import LEVELS, PUBLIC
 
 
 class Token(NamedTuple):
@@ -73,6 +75,10 @@ def natural(digits):
     return int(digits or "0") if len(digits) <= 10 else 10**10
 
 
+def known_parties():
+    return " or ".join(f"'{name}'" for name in ("public", *LEVELS.names))
+
+
 class Words:
     """The words of one line, taken from left to right."""
 
@@ -131,15 +137,30 @@ class Words:
             raise SourceError(place, f"{said} does not fit in 32 bits: numbers go from -2147483648 to 2147483647")
         return value
 
+    def parties(self):
+        """The names of parties that stand next, joined by +, each as its set; none where there is no name."""
+        found = [self.party()]
+        while found[-1] is not None and self.take("+"):
+            found.append(self.party())
+            if found[-1] is None:
+                self.fail(known_parties())
+        return [] if found == [None] else found
+
+    def party(self):
+        token = self.take("public", *LEVELS.names)
+        if token is None or token.text == "public":
+            return None if token is None else PUBLIC
+        return 1 << LEVELS.names.index(token.text)
+
     def level(self):
-        """public or house, if one stands next."""
-        token = self.take(*LEVELS)
-        return None if token is None else LEVELS.index(token.text)
+        """public, or names of parties joined by +, if they stand next."""
+        parties = self.parties()
+        return functools.reduce(operator.or_, parties) if parties else None
 
     def need_level(self):
         level = self.level()
         if level is None:
-            self.fail("'public' or 'house'")
+            self.fail(known_parties())
         return level
 
     def finish(self):
