@@ -9,7 +9,7 @@ help:
 	@echo 'make run       build the programs of the first page and show the board of an example job'
 	@echo 'make test      prove every crate, try every wrong edit, run every other test'
 	@echo 'make check     prove every crate that changed, and run its programs'
-	@echo 'make programs  prove and build the programs board, inspect, replay, history, clean and arrange, in target/bin'
+	@echo 'make programs  prove and build the programs board, inspect, replay, history, clean, arrange and summary, in target/bin'
 	@echo 'make lib       prove and build include/libportal.a, for a portal in C or C++'
 	@echo 'make install   put library, header and portal.pc under PREFIX (now $(PREFIX)); DESTDIR goes in front'
 	@echo 'make fmt       lay out the sources'
@@ -43,7 +43,7 @@ fmt:
 	rt fmt
 
 programs:
-	@bash tools/build board inspect replay history clean arrange
+	@bash tools/build board inspect replay history clean arrange summary
 
 lib:
 	rt staticlib portal

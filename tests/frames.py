@@ -39,7 +39,7 @@ def answer(ending, index=0, steps=0, lines=0):
     return f"ending {ending} index {index} steps {steps} lines {lines}\n"
 
 
-PAPER_ANSWER = answer(0, 0, 1, 1) + "line 10\nnode 0 0 0 0 10\n"
+PAPER_ANSWER = answer(0, 0, 1, 1) + "line 10 0\nnode 0 0 0 0 10\n"
 
 
 def same(what, want, got):

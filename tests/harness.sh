@@ -8,7 +8,7 @@ export PORTAL_LIB_DIR=$PWD/target/staticlib
 stale() { [ ! -e "$1" ] || [ -n "$(find crates crates.txt -newer "$1" -print -quit)" ]; }
 
 if stale "$PORTAL_LIB_DIR/libportal.a"; then make --silent lib; fi
-programs=(target/bin/board target/bin/inspect "$REPLAY" "$HISTORY" "$CLEAN" "$ARRANGE")
+programs=(target/bin/board target/bin/inspect target/bin/summary "$REPLAY" "$HISTORY" "$CLEAN" "$ARRANGE")
 for file in "${programs[@]}"; do
   if stale "$file"; then make --silent programs; break; fi
 done

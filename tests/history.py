@@ -77,13 +77,13 @@ history(
     "script after script",
     FAMILY_JOB,
     (script(record(9), record(15, left=(0, 5))), came(0, 0, 2, left=FAMILY.replace(" 3\n", " 5\n"))),
-    (script(PRINT), came(0, 0, 1, "line 10\n", FAMILY.replace(" 3\n", " 5\n"))),
+    (script(PRINT), came(0, 0, 1, "line 10 0\n", FAMILY.replace(" 3\n", " 5\n"))),
     (script(NEW_CHILD, record(1, left=(3, 0))), came(0, 0, 2, "", "variable 0 2\nvariable 1 -7\n" + ROOT_TEN + NEW + "node 1 0 0 0 5\n")),
     (script(record(13), record(1, operator=1, left=(1, 0), right=(0, 7)), record(1, left=(1, 1)), PRINT),
      came(21, 2, 2, "", "variable 0 9\nvariable 1 -7\n" + ROOT_TEN + "node 1 0 0 0 5\n")),
     (script(record(16), record(9)), came(0, 0, 2, "", "variable 0 9\nvariable 1 -7\n" + ROOT_TEN + "node 1 0 0 0 5\n")),
     (script(record(6, left=(1, 0)), record(9), PRINT, record(8), PRINT),
-     came(0, 0, 5, "line 9\nline 5\nline 10\n", "variable 0 9\nvariable 1 -7\n" + ROOT_TEN + "node 1 0 0 0 5\n")),
+     came(0, 0, 5, "line 9 0\nline 5 0\nline 10 0\n", "variable 0 9\nvariable 1 -7\n" + ROOT_TEN + "node 1 0 0 0 5\n")),
     (script(FOREVER, END, budget=10), came(25, 0, 10, "", "variable 0 9\nvariable 1 -7\n" + ROOT_TEN + "node 1 0 0 0 5\n")),
 )
 
@@ -109,14 +109,14 @@ GROWN = REPLACED.replace(" 4\n", " 6\n") + "node 2 0 0 0 8\n"
 history(
     "an if that comes back",
     FAMILY_JOB,
-    (script(BACK_HOUSE, record(9), END, PRINT), came(0, 0, 4, "line 10\n", FAMILY)),
-    (script(record(9), BACK_HOUSE, record(7), END, PRINT), came(0, 0, 5, "line 3\n", FAMILY)),
+    (script(BACK_HOUSE, record(9), END, PRINT), came(0, 0, 4, "line 10 0\n", FAMILY)),
+    (script(record(9), BACK_HOUSE, record(7), END, PRINT), came(0, 0, 5, "line 3 0\n", FAMILY)),
     (script(BACK, record(9), END, budget=2), came(25, 2, 2, "", FAMILY)),
     (script(record(9), BACK, record(8), record(13), NEW_CHILD, END), came(22, 5, 5, "", REPLACED)),
     (script(record(9), BACK, record(8), END, record(15, left=(0, 6)), record(11, left=(0, 8))), came(0, 0, 6, "", GROWN)),
     # One inside another: the inner one's node goes with the node above it, the outer one's stays.
     (script(BACK, record(9), record(9), BACK, record(7), record(13), END, END), came(22, 6, 6, "", "variable 0 0\nvariable 1 -7\n" + ROOT_TEN)),
-    (script(BACK, NEW_CHILD, BACK, record(9), END, END, PRINT), came(0, 0, 7, "line 10\n", REPLACED)),
+    (script(BACK, NEW_CHILD, BACK, record(9), END, END, PRINT), came(0, 0, 7, "line 10 0\n", REPLACED)),
 )
 
 # Left sibling and last child, commands 18 and 19, over a tree that stands and grows: what one script adds or removes, the next one finds from behind.
@@ -125,14 +125,14 @@ BOTH = "variable 0 0\nvariable 1 -7\n" + ROOT_TEN + "node 1 0 0 0 3\nnode 1 0 0 
 history(
     "left sibling and last child",
     FAMILY_JOB,
-    (script(LAST_CHILD, PRINT, LEFT_SIBLING), came(22, 2, 2, "line 3\n", FAMILY)),
+    (script(LAST_CHILD, PRINT, LEFT_SIBLING), came(22, 2, 2, "line 3 0\n", FAMILY)),
     (script(LAST_CHILD, record(12, left=(0, 6))), came(0, 0, 2, "", BOTH)),
-    (script(LAST_CHILD, PRINT, LEFT_SIBLING, PRINT), came(0, 0, 4, "line 6\nline 3\n", BOTH)),
-    (script(record(13), LAST_CHILD, PRINT, LEFT_SIBLING), came(22, 3, 3, "line 6\n", BOTH.replace("node 1 0 0 0 3\n", ""))),
+    (script(LAST_CHILD, PRINT, LEFT_SIBLING, PRINT), came(0, 0, 4, "line 6 0\nline 3 0\n", BOTH)),
+    (script(record(13), LAST_CHILD, PRINT, LEFT_SIBLING), came(22, 3, 3, "line 6 0\n", BOTH.replace("node 1 0 0 0 3\n", ""))),
     # The list is the house's, so that where the last child stands is, too: a house child may stand there in another history.
     (start(job(b"", node(65535, 0, 0, 1, 10) + CHILD)), "job K\n" + answer(0) + "node 0 0 0 1 10\nnode 1 0 0 0 3\n"),
     (script(LAST_CHILD, PRINT), came(21, 1, 1, "", "node 0 0 0 1 10\nnode 1 0 0 0 3\n")),
-    (script(record(9), PRINT), came(0, 0, 2, "line 3\n", "node 0 0 0 1 10\nnode 1 0 0 0 3\n")),
+    (script(record(9), PRINT), came(0, 0, 2, "line 3 0\n", "node 0 0 0 1 10\nnode 1 0 0 0 3\n")),
 )
 
 # A job that is turned back leaves everything; one that is run leaves its own tree and variables. The paper's job stops and finishes alike.
@@ -146,7 +146,7 @@ history(
     (start(job(TWO[:8], node(65535, 0, 1, 0, 7), PRINT)), "job K\n" + answer(21) + "variable 0 0\nnode 0 0 1 0 7\n"),
     (script(), came(0, left="variable 0 0\nnode 0 0 1 0 7\n")),
     PAPER_JOB,
-    (script(PRINT), came(0, 0, 1, "line 10\n", ROOT_TEN)),
+    (script(PRINT), came(0, 0, 1, "line 10 0\n", ROOT_TEN)),
 )
 
 # Turned away in the order 11, 7, 12, 8, 9, 10, and nothing has changed. A section has whole records, at most 1,024.
@@ -185,11 +185,11 @@ for kind in [5, 6, 2**32 - 1]:
 # Line capacities. Each turn of the loop takes three steps, so that the stop in turn n comes after 3 * (n - 1) + 1.
 for capacity in [0, 1, 1024, 1025, 65535]:
     history(f"line capacity {capacity}", PAPER_JOB, (script(FOREVER, PRINT, END, budget=1000000, lines=capacity),
-            came(24, 1, 3 * capacity + 1, "line 10\n" * capacity, ROOT_TEN)), (script(PRINT), came(0, 0, 1, "line 10\n", ROOT_TEN)))
+            came(24, 1, 3 * capacity + 1, "line 10 0\n" * capacity, ROOT_TEN)), (script(PRINT), came(0, 0, 1, "line 10 0\n", ROOT_TEN)))
     if capacity > 300:
         continue
     history(f"line capacity {capacity} of a job", (start(job(b"", ROOT, FOREVER, PRINT, END), lines=capacity),
-            "job K\n" + answer(24, 1, 3 * capacity + 1, capacity) + "line 10\n" * capacity + ROOT_TEN), (script(), came(0, left=ROOT_TEN)))
+            "job K\n" + answer(24, 1, 3 * capacity + 1, capacity) + "line 10 0\n" * capacity + ROOT_TEN), (script(), came(0, left=ROOT_TEN)))
 
 # A table that is poked in, its nodes out of order: under the root, in place 0, those in places 5 and 3, under that in place 3 the one in place 1. In the
 # free places stands what leads nowhere.
@@ -206,7 +206,7 @@ history("a table that is put in", PUT, (dump(6), "table K\n" + "".join(RECORDS) 
         (script(places=512), came(0, left=VARIABLES + TREE)), (script(places=513), came(10)), (script(places=5), came(11)), (script(places=0), came(11)))
 
 # Each of these breaks it, so that no accepted job could hold it: links out of range, cycles, places that two links lead to, wrong parents, wrong counts,
-# a root with a parent or a sibling, levels out of range, broken tree rules, variables. A script is turned away and leaves every record as it was.
+# a root with a parent or a sibling, sets that do not contain each other, broken tree rules, variables. A script is turned away and leaves every record as it was.
 for broken in [
     [(FIRST, 0, 6)], [(FIRST, 0, 65534)], [(FIRST, 0, 65536)], [(FIRST, 0, 2**32 - 1)], [(RIGHT, 3, 6)], [(RIGHT, 1, 70000)], [(FIRST, 5, 100)],
     [(FIRST, 5, 5), (CHILDREN, 5, 1)], [(FIRST, 1, 3), (CHILDREN, 1, 1)], [(FIRST, 1, 0), (CHILDREN, 1, 1)], [(RIGHT, 3, 5)], [(RIGHT, 3, 3)], [(FIRST, 0, 0)],
@@ -214,9 +214,9 @@ for broken in [
     [(PARENT, 5, 3)], [(PARENT, 5, NONE)], [(PARENT, 1, 0)], [(PARENT, 3, 5)], [(PARENT, 0, 0)], [(PARENT, 0, 5)], [(RIGHT, 0, 2)], [(RIGHT, 0, 5)],
     [(CHILDREN, 0, 1)], [(CHILDREN, 0, 3)], [(CHILDREN, 1, 1)], [(CHILDREN, 3, 0)], [(CHILDREN, 0, 65538)],
     [(FIRST, 0, NONE)], [(RIGHT, 5, NONE)], [(FIRST, 3, NONE)],
-    [(EXISTENCE, 0, 1), (CONTENT, 0, 1)], [(EXISTENCE, 5, 2)], [(CONTENT, 1, 2)], [(LIST, 3, 255)],
+    [(EXISTENCE, 0, 1), (CONTENT, 0, 1)], [(EXISTENCE, 5, 2)], [(CONTENT, 1, 2)], [(LIST, 3, 254)],
     [(CONTENT, 3, 0)], [(LIST, 3, 0)], [(EXISTENCE, 5, 1), (EXISTENCE, 3, 0)], [(EXISTENCE, 1, 0)], [(LIST, 0, 0)],
-    [(LEVEL, 0, 2)], [(LEVEL, 1, 255)], [(COUNT, 0, 65)], [(COUNT, 0, 1000)],
+    [(COUNT, 0, 65)], [(COUNT, 0, 1000)],
     [(LEFT, 0, 0)], [(LEFT, 0, 2)], [(LEFT, 0, 65536)], [(LEFT, 5, 3)], [(LEFT, 5, 5)], [(LEFT, 5, 0)], [(LEFT, 3, NONE)], [(LEFT, 3, 3)], [(LEFT, 3, 0)],
     [(LEFT, 3, 2)], [(LEFT, 3, 65541)], [(LEFT, 1, 3)], [(LEFT, 1, 2**32 - 1)],
     [(LAST, 0, NONE)], [(LAST, 0, 5)], [(LAST, 0, 0)], [(LAST, 0, 1)], [(LAST, 0, 2)], [(LAST, 0, 65539)], [(LAST, 3, NONE)], [(LAST, 3, 5)], [(LAST, 1, 1)],
@@ -293,7 +293,7 @@ for events in range(1, len(SEASON) + 1):
     ENDINGS += ended.splitlines(keepends=True)[0]
     stood = links(shown)
     alive = live(stood)
-    line = f"line {len(row(stood, stood[0][FIRST]))}"
+    line = f"line {len(row(stood, stood[0][FIRST]))} 0"
     same(f"children after event {events}", line, kids.splitlines()[1])
     for at in range(LENT):
         count = stood[at][CHILDREN]

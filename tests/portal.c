@@ -31,8 +31,9 @@ static void expect(const char *what, const uint8_t *job, size_t length, uint64_t
     same(what, "answer", (long long)((uint64_t)ending * 4294967296u + lines), (long long)answer);
     for (size_t i = 0; i < lines; i++) {
         same(what, "line", 10, portal_line(area, i));
+        same(what, "readers", 0, portal_readers(area, i));
     }
-    for (size_t i = 4 * lines; i < sizeof area; i++) {
+    for (size_t i = PORTAL_LINE_BYTES * lines; i < sizeof area; i++) {
         same(what, "a byte behind the lines", MARK, area[i]);
     }
 }
@@ -55,6 +56,19 @@ static const uint8_t astray[56] = {
     0, 0, 0, 0, 0, 0, 0, 0, 2, 0, 0, 0,
     1, 0, 0, 0, 0, 0, 0, 0, 3, 0, 0, 0,
     0, 0, 0, 0, 48, 0, 48, 0};
+
+/* The same root; command 6 of value for parties 2 and 3. */
+static void for_readers(void) {
+    uint8_t job[sizeof example];
+    memcpy(job, example, sizeof job);
+    job[13] = 6;
+    memset(area, MARK, sizeof area);
+    uint64_t answer = portal_run(job, sizeof job, 1, area, ROOM);
+    same("a line for two parties", "answer", 1, (long long)answer);
+    same("a line for two parties", "number", 10, portal_line(area, 0));
+    same("a line for two parties", "readers", 6, portal_readers(area, 0));
+    same("a line for two parties", "the byte behind", MARK, area[5]);
+}
 
 /* An area that is not there, of length 0. */
 static void no_area(void) {
@@ -85,6 +99,7 @@ static void versions(void) {
     snprintf(text, sizeof text, "%d.%d.%d", PORTAL_VERSION_MAJOR, PORTAL_VERSION_MINOR, PORTAL_VERSION_PATCH);
     same("PORTAL_VERSION", "its numbers", 0, strcmp(text, PORTAL_VERSION));
     same("PORTAL_MAX_LINES", "number", 1000000, PORTAL_MAX_LINES);
+    same("PORTAL_LINE_BYTES", "number", 5, PORTAL_LINE_BYTES);
     same("PORTAL_MAX_SCRIPT", "number", 16384, PORTAL_MAX_SCRIPT);
     same("PORTAL_MAX_WORDS", "number", 5120, PORTAL_MAX_WORDS);
 }
@@ -92,11 +107,11 @@ static void versions(void) {
 int main(void) {
     static const uint8_t zeros[23049];
     expect("the paper's example", example, sizeof example, 100000, ROOM, PORTAL_FINISHED, 1);
-    expect("room for one line", example, sizeof example, 1, 4, PORTAL_FINISHED, 1);
-    expect("7 bytes of room", example, sizeof example, 1, 7, PORTAL_FINISHED, 1);
-    expect("3 bytes of room", example, sizeof example, 1, 3, PORTAL_BOARD_FULL, 0);
+    expect("room for one line", example, sizeof example, 1, 5, PORTAL_FINISHED, 1);
+    expect("9 bytes of room", example, sizeof example, 1, 9, PORTAL_FINISHED, 1);
+    expect("4 bytes of room", example, sizeof example, 1, 4, PORTAL_BOARD_FULL, 0);
     expect("no room", example, sizeof example, 1, 0, PORTAL_BOARD_FULL, 0);
-    expect("room for three lines and 3 bytes", forever, sizeof forever, 100, 15, PORTAL_BOARD_FULL, 3);
+    expect("room for three lines and 4 bytes", forever, sizeof forever, 100, 19, PORTAL_BOARD_FULL, 3);
     expect("a budget of 5", forever, sizeof forever, 5, ROOM, PORTAL_BUDGET_USED_UP, 2);
     expect("a budget of 0", example, sizeof example, 0, ROOM, PORTAL_BAD_BUDGET, 0);
     expect("a budget of 1000000", example, sizeof example, 1000000, ROOM, PORTAL_FINISHED, 1);
@@ -118,11 +133,20 @@ int main(void) {
     names();
     versions();
 
-    static const uint8_t ends[16] = {0, 0, 0, 0x80, 0xff, 0xff, 0xff, 0x7f, 0xff, 0xff, 0xff, 0xff, 1, 2, 3, 4};
+    static const uint8_t ends[20] = {0, 0, 0, 0x80, 0, 0xff, 0xff, 0xff, 0x7f, 6, 0xff, 0xff, 0xff, 0xff, 255, 1, 2, 3, 4, 1};
     same("portal_line", "the least", -2147483647 - 1, portal_line(ends, 0));
     same("portal_line", "the greatest", 2147483647, portal_line(ends, 1));
     same("portal_line", "minus one", -1, portal_line(ends, 2));
     same("portal_line", "four bytes", 0x04030201, portal_line(ends, 3));
+    same("portal_readers", "everyone", 0, portal_readers(ends, 0));
+    same("portal_readers", "two parties", 6, portal_readers(ends, 1));
+    same("portal_readers", "all parties", 255, portal_readers(ends, 2));
+    same("portal_sees", "the public, a line for everyone", 1, portal_sees(0, 0));
+    same("portal_sees", "the public, a line of a party", 0, portal_sees(0, 2));
+    same("portal_sees", "one of two parties", 0, portal_sees(2, 6));
+    same("portal_sees", "both of them", 1, portal_sees(6, 6));
+    same("portal_sees", "another party", 0, portal_sees(1, 2));
+    for_readers();
     printf("portal: %d comparisons in C\n", checked);
     return 0;
 }

@@ -46,7 +46,7 @@ expect("budgets, places, capacities", frames, want)
 BOARD = job(b"", ROOT, FOREVER, PRINT, END)
 TREE = job(b"", ROOT, FOREVER, NEW_CHILD, END)
 for capacity, room in [(0, 0), (1, 1), (1023, 1023), (1024, 1024), (1025, 1024), (65535, 1024)]:
-    said = answer(24, 1, 3 * room + 1, room) + "line 10\n" * room + "node 0 0 0 0 10\n"
+    said = answer(24, 1, 3 * room + 1, room) + "line 10 0\n" * room + "node 0 0 0 0 10\n"
     expect(f"line capacity {capacity}", frame(BOARD, 1000000, 512, capacity), "job 0\n" + said)
 for places in [1, 2, 511, 512]:
     said = answer(23, 1, 3 * (places - 1) + 1) + "node 0 0 0 0 10\n" + "node 1 0 1 1 4\n" * (places - 1)

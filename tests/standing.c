@@ -98,12 +98,12 @@ static uint64_t run(uint64_t (*call)(uint64_t), uint64_t budget) {
     int turned_back = 0 < ending && ending < PORTAL_FLOW;
     size_t put_out = portal_lines(answer), named = call == start ? portal_variables(script.at, script.length) : levels.length;
     same("an ending that there is", 1, strcmp(portal_ending_name(ending), "unknown") != 0);
-    same("lines that there is room for", 1, turned_back ? put_out == 0 : put_out <= lines.length / 4);
+    same("lines that there is room for", 1, turned_back ? put_out == 0 : put_out <= lines.length / PORTAL_LINE_BYTES);
     stays("the script", &script, 0);
     stays("the table", &table, turned_back ? 0 : table.length / PLACE * PLACE);
     stays("the levels", &levels, turned_back || call == follow ? 0 : named);
     stays("the values", &values, turned_back ? 0 : 4 * named);
-    stays("the lines", &lines, 4 * put_out);
+    stays("the lines", &lines, PORTAL_LINE_BYTES * put_out);
     stays("the area", &output, 0);
     return answer;
 }
@@ -173,6 +173,12 @@ static void give(int at_end) {
     written = 0;
 }
 
+/* The sets that the last record joins, in its bytes 5 and 6. */
+static void joins(uint8_t content, uint8_t list) {
+    text[written - 11] = content;
+    text[written - 10] = list;
+}
+
 enum { CONSTANT, VARIABLE, NODE_VALUE, NODE_CHILDREN };
 
 static void command(int number) { record(number, 0, 0, 0, 0, 0, 0); }
@@ -198,32 +204,32 @@ static void lend(size_t table_words, size_t level_count, size_t value_count, siz
 
 static void starts(void) {
     small_job();
-    cut(&lines, 4, 1);
+    cut(&lines, PORTAL_LINE_BYTES, 1);
     same("portal_run on this stack", 1, (long long)portal_run(script.at, script.length, 1, lines.at, lines.length));
     static const struct {
         const char *what;
         size_t words, levels, values, lines;
         int ending;
     } cases[] = {
-        {"one place", 10, 2, 2, 4, PORTAL_FINISHED},
-        {"one place, and nine words more", 19, 2, 2, 7, PORTAL_FINISHED},
-        {"nine words", 9, 2, 2, 4, PORTAL_BAD_BUFFERS},
-        {"no table", 0, 2, 2, 4, PORTAL_BAD_BUFFERS},
-        {"512 places", 5120, 2, 2, 4, PORTAL_FINISHED},
-        {"512 places, and nine words more", 5129, 2, 2, 4, PORTAL_FINISHED},
-        {"513 places", 5130, 2, 2, 4, PORTAL_BAD_BUFFERS},
-        {"a level for one variable", 10, 1, 2, 4, PORTAL_BAD_BUFFERS},
-        {"a value for one variable", 10, 2, 1, 4, PORTAL_BAD_BUFFERS},
-        {"no variables", 10, 0, 0, 4, PORTAL_BAD_BUFFERS},
-        {"more than enough variables", 10, 64, 65, 4, PORTAL_FINISHED},
-        {"no room for a line", 10, 2, 2, 3, PORTAL_BOARD_FULL},
+        {"one place", 10, 2, 2, 5, PORTAL_FINISHED},
+        {"one place, and nine words more", 19, 2, 2, 9, PORTAL_FINISHED},
+        {"nine words", 9, 2, 2, 5, PORTAL_BAD_BUFFERS},
+        {"no table", 0, 2, 2, 5, PORTAL_BAD_BUFFERS},
+        {"512 places", 5120, 2, 2, 5, PORTAL_FINISHED},
+        {"512 places, and nine words more", 5129, 2, 2, 5, PORTAL_FINISHED},
+        {"513 places", 5130, 2, 2, 5, PORTAL_BAD_BUFFERS},
+        {"a level for one variable", 10, 1, 2, 5, PORTAL_BAD_BUFFERS},
+        {"a value for one variable", 10, 2, 1, 5, PORTAL_BAD_BUFFERS},
+        {"no variables", 10, 0, 0, 5, PORTAL_BAD_BUFFERS},
+        {"more than enough variables", 10, 64, 65, 5, PORTAL_FINISHED},
+        {"no room for a line", 10, 2, 2, 4, PORTAL_BOARD_FULL},
         {"no area", 10, 2, 2, 0, PORTAL_BOARD_FULL},
     };
     for (size_t i = 0; i < sizeof cases / sizeof cases[0]; i++) {
         lend(cases[i].words, cases[i].levels, cases[i].values, cases[i].lines);
         ends(cases[i].what, start, 1, cases[i].ending, cases[i].ending == PORTAL_FINISHED);
     }
-    lend(10, 2, 2, 4);
+    lend(10, 2, 2, PORTAL_LINE_BYTES);
     ends("a start with no budget", start, 0, PORTAL_BAD_BUDGET, 0);
     ends("a start with a budget of 1,000,001", start, 1000001, PORTAL_BAD_BUDGET, 0);
     cut(&script, 7, 1);
@@ -309,10 +315,10 @@ static void history(void) {
 
 /* The checks, in the order 11, 7, 8, 9, 10. */
 static void refusals(void) {
-    lend(PORTAL_PLACE_WORDS, 64, 64, 4);
+    lend(PORTAL_PLACE_WORDS, 64, 64, PORTAL_LINE_BYTES);
     small_job();
     ends("the job", start, 10, PORTAL_FINISHED, 1);
-    lend(PORTAL_PLACE_WORDS, 2, 2, 4);
+    lend(PORTAL_PLACE_WORDS, 2, 2, PORTAL_LINE_BYTES);
 
     memset(text, 0, sizeof text);
     for (size_t length = 0; length <= 16400; length += length < 32 || length > 16380 ? 1 : 16) {
@@ -349,7 +355,7 @@ static void refusals(void) {
 
 /* Variables, over a tree that stands. */
 static void lent_variables(void) {
-    lend(PORTAL_PLACE_WORDS, 64, 64, 4);
+    lend(PORTAL_PLACE_WORDS, 64, 64, PORTAL_LINE_BYTES);
     small_job();
     ends("the job", start, 10, PORTAL_FINISHED, 1);
     give(1);
@@ -363,8 +369,8 @@ static void lent_variables(void) {
         ends("a level more", follow, 1, PORTAL_BAD_FOLLOW_ON, 0);
         cut(&levels, n, 1);
         if (n != 0) {
-            levels.at[n - 1] = 2;
-            ends("a level of 2", follow, 1, PORTAL_BAD_FOLLOW_ON, 0);
+            levels.at[n - 1] = 255; /* every byte is a set of parties */
+            ends("a level of 255", follow, 1, n <= 64 ? PORTAL_FINISHED : PORTAL_BAD_FOLLOW_ON, 0);
             cut(&levels, n - 1, 1);
             ends("a value more", follow, 1, PORTAL_BAD_FOLLOW_ON, 0);
         }
@@ -376,8 +382,8 @@ enum { NORTH = 4, EAST = 1, HUT = 2, PLACES = 5 };
 static const uint32_t by_hand[PLACES][PORTAL_PLACE_WORDS] = {
     [0] = {[FIRST] = NORTH, [RIGHT] = NONE, [PARENT] = NONE, [LEFT] = NONE, [LAST] = EAST, [CHILDREN] = 2, [LIST] = 1, [VALUE] = 10},
     [NORTH] = {[FIRST] = HUT, [RIGHT] = EAST, [PARENT] = 0, [LEFT] = NONE, [LAST] = HUT, [CHILDREN] = 1},
-    [EAST] = {[FIRST] = NONE, [RIGHT] = NONE, [PARENT] = 0, [LEFT] = NORTH, [LAST] = NONE, [EXISTENCE] = 1, [CONTENT] = 1, [LIST] = 1},
-    [HUT] = {[FIRST] = NONE, [RIGHT] = NONE, [PARENT] = NORTH, [LEFT] = NONE, [LAST] = NONE, [CONTENT] = 1, [VALUE] = 0xffffffff},
+    [EAST] = {[FIRST] = NONE, [RIGHT] = NONE, [PARENT] = 0, [LEFT] = NORTH, [LAST] = NONE, [EXISTENCE] = 1, [CONTENT] = 3, [LIST] = 5},
+    [HUT] = {[FIRST] = NONE, [RIGHT] = NONE, [PARENT] = NORTH, [LEFT] = NONE, [LAST] = NONE, [CONTENT] = 0xa0, [VALUE] = 0xffffffff},
     [3] = {77, 78, 79, 80, 81, 82, 83, 84, 85, 86},
 };
 
@@ -432,7 +438,10 @@ static void lent_tables(void) {
         {"another parent", HUT, PARENT, 0, PORTAL_BAD_FOLLOW_ON},
         {"no parent", HUT, PARENT, NONE, PORTAL_BAD_FOLLOW_ON},
         {"a child that nobody counts", NORTH, CHILDREN, 0, PORTAL_BAD_FOLLOW_ON},
-        {"a level of 2", HUT, CONTENT, 2, PORTAL_BAD_FOLLOW_ON},
+        {"a content of the second party", HUT, CONTENT, 2, PORTAL_FINISHED},
+        {"a content of all parties", HUT, CONTENT, 255, PORTAL_FINISHED},
+        {"a content that lacks the first party, below an existence that has it", EAST, CONTENT, 254, PORTAL_BAD_FOLLOW_ON},
+        {"a list that lacks the first party, below an existence that has it", EAST, LIST, 2, PORTAL_BAD_FOLLOW_ON},
         {"a level of 256", HUT, CONTENT, 256, PORTAL_BAD_FOLLOW_ON},
         {"a list level of 257", HUT, LIST, 257, PORTAL_BAD_FOLLOW_ON},
         {"an existence of 256", HUT, EXISTENCE, 256, PORTAL_BAD_FOLLOW_ON},
@@ -441,7 +450,7 @@ static void lent_tables(void) {
         {"a house child below a public list", HUT, EXISTENCE, 1, PORTAL_BAD_FOLLOW_ON},
         {"a public sibling behind one of the house", NORTH, EXISTENCE, 1, PORTAL_BAD_FOLLOW_ON},
     };
-    lend(PLACES * PORTAL_PLACE_WORDS, 0, 0, 4);
+    lend(PLACES * PORTAL_PLACE_WORDS, 0, 0, PORTAL_LINE_BYTES);
     command(9);
     command(9);
     command(8);
@@ -487,13 +496,16 @@ static void lent_tables(void) {
 /* Whether a tree stands in the table: what first and right reach from place 0, level after level. How many nodes it has goes to live. */
 static size_t live;
 
+/* Whether each party of a level is one of another. */
+static int within(uint32_t level, uint32_t other) { return (level & ~other) == 0; }
+
 static int tree_stands(void) {
     static uint32_t queue[PORTAL_MAX_PLACES];
     static uint8_t seen[PORTAL_MAX_PLACES + 1];
     size_t places = table.length / PLACE, next = 0, found = 1;
     memset(seen, 0, sizeof seen);
     if (places == 0 || place(0)[RIGHT] != NONE || place(0)[PARENT] != NONE || place(0)[LEFT] != NONE || place(0)[EXISTENCE] != 0 ||
-        place(0)[CONTENT] > 1 || place(0)[LIST] > 1) {
+        place(0)[CONTENT] > 255 || place(0)[LIST] > 255) {
         return 0;
     }
     queue[0] = 0;
@@ -505,8 +517,8 @@ static int tree_stands(void) {
                 return 0;
             }
             const uint32_t *here = place(x);
-            if (here[PARENT] != up || here[LEFT] != last || here[EXISTENCE] < least || here[EXISTENCE] > place(up)[LIST] ||
-                here[CONTENT] < here[EXISTENCE] || here[LIST] < here[EXISTENCE] || here[CONTENT] > 1 || here[LIST] > 1) {
+            if (here[PARENT] != up || here[LEFT] != last || !within(least, here[EXISTENCE]) || !within(here[EXISTENCE], place(up)[LIST]) ||
+                !within(here[EXISTENCE], here[CONTENT]) || !within(here[EXISTENCE], here[LIST]) || here[CONTENT] > 255 || here[LIST] > 255) {
                 return 0;
             }
             seen[x] = 1;
@@ -524,11 +536,6 @@ static int tree_stands(void) {
 }
 
 static int variables_stand(void) {
-    for (size_t i = 0; i < levels.length; i++) {
-        if (levels.at[i] > 1) {
-            return 0;
-        }
-    }
     return levels.length <= PORTAL_MAX_VARIABLES && values.length == 4 * levels.length;
 }
 
@@ -577,18 +584,18 @@ static void written_by_hand(void) {
     doing = "a tree written by hand";
     put(0, 4);
     put(0xffffffff, 4);
-    put(1, 4);
+    put(0x81, 4);
     put(7, 4);
     node(NONE, 0, 0, 1, 10);
     node(0, 0, 0, 0, 0);
-    node(1, 0, 1, 0, 0xffffffff);
-    node(0, 1, 1, 1, 0);
+    node(1, 0, 0xa0, 0, 0xffffffff);
+    node(0, 1, 3, 5, 0);
     trailer(16, 64);
     static uint8_t expected[72];
     same("the job's length", sizeof expected, (long long)written);
     memcpy(expected, text, written);
     written = 0;
-    static const uint8_t two[2] = {0, 1};
+    static const uint8_t two[2] = {0, 0x81};
     static const int32_t numbers[2] = {-1, 7};
     fill(&table, by_hand, sizeof by_hand, 1);
     fill(&levels, two, sizeof two, 1);
@@ -609,9 +616,6 @@ static void written_by_hand(void) {
         place(0)[CHILDREN] = 3;
         same("a wrong count, and 513 places", PORTAL_BAD_FOLLOW_ON, (long long)write_back(room, 1));
         fill(&table, by_hand, sizeof by_hand, 1);
-        levels.at[1] = 2;
-        same("a level of 2", PORTAL_BAD_FOLLOW_ON, (long long)write_back(room, 1));
-        levels.at[1] = 1;
         cut(&levels, 1, 1);
         same("a level for one of two values", PORTAL_BAD_FOLLOW_ON, (long long)write_back(room, 1));
         fill(&levels, two, sizeof two, 1);
@@ -638,11 +642,17 @@ static uint32_t below(uint32_t n) { return any() % n; }
 /* One in n. */
 static int one_in(uint32_t n) { return below(n) == 0; }
 
+/* A level: often one that others are too. */
+static uint8_t some_set(void) {
+    uint32_t sets[] = {0, 1, 3, 1u << below(8), any(), 255};
+    return (uint8_t)sets[below(6)];
+}
+
 /* A number such as links, counts and levels are, or not. */
 static uint32_t some_number(void) {
     uint32_t near = (uint32_t)(table.length / PLACE) + 1 + below(2);
-    uint32_t numbers[] = {below(4), below(near), near - 1, NONE, NONE, NONE + 1, 256 + below(2), any()};
-    return numbers[below(8)];
+    uint32_t numbers[] = {below(4), below(near), near - 1, NONE, NONE, NONE + 1, 256 + below(2), some_set(), any()};
+    return numbers[below(9)];
 }
 
 /* A job with an empty script, whose tree keeps the rules. Each node hangs below the record before it or above that. */
@@ -650,7 +660,7 @@ static void random_job(size_t vars, size_t nodes) {
     static uint8_t existence[PORTAL_MAX_PLACES], list[PORTAL_MAX_PLACES], last[PORTAL_MAX_PLACES];
     static size_t parent[PORTAL_MAX_PLACES];
     for (size_t i = 0; i < vars; i++) {
-        put(below(2), 4);
+        put(some_set(), 4);
         put(any(), 4);
     }
     for (size_t i = 0; i < nodes; i++) {
@@ -660,10 +670,10 @@ static void random_job(size_t vars, size_t nodes) {
         }
         parent[i] = up;
         uint8_t least = i == 0 ? 0 : last[up], most = i == 0 ? 0 : list[up];
-        existence[i] = last[i] = one_in(3) ? most : least;
-        list[i] = one_in(2) ? 1 : existence[i];
+        existence[i] = last[i] = (uint8_t)(least | (most & some_set()));
+        list[i] = existence[i] | some_set();
         last[up] = existence[i];
-        node(i == 0 ? NONE : (uint32_t)up, existence[i], one_in(3) ? 1 : existence[i], list[i], any());
+        node(i == 0 ? NONE : (uint32_t)up, existence[i], existence[i] | some_set(), list[i], any());
     }
     trailer(8 * vars, 8 * vars + 12 * nodes);
 }
@@ -706,10 +716,13 @@ static void random_script(int vars) {
         }
         if (!reads_expression(number)) {
             command(number);
-            continue;
+        } else {
+            int target = number == 1 ? (int)below((uint32_t)vars) : number == 6 ? some_set() : number == 11 || number == 12 ? (int)below(4) : 0;
+            random_expression(number, target, vars);
         }
-        int target = number == 1 ? (int)below((uint32_t)vars) : number == 11 || number == 12 ? (int)below(4) : 0;
-        random_expression(number, target, vars);
+        if (number == 11 || number == 12 || number == 16) {
+            joins(some_set(), number == 16 ? 0 : some_set());
+        }
     }
     while (open-- > 0 && !one_in(20)) {
         command(5);
@@ -760,12 +773,12 @@ static int random_round(void) {
     cut(&table, 4 * below(one_in(32) ? 513 * PORTAL_PLACE_WORDS + 1 : 4 * PORTAL_PLACE_WORDS + 1), at_end);
     cut(&levels, vars, at_end);
     cut(&values, 4 * (one_in(8) ? below(67) : vars), at_end);
-    cut(&lines, below(13), at_end);
+    cut(&lines, below(16), at_end);
     for (size_t i = 0; i < table.length / 4; i++) {
         place(0)[i] = wild ? any() : some_number();
     }
     for (size_t i = 0; i < levels.length; i++) {
-        levels.at[i] = (uint8_t)(wild ? any() : below(2));
+        levels.at[i] = wild ? (uint8_t)any() : some_set();
     }
     for (size_t i = 0; i < values.length / 4; i++) {
         variables()[i] = (int32_t)any();
@@ -781,7 +794,7 @@ static void change(uint32_t vars, uint32_t nodes, int at_end) {
         break;
     case 1:
         if (vars != 0) {
-            levels.at[below(vars)] = (uint8_t)below(3);
+            levels.at[below(vars)] = some_set();
         }
         break;
     case 2:
@@ -802,7 +815,7 @@ static int changed_round(void) {
     cut(&table, (places <= PORTAL_MAX_PLACES ? places : nodes) * PLACE, at_end);
     cut(&levels, vars, at_end);
     cut(&values, 4 * vars, at_end);
-    cut(&lines, below(13), at_end);
+    cut(&lines, below(16), at_end);
     random_job(vars, nodes);
     give(at_end);
     same("a job's ending", PORTAL_FINISHED, portal_ending(run(start, 1)));

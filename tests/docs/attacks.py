@@ -63,6 +63,8 @@ def board(source):
     done = subprocess.run([program("board")], input=assembled(source), stdout=subprocess.PIPE, stderr=subprocess.PIPE, check=False)
     said, *lines, end = done.stdout.decode().splitlines()
     assert (said, end) == ("board", f"end {len(lines)}"), done.stdout
+    assert all(line.endswith(" 0") for line in lines), done.stdout  # each is for everyone
+    lines = [line.removesuffix(" 0") for line in lines]
     return lines, done.stderr.decode()
 
 

@@ -9,6 +9,7 @@ from support import HOME, assembled, job, program
 
 # "Ways a job can end" of paper 01, and those of paper 02. No job ends with 11, which is for follow-on scripts alone, or 14, for what stands when it is written.
 NUMBERS = [*range(1, 15), 21, 22, 23, 24, 25, 27]
+OF_STORED = 4  # from clean and arrange alone, which keep the rules of their day
 BY_REPLAY = (9, 10)
 OF_SCRIPTS, OF_WRITING = BY_HISTORY = (11, 14)
 
@@ -84,9 +85,9 @@ class Lists(unittest.TestCase):
                          {("PORTAL_FINISHED", 0), *((page.c_name, page.number) for page in PAGES.values())})
 
     def test_names_of_the_programs(self):
-        names = {0: "finished", **{page.number: page.name for page in PAGES.values() if page.number not in BY_HISTORY}}
+        names = {0: "finished", **{page.number: page.name for page in PAGES.values() if page.number not in (OF_STORED, *BY_HISTORY)}}
         found = re.findall(r'^\s*(\d+) => .*b"([^"]+)"', read("crates/inspect/src/names.rt"), re.M)
-        self.assertEqual({int(number): name for number, name in found}, names)
+        self.assertEqual({int(number): name for number, name in found if int(number) != OF_STORED}, names)
         c_names = {"PORTAL_FINISHED": "finished", **{page.c_name: page.name for page in PAGES.values()}}
         found = re.findall(r'case (PORTAL_\w+):\s*return "([^"]+)"', read("include/portal.h"))
         self.assertEqual(dict(found), c_names)
@@ -105,7 +106,7 @@ class Lists(unittest.TestCase):
 class Jobs(unittest.TestCase):
     def test_inspect(self):
         for page in PAGES.values():
-            if page.number in BY_HISTORY + BY_REPLAY:
+            if page.number in (OF_STORED, *BY_HISTORY, *BY_REPLAY):
                 continue
             with self.subTest(page.number):
                 said = page.block("text")
@@ -116,6 +117,15 @@ class Jobs(unittest.TestCase):
                 else:
                     self.assertEqual(said.count("\n"), 4)  # ending, record, steps, lines
                     self.assertEqual("".join(got.splitlines(True)[:4]), said)
+
+    def test_stored(self):
+        """The number that only the programs for stored jobs give; the monitor runs the job."""
+        page = PAGES[f"{OF_STORED:02}.md"]
+        for name in ("clean", "arrange"):
+            done = subprocess.run([program(name)], input=page.job(), stdout=subprocess.PIPE, stderr=subprocess.PIPE, check=False)
+            self.assertEqual((done.stdout, done.stderr.decode()), (b"", page.block("text")))
+        self.assertEqual(page.block("text"), f"refused {OF_STORED} at 0\n")
+        self.assertTrue(answer("inspect", page.job()).startswith("ending 0 finished\n"))
 
     def test_replay(self):
         for page in PAGES.values():

@@ -48,10 +48,11 @@ class Dissected(unittest.TestCase):
 
 class Tables(unittest.TestCase):
     def test_commands(self):
-        rows = re.findall(r"^\| (\d+) \| (`[^`]+`|the end of a block) \| (variable|mark|) ?\| (read|) ?\|$", TEXT, re.M)
+        rows = re.findall(r"^\| (\d+) \| (`[^`]+`|the end of a block) \| (variable|mark|readers|) ?\| (read|) ?\| ([56, ]*)\|$", TEXT, re.M)
         self.assertEqual([int(row[0]) for row in rows], list(range(20)))
-        for (_, words, target, expression), row in zip(rows, job.COMMANDS):
+        for (_, words, target, expression, sets), row in zip(rows, job.COMMANDS):
             self.assertEqual((target, bool(expression)), (row.target, row.expression))
+            self.assertEqual(sets.strip(), ("", "5", "5, 6")[row.sets])
             self.assertTrue(row.words in words or row.words == "end")
 
 
@@ -69,7 +70,7 @@ class FollowOn(unittest.TestCase):
         self.assertIn(f"is these {len(done.bytes)} bytes", TEXT)
         answers = played(assembled("tree\n  resort = 10\n    slope = 3\n"), [done.bytes, done.bytes[1:], bytes(16 * 1025)], 100)
         self.assertEqual([answer[0].split()[1] for answer in answers], ["0", "0", "11", "11"])
-        self.assertIn("line 3", answers[1])
+        self.assertIn("line 3 0", answers[1])
 
     def test_words(self):
         """The words of a place, in the order of the node table."""
@@ -102,13 +103,12 @@ class FollowOn(unittest.TestCase):
         free = 3 - slope
         for name, place, value in (("first", root, 3), ("first", root, root), ("first", slope, slope), ("right", root, slope),
                                    ("right", slope, root), ("right", slope, 3), ("parent", root, root), ("parent", slope, slope), ("children", root, 2),
-                                   ("children", slope, 1), ("existence", root, 1), ("existence", slope, 1), ("content", slope, 2),
-                                   ("list", root, 7), ("left", root, slope), ("left", slope, root), ("left", slope, slope), ("last", root, 65535),
+                                   ("children", slope, 1), ("existence", root, 1), ("existence", slope, 1), ("left", root, slope), ("left", slope, root), ("left", slope, slope), ("last", root, 65535),
                                    ("last", root, root), ("last", slope, slope), ("last", slope, 3)):
             with self.subTest(name, place=place, value=value):
                 self.assertEqual(ending(fields[name], place, value), ["11"])
                 self.assertEqual(ending(fields[name], free, value), ["0"])
-        self.assertEqual((ending(8, 0, 2), ending(8, 0, 1)), (["11"], ["0"]))  # a variable's level
+        self.assertEqual((ending(8, 0, 255), ending(8, 0, 1)), (["0"], ["0"]))  # a variable's level is any set
         self.assertEqual((ending(10, 0, 65), ending(10, 0, 64)), (["11"], ["0"]))  # how many variables
 
 

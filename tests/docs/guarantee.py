@@ -8,7 +8,7 @@ import unittest
 from support import HOME, assembled, job, played, program
 
 TEXT = (HOME / "docs" / "GUARANTEE.md").read_text(encoding="utf-8")
-HOLDS, ENDS, LEAVES = re.findall(r"^```yoke\n(.*?)^```$", TEXT, re.M | re.S)
+HOLDS, PARTIES, ENDS, LEAVES = re.findall(r"^```yoke\n(.*?)^```$", TEXT, re.M | re.S)
 (READS,) = re.findall(r"^```script\n(.*?)^```$", TEXT, re.M | re.S)
 SECRET = re.compile(r"^(.*\S) +# or (none|-?\d+)\n", re.M)
 
@@ -18,9 +18,11 @@ def other(source):
     return SECRET.sub(lambda found: "" if found[2] == "none" else re.sub(r"-?\d+$", found[2], found[1]) + "\n", source)
 
 
-def board(source):
+def board(source, reader=0):
+    """The lines that a reader is handed, and the ending."""
     done = subprocess.run([program("board")], input=assembled(source), stdout=subprocess.PIPE, stderr=subprocess.PIPE, check=False)
-    return done.stdout.decode().splitlines()[1:-1], done.stderr.decode()
+    lines = [line.split() for line in done.stdout.decode().splitlines()[1:-1]]
+    return [number for number, readers in lines if int(readers) & ~reader == 0], done.stderr.decode()
 
 
 class Examples(unittest.TestCase):
@@ -30,6 +32,17 @@ class Examples(unittest.TestCase):
         lines = re.search(r"Both boards\s+say ([-\d, ]+)\.", TEXT).group(1).split(", ")
         for source, count in zip((HOLDS, other(HOLDS)), steps):
             self.assertEqual(board(source), (lines, f"finished steps {count}\n"))
+
+    def test_parties(self):
+        """What each of three parties is handed, with either figure of alpina's."""
+        self.assertEqual(len(SECRET.findall(PARTIES)), 2)
+        buses = re.search(r"is the same: ([-\d, ]+) in both", TEXT).group(1).split(", ")
+        public = re.search(r"The public is handed ([-\d, ]+) in", TEXT).group(1).split(", ")
+        alpina = [found.split(", ") for found in re.search(r"at work: ([-\d, ]+) in the first and ([-\d, ]+) in\s+the second", TEXT).groups()]
+        for source, own in zip((PARTIES, other(PARTIES)), alpina):
+            for reader, lines in ((0, public), (1, public), (2, own), (4, buses), (5, buses)):
+                self.assertEqual(board(source, reader)[0], lines)
+            self.assertTrue(board(source)[1].startswith("finished"))
 
     def test_holds_is_the_witness(self):
         """The records of the pair that is proved to meet the assumptions, as its file spells them."""
@@ -62,7 +75,7 @@ class Examples(unittest.TestCase):
             script = job.parse_script_text(job.Text("GUARANTEE", READS.split("\n")), parsed)
             stopped, finished = played(parsed.job.encode(), [job.encode_script(script.job.records)], 1_000)
             self.assertRegex(stopped[0], r"^ending 22 index \d+ steps \d+ lines 0$")
-            self.assertEqual(finished[:2], ["ending 0 index 0 steps 1 lines 1", f"line {line}"])
+            self.assertEqual(finished[:2], ["ending 0 index 0 steps 1 lines 1", f"line {line} 0"])
 
     def test_leaves_is_what_is_proved(self):
         """The proved pair: the first script stops with 21 in one history alone, and the line behind it differs."""
@@ -112,10 +125,10 @@ class Theorems(unittest.TestCase):
 
     def test_leaks(self):
         """As many loosened rules as are said."""
-        said = re.search(r"^(\w+) loosened rules are kept as wrong edits \((.*?)\)", TEXT, re.M | re.S)
+        said = re.search(r"^([\w-]+) loosened rules are kept as wrong edits \((.*?)\)", TEXT, re.M | re.S)
         found = [path for pattern in re.findall(r"`([^`]+)`", said[2]) for path in HOME.glob(pattern)]
-        words = ["Twelve", "Thirteen", "Fourteen", "Fifteen", "Sixteen", "Seventeen", "Eighteen"]
-        self.assertEqual(len(found), words.index(said[1]) + 12)
+        words = ["Twenty", "Twenty-one", "Twenty-two", "Twenty-three", "Twenty-four", "Twenty-five", "Twenty-six"]
+        self.assertEqual(len(found), words.index(said[1]) + 20)
 
 
 if __name__ == "__main__":
