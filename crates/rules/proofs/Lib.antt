@@ -32,6 +32,7 @@ pub mod Relocate
 pub mod Alike
 pub mod Lockstep
 pub mod Runs
+pub mod Steps
 pub mod Lines
 pub mod ByPlace
 pub mod Loaded
