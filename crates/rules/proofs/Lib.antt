@@ -69,3 +69,5 @@ pub mod HistoryTrials
 pub mod Written
 pub mod WriteTrials
 pub mod Summary
+pub mod Rounds
+pub mod RoundsTrials

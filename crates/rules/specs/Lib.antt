@@ -19,5 +19,6 @@ pub mod Covered
 pub mod Clean
 pub mod Arrange
 pub mod Write
+pub mod Rounds
 pub mod Trials
 pub mod Summary

@@ -105,3 +105,15 @@ badOrder = 13
 -- 14: the output area
 abbrev pub badArea : ℕ
 badArea = 14
+
+-- 15: no place for a newcomer
+abbrev pub noPlace : ℕ
+noPlace = 15
+
+-- "Up to eight runs" take turns
+abbrev pub maxRuns : ℕ
+maxRuns = 8
+
+-- "each of 5,000 steps"
+abbrev pub turnSteps : ℕ
+turnSteps = 5000
