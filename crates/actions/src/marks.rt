@@ -26,6 +26,14 @@ fn wide(x: u16) -> usize
     x as usize
 }
 
+// No block remembers a node; what stands behind the count is not read then.
+pub fn clear(marks: &mut [u16])
+    requires { ⌜ marksSize ≤ length (now marks) ⌝ }
+    ensures { λ _. ⌜ now (marks .exit) ≡ set (now (marks .entry)) countAt 0 ⌝ }
+{
+    marks[COUNT] = 0;
+}
+
 // Whether any block remembers a node.
 pub fn any(marks: &[u16]) -> bool
     requires { ⌜ marksSize ≤ length (now marks) ⌝ }

@@ -5,7 +5,7 @@ pub mod Started
 pub mod Answered
 pub mod Secret
 pub mod Passed
-pub mod Rooted
+pub mod Begins
 pub mod Followed
 pub mod Taken
 pub mod Histories

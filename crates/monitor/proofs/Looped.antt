@@ -2,7 +2,7 @@
 -- Assumes nothing.
 use mathlib.Core.Path.{_≡_, refl, sym, _∙_, ap, subst}
 use mathlib.Core.Bool.{Bool, true, false, cond}
-use mathlib.Core.List.{List, [], _∷_}
+use mathlib.Core.List.{List}
 use Prim.Native.Nat.{ℕ, zero, suc, _+_, _-_, _*_, _/_, _^_, _<_, _≤_}
 use native.Mathlib.Omega.{arith}
 use lib.ListN.{length, drop}
@@ -12,12 +12,11 @@ use lib.IntN.{ℤ}
 use borrow.Author.Tests.{lt-ltb, le-ltb, eq-eqb, eqb-true, ltb-true, ltb-false}
 use Rattle.rules.specs.Job.{scriptFrom}
 use Rattle.rules.proofs.Starts.{section-sets}
-use Rattle.rules.specs.Script.{Command, act}
-use Rattle.rules.specs.Run as Rules
-use Rattle.rules.specs.Run.{State, Block, Buffers, Result, next, stop, Stop, spent, stopNumber, Ending, finished, stopped, Ended, onward, leaveBlock, carried, step, run}
+use Rattle.rules.specs.Run.{State, Buffers, Result, next, stop, stopNumber, step, run}
 use Rattle.rules.proofs.Tests.{Test, holds, fails, test}
 use Rattle.rules.proofs.Runs.{run-spent, run-over, run-next, run-stop}
-use Rattle.rules.proofs.Results.{Good, good-given, good-next}
+use Rattle.rules.proofs.Results.{good-next}
+use Rattle.rules.proofs.Steps.{next-counts}
 use Rattle.rules.proofs.Control.{Closed, Valid, step-valid}
 use Rattle.rules.proofs.Decode.{listed-length}
 use Rattle.actions.specs.declared.control.Running.{Running}
@@ -28,7 +27,7 @@ use Rattle.actions.specs.Stands.{Stands, ended, stepped}
 use Rattle.monitor.specs.Steps.{Held, scriptIn, Script, Safe, Lent, Steps, Carries, overAt, codeOf, Ran, Runs, Comes, Reached, Startable, Turns}
 use Rattle.actions.proofs.Doing.{kept-refl, stop-number}
 
-kept-trans : {places vars : ℕ} {x y z : Slices} {k m n : ℕ} → Kept places vars x y k m → Kept places vars y z m n → Kept places vars x z k n
+pub kept-trans : {places vars : ℕ} {x y z : Slices} {k m n : ℕ} → Kept places vars x y k m → Kept places vars y z m n → Kept places vars x z k n
 kept-trans {x = x} {y = y} {k = k} {m = m} {n = n} a b =
     record {
       grown = omega (arith, a .grown, b .grown);
@@ -43,36 +42,8 @@ kept-trans {x = x} {y = y} {k = k} {m = m} {n = n} a b =
         let e : 5 * n ≡ 5 * m + 5 * (n - m) = omega (arith, b .grown) in
         rw (e, ← drop-drop (5 * (n - m)) (5 * m) (y .board), ← drop-drop (5 * (n - m)) (5 * m) (x .board), a .board)
 
--- a step that goes on counts one
-module _ (lent : Buffers) (s : State) where
-  abbrev Counts : State → Type 0
-  Counts s′ = s′ .steps ≡ suc (s .steps)
-
-  counts-action : (bs : List Block) (i : ℕ) (r : Result Rules.Memory) → Good Counts (onward s bs i r)
-  unfolding onward Rules.stepped
-  counts-action bs i (next m) = refl
-  counts-action bs i (stop k) = tt
-
-  counts-leave : (j : ℕ) (bs : List Block) → Good Counts (leaveBlock s j bs)
-  unfolding leaveBlock Rules.stepped
-  counts-leave j [] = refl
-  counts-leave j (b ∷ bs) = counts-action bs j _
-
-  counts-command : (j : ℕ) (c : Command) → Good Counts (carried s lent j c)
-  unfolding carried Rules.stepped Rules.enterIf Rules.enterWhile Rules.enterBack
-  counts-command j (act a) = counts-action _ _ _
-  counts-command j (Command.if e) = good-given Counts _ _ (λ z. refl)
-  counts-command j (Command.while e) = good-given Counts _ _ (λ z. refl)
-  counts-command j (Command.ifBack e) = good-given Counts _ _ (λ z. refl)
-  counts-command j Command.else = refl
-  counts-command j Command.end = counts-leave j (s .blocks)
-
-  counts : (cs : List Command) → Good Counts (step lent cs s)
-  unfolding step
-  counts cs = counts-command _ _
-
 module _ (h : Held) (sc : Script h) where
-  closed : Closed (scriptIn h)
+  pub closed : Closed (scriptIn h)
   unfolding scriptFrom
   closed = record { blocks = rw (listed-length _ (h .records) 0) (sc .blocks); sets = section-sets (h .bytes) (h .base) (h .records) }
 
@@ -96,10 +67,11 @@ module _ (h : Held) (sc : Script h) where
       }
 
   -- the script is over
-  finishes : (x : Slices) (ks : List ℕ) (r : Running) → h .records ≤ r .at → Runs h x x ks ks r (stepped ended r)
+  finishes : (x : Slices) (ks : List ℕ) (r : Running) → Safe h x ks r → h .records ≤ r .at → Runs h x x ks ks r (stepped ended r)
   unfolding codeOf
-  finishes x ks r o =
+  finishes x ks r sf o =
       record {
+        safe = sf;
         early = omega arith;
         kept = kept-refl;
         runs = λ lent s l v st.
@@ -107,10 +79,11 @@ module _ (h : Held) (sc : Script h) where
       }
 
   -- the budget is used up
-  spends : (x : Slices) (ks : List ℕ) (r : Running) → r .left ≡ 0 → r .at < h .records → Runs h x x ks ks r (stepped 25 r)
+  spends : (x : Slices) (ks : List ℕ) (r : Running) → Safe h x ks r → r .left ≡ 0 → r .at < h .records → Runs h x x ks ks r (stepped 25 r)
   unfolding codeOf stopNumber
-  spends x ks r z o =
+  spends x ks r sf z o =
       record {
+        safe = sf;
         early = omega arith;
         kept = kept-refl;
         runs = λ lent s l v st.
@@ -120,13 +93,13 @@ module _ (h : Held) (sc : Script h) where
       }
 
   -- all steps are made, and the script may be over too
-  stands-still : (x : Slices) (ks : List ℕ) (r : Running) → r .left ≡ 0 → Runs h x x ks ks r (stepped (overAt (r .at) (h .records)) r)
+  stands-still : (x : Slices) (ks : List ℕ) (r : Running) → Safe h x ks r → r .left ≡ 0 → Runs h x x ks ks r (stepped (overAt (r .at) (h .records)) r)
   unfolding overAt
-  stands-still x ks r z = pick (test (ltb (r .at) (h .records)))
+  stands-still x ks r sf z = pick (test (ltb (r .at) (h .records)))
     where
       pick : Test (ltb (r .at) (h .records)) → Runs h x x ks ks r (stepped (overAt (r .at) (h .records)) r)
-      pick (holds e) = rw e (spends x ks r z (ltb-true (r .at) (h .records) e))
-      pick (fails e) = rw e (finishes x ks r (ltb-false (r .at) (h .records) e))
+      pick (holds e) = rw e (spends x ks r sf z (ltb-true (r .at) (h .records) e))
+      pick (fails e) = rw e (finishes x ks r sf (ltb-false (r .at) (h .records) e))
 
   over-stops : (r : Running) → overAt (r .at) (h .records) ≡ 0 → ⊥
   unfolding overAt
@@ -152,7 +125,7 @@ module _ (h : Held) (sc : Script h) where
           pick : (k : Result State) → step lent (scriptIn h) s ≡ k → Does (Stands (h .places) (h .vars) x′ ks′ (a .running)) (a .stop) s k
               → Comes h lent (s .steps + r .left) (run lent (scriptIn h) (r .left) s) x′ ks′ (a .running)
           pick (next s′) w k =
-              let one = good-next (Counts lent s) _ s′ w (counts lent s (scriptIn h)) in
+              let one = next-counts lent (scriptIn h) s s′ w in
               record {
                 s = s′;
                 valid = good-next (Valid (scriptIn h)) _ s′ w (step-valid lent (scriptIn h) closed s v here);
@@ -187,7 +160,7 @@ module _ (h : Held) (sc : Script h) where
                 comes = λ lent s l v st. comes lent s l v st z;
               };
           later = λ z. omega (arith, t .counted z, some);
-          ends = λ z. record { early = omega (arith, t .uncounted z); kept = t .kept; runs = λ lent s l v st. halts lent s l v st z };
+          ends = λ z. record { safe = t .safe; early = omega (arith, t .uncounted z); kept = t .kept; runs = λ lent s l v st. halts lent s l v st z };
         }
 
   -- a turn that has ended the run
@@ -195,12 +168,12 @@ module _ (h : Held) (sc : Script h) where
   ended-turn n d = record { goes = λ z. absurd (n z); later = λ z. absurd (n z); ends = λ _. d }
 
   -- a turn with no step left
-  pub still-turn : {x : Slices} {ks : List ℕ} {r : Running} {a : Stepped} → a ≡ stepped (overAt (r .at) (h .records)) r → r .left ≡ 0 → Turns h x x ks ks r a
-  still-turn {x} {ks} {r} e o = subst (Turns h x x ks ks r) (sym e) (ended-turn (over-stops r) (stands-still x ks r o))
+  pub still-turn : {x : Slices} {ks : List ℕ} {r : Running} {a : Stepped} → Safe h x ks r → a ≡ stepped (overAt (r .at) (h .records)) r → r .left ≡ 0 → Turns h x x ks ks r a
+  still-turn {x} {ks} {r} sf e o = subst (Turns h x x ks ks r) (sym e) (ended-turn (over-stops r) (stands-still x ks r sf o))
 
   -- a turn that carried out what came next
-  pub carried-turn : {x x′ : Slices} {ks ks′ : List ℕ} {r : Running} {a : Stepped} → 0 < r .left → Carries h x x′ ks ks′ r a → Turns h x x′ ks ks′ r a
-  carried-turn {x} {x′} {ks} {ks′} {r} {a} some c = pick (test (ltb (r .at) (h .records)))
+  pub carried-turn : {x x′ : Slices} {ks ks′ : List ℕ} {r : Running} {a : Stepped} → Safe h x ks r → 0 < r .left → Carries h x x′ ks ks′ r a → Turns h x x′ ks ks′ r a
+  carried-turn {x} {x′} {ks} {ks′} {r} {a} sf some c = pick (test (ltb (r .at) (h .records)))
     where
       pick : Test (ltb (r .at) (h .records)) → Turns h x x′ ks ks′ r a
       pick (holds e) = let i = ltb-true (r .at) (h .records) e in step-turn i some (c .steps i)
@@ -208,7 +181,7 @@ module _ (h : Held) (sc : Script h) where
           let o = ltb-false (r .at) (h .records) e in
           subst (λ z. Turns h x z ks ks′ r a) (sym (c .ends o .0))
           (subst (λ z. Turns h x x ks z r a) (sym (c .ends o .1))
-          (subst (Turns h x x ks ks r) (sym (c .ends o .2)) (ended-turn (λ z. omega (arith, z)) (finishes x ks r o))))
+          (subst (Turns h x x ks ks r) (sym (c .ends o .2)) (ended-turn (λ z. omega (arith, z)) (finishes x ks r sf o))))
 
 -- what was reached from there was reached from the start
 module _ {h : Held} {x₀ x : Slices} {k₀ ks : List ℕ} {r₀ r : Running} (d : Reached h x₀ k₀ r₀ x ks r) where
@@ -231,6 +204,7 @@ module _ {h : Held} {x₀ x : Slices} {k₀ ks : List ℕ} {r₀ r : Running} (d
   pub at-last : {x′ : Slices} {ks′ : List ℕ} {a : Stepped} → Runs h x x′ ks ks′ r a → Runs h x₀ x′ k₀ ks′ r₀ a
   at-last {x′} {ks′} {a} t =
       record {
+        safe = t .safe;
         early = omega (arith, d .early, t .early);
         kept = kept-trans (d .kept) (t .kept);
         runs = λ lent s l v st.

@@ -31,7 +31,7 @@ use Rattle.monitor.specs.declared.step.Frame.{Frame}
 use Rattle.monitor.specs.declared.entry.Outcome.{Outcome}
 use Rattle.monitor.specs.Steps.{held, Script, Lent}
 use Rattle.monitor.specs.Promises.{told, Tree, Ran}
-use Rattle.monitor.specs.Starting.{Loading, VariablesLoaded, Begun, asLent, Left}
+use Rattle.monitor.specs.Starting.{frameOf, Loading, VariablesLoaded, Room, JobLoaded, Begun, asLent, Left}
 use Rattle.monitor.specs.FromRoot.{Rooted, FromRoot}
 
 -- one variable more
@@ -55,15 +55,31 @@ module _ (b : List ℕ) (i : ℕ) (levels₀ levels : List ℕ) (values₀ value
         value-at k q (yes e) = rw e (getD-set-same values i v (pos 0) c ∙ ve)
         value-at k q (no e) = getD-set-other values i k v (pos 0) e ∙ h .value k (omega arith)
 
--- the frame of a layout
-abbrev pub frame : Layout → ℕ → Frame
-frame l places = record { script = l .script; records = l .records; vars = l .variables; places = places }
+-- the variables and the tree of an accepted job
+module _ (b : List ℕ) (ok : checkBytes b ≡ Check.accepted) (words words′ levels levels′ : List ℕ) (values values′ : List ℤ)
+    (vl : VariablesLoaded b (variableCount b) levels levels′ values values′) (tl : Loaded b (nodesAt b) (nodeCount b) (cells words′))
+    (bl : Behind (nodeCount b) (cells words) (cells words′)) where
+  pub loaded : JobLoaded b words words′ levels levels′ values values′
+  unfolding variables variableAt layoutOf jobTree Loaded
+  loaded =
+      record {
+        variables =
+            record {
+              many = listed-length _ (variableCount b) 0;
+              level = λ i q. ap (λ w. w .level) (listed-from-zero (λ (k : ℕ). variableOf b (variablePlace k)) noVariable (variableCount b) i q) ∙ sym (vl .level i q);
+              value = λ i q. ap (λ w. w .value) (listed-from-zero (λ (k : ℕ). variableOf b (variablePlace k)) noVariable (variableCount b) i q) ∙ sym (vl .value i q);
+            };
+        spare-levels = vl .spare-levels;
+        spare-values = vl .spare-values;
+        tree = λ places n m. tl (right b ok .parents) places n m;
+        behind = bl;
+      }
 
 module _ (b plan : List ℕ) (budget : ℕ) (x : Slices) (places : ℕ) (ok : checkBytes b ≡ Check.accepted) (g : Begun b (layoutOf b) plan budget x places) where
   r : Right b
   r = right b ok
 
-  scripted : recordCount b < length plan → Script (held b plan (frame (layoutOf b) places))
+  scripted : recordCount b < length plan → Script (held b plan (frameOf (layoutOf b) places))
   unfolding layoutOf scriptBy
   scripted long =
       let s = sections b (r .offsets) in
@@ -77,7 +93,7 @@ module _ (b plan : List ℕ) (budget : ℕ) (x : Slices) (places : ℕ) (ok : ch
       }
 
   pub rooted : (x₁ : Slices) → length (x₁ .words) ≡ length (x .words) → length (x₁ .levels) ≡ length (x .levels) → length (x₁ .values) ≡ length (x .values)
-      → Rooted (held b plan (frame (layoutOf b) places)) x₁ budget
+      → Rooted (held b plan (frameOf (layoutOf b) places)) x₁ budget
   unfolding layoutOf
   rooted x₁ e e₁ e₂ =
       let n = counts _ _ _ (r .counts) in
@@ -93,40 +109,29 @@ module _ (b plan : List ℕ) (budget : ℕ) (x : Slices) (places : ℕ) (ok : ch
       }
 
   -- the slices after loading, and after the run
-  module _ (x₁ x₂ : Slices) (vl : VariablesLoaded b (variableCount b) (x .levels) (x₁ .levels) (x .values) (x₁ .values))
-      (tl : Loaded b (nodesAt b) (nodeCount b) (cells (x₁ .words))) (bl : Behind (nodeCount b) (cells (x .words)) (cells (x₁ .words)))
-      (board : x₁ .board ≡ x .board) (o : Outcome)
-      (run-of : FromRoot (held b plan (frame (layoutOf b) places)) (nodeCount b) gone budget x₁ x₂ o) where
-    shown-variables : Variables (x₁ .levels) (x₁ .values) (variableCount b) (variables b)
-    unfolding variables variableAt
-    shown-variables =
-        record {
-          many = listed-length _ (variableCount b) 0;
-          level = λ i q. ap (λ w. w .level) (listed-from-zero (λ (k : ℕ). variableOf b (variablePlace k)) noVariable (variableCount b) i q) ∙ sym (vl .level i q);
-          value = λ i q. ap (λ w. w .value) (listed-from-zero (λ (k : ℕ). variableOf b (variablePlace k)) noVariable (variableCount b) i q) ∙ sym (vl .value i q);
-        }
-
+  module _ (x₁ x₂ : Slices) (ld : JobLoaded b (x .words) (x₁ .words) (x .levels) (x₁ .levels) (x .values) (x₁ .values)) (board : x₁ .board ≡ x .board)
+      (o : Outcome) (run-of : FromRoot (held b plan (frameOf (layoutOf b) places)) (nodeCount b) gone budget x₁ x₂ o) where
     loaded-tree : Holds (cells (x₁ .words)) places (nodeCount b) gone 0 (jobTree b) root
-    unfolding layoutOf jobTree Loaded
-    loaded-tree = tl (r .parents) places (g .nodes) (g .few)
+    unfolding layoutOf
+    loaded-tree = ld .tree places (g .nodes) (g .few)
 
     module _ (given : Buffers) (gp : given .places ≡ places) (gb : given .lines ≡ capacity (x .board)) where
-      lent-so : Lent (held b plan (frame (layoutOf b) places)) x₁ given
+      lent-so : Lent (held b plan (frameOf (layoutOf b) places)) x₁ given
       lent-so = record { places = gp; board = gb ∙ ap capacity (sym board) }
 
       outcome : o ≡ told (Rules.ran (run given (script b) budget (begin b)))
       unfolding layoutOf scriptBy begin
-      outcome = run-of .outcome given (variables b) (jobTree b) lent-so (begin-valid b (loads b ok)) shown-variables loaded-tree
+      outcome = run-of .outcome given (variables b) (jobTree b) lent-so (begin-valid b (loads b ok)) (ld .variables) loaded-tree
 
       leaves : Ran Tree (variableCount b) places (asLent x) (asLent x₂) (run given (script b) budget (begin b))
       unfolding layoutOf scriptBy begin
       leaves =
-          let k = run-of .leaves given (variables b) (jobTree b) lent-so (begin-valid b (loads b ok)) shown-variables loaded-tree in
+          let k = run-of .leaves given (variables b) (jobTree b) lent-so (begin-valid b (loads b ok)) (ld .variables) loaded-tree in
           record {
             board = k .board ∙ ap (written _) board;
             variables = k .variables;
-            spare-levels = λ j q. k .spare-levels j q ∙ vl .spare-levels j q;
-            spare-values = λ j q. k .spare-values j q ∙ vl .spare-values j q;
+            spare-levels = λ j q. k .spare-levels j q ∙ ld .spare-levels j q;
+            spare-values = λ j q. k .spare-values j q ∙ ld .spare-values j q;
             tree = k .tree;
           }
 
@@ -135,35 +140,47 @@ module _ (b plan : List ℕ) (budget : ℕ) (x : Slices) (places : ℕ) (ok : ch
     left =
         record {
           outcome = λ given gp gb. outcome given gp gb;
-          behind = record { same = λ y h. run-of .behind .same y h ∙ bl .same y (omega (arith, g .nodes, h)) };
+          behind = record { same = λ y h. run-of .behind .same y h ∙ ld .behind .same y (omega (arith, g .nodes, h)) };
           leaves = λ given gp gb. leaves given gp gb;
         }
 
--- the same for a layout that is the job's: what the functions called ask for, and what they leave
-module _ (b plan : List ℕ) (budget : ℕ) (x : Slices) (places : ℕ) (l : Layout) (g : Begun b l plan budget x places) where
-  here : Begun b (layoutOf b) plan budget x places
-  here = subst (λ (k : Layout). Begun b k plan budget x places) (g .layout) g
+-- the same for a layout that is the job's: what loading asks for, and what it leaves
+module _ (b : List ℕ) (l : Layout) (words levels : List ℕ) (values : List ℤ) (g : Room b l words levels values) where
+  here : Room b (layoutOf b) words levels values
+  here = subst (λ (k : Layout). Room b k words levels values) (g .layout) g
 
-  pub loading : Loading b (x .levels) (x .values) (l .variables)
+  pub loading : Loading b levels values (l .variables)
   unfolding layoutOf
   loading =
       let s = sections b (right b (g .accepted) .offsets) in
       rw (g .layout) (record { inside = omega (arith, s .variables, s .nodes, s .records); levelled = here .levelled; valued = here .valued })
 
-  pub loadable : Loadable b (x .words) (l .tree) (l .nodes)
+  pub loadable : Loadable b words (l .tree) (l .nodes)
   unfolding layoutOf
   loadable =
       let s = sections b (right b (g .accepted) .offsets) in
       let n = counts _ _ _ (right b (g .accepted) .counts) in
-      rw (g .layout)
-      (record { whole = omega (arith, s .nodes, s .records); long = omega (arith, here .words, here .nodes); some = n .some; few = n .nodes })
+      rw (g .layout) (record { whole = omega (arith, s .nodes, s .records); long = omega (arith, here .tabled); some = n .some; few = n .nodes })
 
-  pub rooted-at : (x₁ : Slices) → length (x₁ .words) ≡ length (x .words) → length (x₁ .levels) ≡ length (x .levels) → length (x₁ .values) ≡ length (x .values)
-      → Rooted (held b plan (frame l places)) x₁ budget
-  rooted-at = rw (g .layout) (rooted b plan budget x places (g .accepted) here)
-
-  pub left-of : (x₁ x₂ : Slices) → VariablesLoaded b (l .variables) (x .levels) (x₁ .levels) (x .values) (x₁ .values)
-      → Loaded b (l .tree) (l .nodes) (cells (x₁ .words)) → Behind (l .nodes) (cells (x .words)) (cells (x₁ .words)) → x₁ .board ≡ x .board → (o : Outcome)
-      → FromRoot (held b plan (frame l places)) (l .nodes) gone budget x₁ x₂ o → Left b budget places x x₂ o
+  pub loaded-by : (words′ levels′ : List ℕ) (values′ : List ℤ) → VariablesLoaded b (l .variables) levels levels′ values values′
+      → Loaded b (l .tree) (l .nodes) (cells words′) → Behind (l .nodes) (cells words) (cells words′) → JobLoaded b words words′ levels levels′ values values′
   unfolding layoutOf
-  left-of = rw (g .layout) (left b plan budget x places (g .accepted) here)
+  loaded-by words′ levels′ values′ = rw (g .layout) (loaded b (g .accepted) words words′ levels levels′ values values′)
+
+-- what a run that begins so asks for, and what it leaves
+module _ (b plan : List ℕ) (budget : ℕ) (x : Slices) (places : ℕ) (l : Layout) (g : Begun b l plan budget x places) where
+  begun : Begun b (layoutOf b) plan budget x places
+  begun = subst (λ (k : Layout). Begun b k plan budget x places) (g .layout) g
+
+  pub roomy : Room b l (x .words) (x .levels) (x .values)
+  roomy = record { accepted = g .accepted; layout = g .layout; tabled = omega (arith, g .words, g .nodes); levelled = g .levelled; valued = g .valued }
+
+  module _ (f : Frame) (framed : f ≡ frameOf l places) where
+    pub rooted-at : (x₁ : Slices) → length (x₁ .words) ≡ length (x .words) → length (x₁ .levels) ≡ length (x .levels) → length (x₁ .values) ≡ length (x .values)
+        → Rooted (held b plan f) x₁ budget
+    rooted-at = rw (framed, g .layout) (rooted b plan budget x places (g .accepted) begun)
+
+    pub left-of : (x₁ x₂ : Slices) → JobLoaded b (x .words) (x₁ .words) (x .levels) (x₁ .levels) (x .values) (x₁ .values) → x₁ .board ≡ x .board → (o : Outcome)
+        → FromRoot (held b plan f) (l .nodes) gone budget x₁ x₂ o → Left b budget places x x₂ o
+    unfolding layoutOf
+    left-of = rw (framed, g .layout) (left b plan budget x places (g .accepted) begun)

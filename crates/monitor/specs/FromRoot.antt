@@ -1,6 +1,6 @@
 -- What a run from the root promises, over a table and variables that stand already. Assumes nothing.
 use mathlib.Core.Path.{_≡_}
-use mathlib.Core.List.{List}
+use mathlib.Core.List.{List, []}
 use Prim.Native.Nat.{ℕ, _*_, _<_, _≤_}
 use lib.ListN.{length}
 use Rattle.rules.specs.Limits.{maxNodes, maxRecords, maxBudget}
@@ -12,11 +12,24 @@ use Rattle.rules.proofs.Control.{Valid}
 use Rattle.table.specs.Cells.{cellSize, cells}
 use Rattle.table.specs.Holds.{Holds}
 use Rattle.table.specs.Promises.{Behind}
+use Rattle.actions.specs.declared.guards.Guards.{Guards}
+use Rattle.actions.specs.declared.control.Running.{Running}
+use Rattle.actions.specs.Guards.{Holds as Guarded}
 use Rattle.actions.specs.Shows.{Slices, Variables}
 use Rattle.monitor.specs.declared.entry.Outcome.{Outcome}
 use Rattle.monitor.specs.Steps.{Held, scriptIn, Script, Lent}
 use Rattle.monitor.specs.Promises.{told, Tree, Ran}
 use Rattle.monitor.specs.Starting.{asLent}
+
+-- the record that a run starts from
+abbrev pub rootOf : ℕ → ℕ → ℕ → Guards → Running
+rootOf used free budget g =
+    record { memory = record { cursor = 0; level = 0; lines = 0; free = free; used = used }; guards = g; at = 0; left = budget }
+
+-- it has no open block
+pub record AtRoot (used free budget : ℕ) (r : Running) : Type 0 where
+  pub is : r ≡ rootOf used free budget (r .guards)
+  pub blockless : Guarded (r .guards) []
 
 -- a script with its plan, a budget, and slices that are long enough
 pub record Rooted (h : Held) (x : Slices) (budget : ℕ) : Type 0 where

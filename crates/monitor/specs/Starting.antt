@@ -7,10 +7,11 @@ use lib.ListN.{length, getD}
 use lib.IntN.{ℤ, pos}
 use lib.Dec.{eqb, leb}
 use Rattle.rules.specs.Limits.{maxNodes, maxBudget, variableSize}
-use Rattle.rules.specs.Bytes.{variablePlace, variableCount, scriptAt, recordCount}
+use Rattle.rules.specs.Bytes.{variablePlace, variableCount, nodeCount, scriptAt, recordCount}
 use Rattle.rules.specs.Check as Check
 use Rattle.rules.specs.Check.{checkBytes, code}
-use Rattle.rules.specs.Job.{variableOf, script}
+use Rattle.rules.specs.Job.{variableOf, variables, jobTree, script}
+use Rattle.rules.specs.Tree.{root}
 use Rattle.rules.specs.Run.{Buffers, run}
 use Rattle.rules.specs.Outcome as Rules
 use Rattle.rules.specs.Outcome.{checkJob, begin}
@@ -19,13 +20,15 @@ use Rattle.job.specs.declared.checks.Checked.{Checked}
 use Rattle.job.specs.Layout.{layoutOf}
 use Rattle.job.specs.Plan.{Whole}
 use Rattle.job.specs.Answer.{answer}
-use Rattle.table.specs.Cells.{cellSize, cells}
+use Rattle.table.specs.Cells.{cellSize, cells, gone}
+use Rattle.table.specs.Holds.{Holds}
 use Rattle.table.specs.Promises.{Behind}
 use Rattle.actions.specs.declared.control.Stepped.{Stepped}
+use Rattle.monitor.specs.declared.step.Frame.{Frame}
 use Rattle.monitor.specs.declared.entry.Outcome.{Outcome}
 use Rattle.monitor.specs.declared.entry.Outcome.the-variants.{Finished, Stopped}
 use Rattle.actions.specs.Board.{capacity}
-use Rattle.actions.specs.Shows.{Slices}
+use Rattle.actions.specs.Shows.{Slices, Variables}
 use Rattle.actions.specs.Stands.{ended}
 use Rattle.monitor.specs.Steps.{Planned}
 use Rattle.monitor.specs.Promises.{told, Lent, lent, Tree, Ran}
@@ -48,6 +51,26 @@ pub record VariablesLoaded (b : List ℕ) (n : ℕ) (levels levels′ : List ℕ
   pub value : (i : ℕ) → i < n → getD values′ i (pos 0) ≡ variableOf b (variablePlace i) .value
   pub spare-levels : (i : ℕ) → n ≤ i → getD levels′ i 0 ≡ getD levels i 0
   pub spare-values : (i : ℕ) → n ≤ i → getD values′ i (pos 0) ≡ getD values i (pos 0)
+
+-- the frame of a layout, with a table of some places
+abbrev pub frameOf : Layout → ℕ → Frame
+frameOf l places = record { script = l .script; records = l .records; vars = l .variables; places = places }
+
+-- an accepted job with its layout, and slices with room for its variables and nodes
+pub record Room (b : List ℕ) (l : Layout) (words levels : List ℕ) (values : List ℤ) : Type 0 where
+  pub accepted : checkBytes b ≡ Check.accepted
+  pub layout : l ≡ layoutOf b
+  pub tabled : cellSize * l .nodes ≤ length words
+  pub levelled : l .variables ≤ length levels
+  pub valued : l .variables ≤ length values
+
+-- a job's variables and tree were loaded, the tree into any number of places, and what is beyond them stays
+pub record JobLoaded (b words words′ levels levels′ : List ℕ) (values values′ : List ℤ) : Type 0 where
+  pub variables : Variables levels′ values′ (variableCount b) (variables b)
+  pub spare-levels : (i : ℕ) → variableCount b ≤ i → getD levels′ i 0 ≡ getD levels i 0
+  pub spare-values : (i : ℕ) → variableCount b ≤ i → getD values′ i (pos 0) ≡ getD values i (pos 0)
+  pub tree : (places : ℕ) → nodeCount b ≤ places → places ≤ maxNodes → Holds (cells words′) places (nodeCount b) gone 0 (jobTree b) root
+  pub behind : Behind (nodeCount b) (cells words) (cells words′)
 
 -- check 10 by numbers: nodes and variables of a job, places and room for variables of the buffers
 unfoldable pub bufferTest : ℕ → ℕ → ℕ → ℕ → Bool

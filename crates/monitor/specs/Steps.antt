@@ -109,8 +109,9 @@ pub record Ran (h : Held) (x′ : Slices) (k′ : List ℕ) (a : Stepped) (total
   pub last : Stands (h .places) (h .vars) x′ k′ (a .running) (e .last)
   pub steps : e .last .steps + a .running .left ≡ total
 
--- a whole run, with the steps that are left as its budget
+-- a whole run, with the steps that are left as its budget; it can be gone on with from where it stands
 pub record Runs (h : Held) (x x′ : Slices) (k k′ : List ℕ) (r : Running) (a : Stepped) : Type 0 where
+  pub safe : Safe h x′ k′ (a .running)
   pub early : a .running .left ≤ r .left
   pub kept : Kept (h .places) (h .vars) x x′ (r .memory .lines) (a .running .memory .lines)
   pub runs : (lent : Buffers) (s : State) → Lent h x lent → Valid (scriptIn h) s → Stands (h .places) (h .vars) x k r s

@@ -19,7 +19,7 @@ ghost use Rattle.table.specs.Promises.{Behind};
 ghost use Rattle.rules.specs.Outcome.{budgetRule};
 ghost use Rattle.actions.specs.Shows.{slices};
 ghost use Rattle.monitor.specs.Promises.{lent, placesIn, placesFor, Tree, Promises, PromisesLines};
-ghost use Rattle.monitor.specs.Starting.{bufferTest, Loading, VariablesLoaded, AdmitsJob, Begun, Left};
+ghost use Rattle.monitor.specs.Starting.{bufferTest, frameOf, Loading, VariablesLoaded, Room, JobLoaded, AdmitsJob, Begun, Left};
 
 // What becomes of a job: turned back with a number and an index; or run, to its end or to a stop with its number and record.
 pub enum Outcome {
@@ -49,6 +49,28 @@ fn load_variables(job: &[u8], vars: usize, levels: &mut [u8], values: &mut [i32]
         levels[i] = job::variables::level_at(job, i);
         values[i] = job::variables::value_at(job, i);
         i += 1;
+    }
+}
+
+// The variables and the tree of an accepted job, into slices that have room for them.
+pub fn load(job: &[u8], l: Layout, words: &mut [u32], levels: &mut [u8], values: &mut [i32])
+    requires { ⌜ Room (now job) l (now words) (now levels) (now values) ⌝ }
+    ensures { λ _. ⌜ JobLoaded (now (job .entry)) (now (words .entry)) (now (words .exit)) (now (levels .entry)) (now (levels .exit))
+        (now (values .entry)) (now (values .exit)) ⌝ }
+{
+    load_variables(job, l.variables, levels, values);
+    records::load(job, l.tree, l.nodes, words);
+}
+
+// What a run of a job reads of its layout, with a table of some places.
+pub fn frame_of(l: Layout, places: usize) -> Frame
+    ensures { λ f. ⌜ f ≡ frameOf l places ⌝ }
+{
+    Frame {
+        script: l.script,
+        records: l.records,
+        vars: l.variables,
+        places,
     }
 }
 
@@ -84,7 +106,13 @@ fn asked(places: usize, words: usize) -> usize
 }
 
 // The checks 1 to 10, with so many places and room for so many variables; and the script's plan.
-fn admit(job: &[u8], budget: u64, places: usize, room: usize, plan: &mut [u32; WORDS]) -> Checked
+pub fn admit(
+    job: &[u8],
+    budget: u64,
+    places: usize,
+    room: usize,
+    plan: &mut [u32; WORDS],
+) -> Checked
     ensures { λ r. ⌜ AdmitsJob (now (job .entry)) budget places room (now (plan .entry)) (now (plan .exit)) r ⌝ }
 {
     let checked = prepare(job, plan);
@@ -124,18 +152,11 @@ fn run_accepted(
     ensures { λ r. ⌜ Left (now (job .entry)) budget places (slices (now (words .entry)) (now (levels .entry)) (now (values .entry)) (now (lines .entry)))
         (slices (now (words .exit)) (now (levels .exit)) (now (values .exit)) (now (lines .exit))) r ⌝ }
 {
-    load_variables(job, l.variables, levels, values);
-    records::load(job, l.tree, l.nodes, words);
-    let frame = Frame {
-        script: l.script,
-        records: l.records,
-        vars: l.variables,
-        places,
-    };
+    load(job, l, words, levels, values);
     from_root(
         job,
         plan,
-        frame,
+        frame_of(l, places),
         budget,
         l.nodes,
         table::NIL,

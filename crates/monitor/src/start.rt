@@ -15,10 +15,10 @@ ghost use Rattle.rules.specs.Limits.{maxBudget};
 ghost use Rattle.actions.specs.Shows.{slices};
 ghost use Rattle.monitor.specs.Steps.{held};
 ghost use Rattle.monitor.specs.Starting.{outcomeOf};
-ghost use Rattle.monitor.specs.FromRoot.{Rooted, FromRoot};
+ghost use Rattle.monitor.specs.FromRoot.{AtRoot, Rooted, FromRoot};
 
 // How a run with a budget has ended, as an outcome.
-fn ended(a: Stepped, budget: usize) -> Outcome
+pub fn ended(a: Stepped, budget: usize) -> Outcome
     requires { ⌜ (a .running .left ≤ budget) × (budget ≤ maxBudget) ⌝ }
     ensures { λ r. ⌜ r ≡ outcomeOf budget a ⌝ }
 {
@@ -37,7 +37,26 @@ fn ended(a: Stepped, budget: usize) -> Outcome
     }
 }
 
-// `used` places of the table were used so far, and `free` leads to the free ones among them.
+// Where a run with a budget starts. `used` places of the table were used so far, and `free` leads to the free ones among them.
+pub fn rooted(used: usize, free: usize, budget: usize) -> Running
+    ensures { λ r. ⌜ AtRoot used free budget r ⌝ }
+{
+    let memory = Memory {
+        cursor: 0,
+        level: 0,
+        lines: 0,
+        free,
+        used,
+    };
+    Running {
+        memory,
+        guards: guards::none(),
+        at: 0,
+        left: budget,
+    }
+}
+
+// The run from there to its end.
 pub fn from_root(
     bytes: &[u8],
     plan: &[u32; WORDS],
@@ -55,23 +74,10 @@ pub fn from_root(
         (slices (now (words .entry)) (now (levels .entry)) (now (values .entry)) (now (lines .entry)))
         (slices (now (words .exit)) (now (levels .entry)) (now (values .exit)) (now (lines .exit))) r ⌝ }
 {
-    let memory = Memory {
-        cursor: 0,
-        level: 0,
-        lines: 0,
-        free,
-        used,
-    };
-    let start = Running {
-        memory,
-        guards: guards::none(),
-        at: 0,
-        left: budget,
-    };
     let mut remembered = [0u16; marks::SIZE];
     ended(
         run_from(
-            start,
+            rooted(used, free, budget),
             bytes,
             plan,
             levels,

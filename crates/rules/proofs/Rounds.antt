@@ -47,7 +47,7 @@ module _ (lent : Buffers) (cs : List Command) (k n : ℕ) (s : State) where
   abbrev goes-on : Bool
   goes-on = eqb (endingNumber (came .ending)) (stopNumber spent) && ltb k n
 
-  turn-used : goes-on ≡ true → Used lent cs k s (came .last)
+  pub turn-used : goes-on ≡ true → Used lent cs k s (came .last)
   turn-used e =
       let b = both (eqb (endingNumber (came .ending)) (stopNumber spent)) (ltb k n) e in
       let l = ltb-true k n (b .1) in

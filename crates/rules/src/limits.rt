@@ -51,7 +51,14 @@ pub const BAD_ORDER: u8 = 13;
 
 pub const BAD_AREA: u8 = 14;
 
+pub const NO_PLACE: u8 = 15;
+
 pub const MAX_BUDGET: u64 = 1000000;
+
+// So many runs take turns, each of so many steps.
+pub const MAX_RUNS: usize = 8;
+
+pub const TURN_STEPS: usize = 5000;
 
 // The numbers of the stops: a rule of information flow, no such node, a full table, a full board, a used-up budget, a result outside signed
 // 32 bits.

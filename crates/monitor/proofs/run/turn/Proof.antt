@@ -10,7 +10,7 @@ use Rattle.monitor.proofs.run.turn.Tie as tie
 returns : tie.Need-returns
 returns c =
     let p = c .before .before .before .before .before .before .before .before .before .before .pre in
-    still-turn _ (p .script) (c .halt .ensures ∙ ap (λ k. stepped k (c .before .before .before .before .before .before .before .before .before .before .args .r)) (c .before .over .ensures)) (c .before .before .if1 .taken)
+    still-turn _ (p .script) (p .safe) (c .halt .ensures ∙ ap (λ k. stepped k (c .before .before .before .before .before .before .before .before .before .before .args .r)) (c .before .over .ensures)) (c .before .before .if1 .taken)
 
 carry-out-requires : tie.Need-carry-out-requires
 carry-out-requires c κs =
@@ -20,7 +20,7 @@ carry-out-requires c κs =
 returns-2 : tie.Need-returns-2
 returns-2 c =
     let p = c .before .before .before .before .before .before .before .before .before .before .before .before .before .before .before .before .before .before .before .before .pre in
-    carried-turn _ (p .script) (omega (arith, c .before .before .before .before .before .before .before .before .before .before .before .before .if1 .left)) (c .before .before .before .before .before .before .before .carry-out .ensures)
+    carried-turn _ (p .script) (p .safe) (omega (arith, c .before .before .before .before .before .before .before .before .before .before .before .before .if1 .left)) (c .before .before .before .before .before .before .before .carry-out .ensures)
 
 pub turn-spec : {M : Type 1} → statement M
 turn-spec = tie.close (tie.spec (λ c κs. search needs) (λ c κs. search needs) returns carry-out-requires (λ c. search needs) (λ c. search needs) (λ c. search needs) (λ c. search needs) returns-2)
