@@ -1,0 +1,53 @@
+-- `pool::fresh_at` meets its contract: what is lent are the parts of the place. Assumes nothing.
+use mathlib.Core.Path.{_≡_, refl, sym, _∙_, ap, subst}
+use Prim.Native.Nat.{_<_, _-_, _+_, _*_, _≤_}
+use native.Mathlib.Omega.{arith}
+use native.Mathlib.Nat.{le-refl}
+use borrow.Rule.Slice.PartMut.{mid-len}
+use Rattle.rules.specs.Limits.{maxBytes, maxVariables}
+use Rattle.actions.specs.Marks.{marksSize}
+use Rattle.turns.specs.Pool.{planSize, tableSize, areaSize}
+use Rattle.turns.proofs.Cuts.{Cut}
+use lib.ListN.{length}
+use Rattle.turns.proofs.Places.{room-there, fresh-there}
+use borrow.Author.Needs.{needs}
+use Rattle.turns.proofs.pool.fresh_at.Statement.{statement}
+use Rattle.turns.proofs.pool.fresh_at.Tie as tie
+
+fresh-requires : tie.Need-fresh-requires
+fresh-requires c κs =
+    let i = c .before .before .before .before .before .before .before .before .args .i in
+    let cv : Cut maxVariables i maxVariables (maxVariables * i) (maxVariables * i + maxVariables) = record { from = refl; to = refl; short = le-refl _ } in
+    let cw : Cut tableSize i tableSize (tableSize * i) (tableSize * i + tableSize) = record { from = refl; to = refl; short = le-refl _ } in
+    let cm : Cut marksSize i marksSize (marksSize * i) (marksSize * i + marksSize) = record { from = refl; to = refl; short = le-refl _ } in
+    let p = c .before .before .before .before .before .before .before .before .pre in
+    let l = p .0 in
+    let x = p .1 in
+    let v = p .2 in
+    let y = p .3 in
+    let m = p .4 in
+    let im : marksSize * i + marksSize ≤ length (c .before .before .before .before .before .before .before .before .args .marks .now) = omega (arith, l, m) in
+    let w = mid-len (marksSize * i) (marksSize * i + marksSize) (c .before .before .before .before .before .before .before .before .args .marks .now) im in
+    (room-there i _ _ _ (c .before .before .before .before .before .before .before .before .args .marks .now) _ _ _ _ _ _ cv cw cm _ _ (p .5), omega (arith, w))
+
+returns : tie.Need-returns
+returns c =
+    let i = c .before .before .before .before .before .before .before .before .before .before .before .before .before .before .before .before .args .i in
+    let cv : Cut maxVariables i maxVariables (maxVariables * i) (maxVariables * i + maxVariables) = record { from = refl; to = refl; short = le-refl _ } in
+    let cw : Cut tableSize i tableSize (tableSize * i) (tableSize * i + tableSize) = record { from = refl; to = refl; short = le-refl _ } in
+    let cm : Cut marksSize i marksSize (marksSize * i) (marksSize * i + marksSize) = record { from = refl; to = refl; short = le-refl _ } in
+    let p = c .before .before .before .before .before .before .before .before .before .before .before .before .before .before .before .before .pre in
+    let l = p .0 in
+    let x = p .1 in
+    let v = p .2 in
+    let y = p .3 in
+    let m = p .4 in
+    let iw : tableSize * i + tableSize ≤ length (c .before .before .before .before .before .before .before .before .before .before .before .before .before .before .before .before .args .words .now) = omega (arith, l, x) in
+    let il : maxVariables * i + maxVariables ≤ length (c .before .before .before .before .before .before .before .before .before .before .before .before .before .before .before .before .args .levels .now) = omega (arith, l, v) in
+    let iv : maxVariables * i + maxVariables ≤ length (c .before .before .before .before .before .before .before .before .before .before .before .before .before .before .before .before .args .values .now) = omega (arith, l, y) in
+    let im : marksSize * i + marksSize ≤ length (c .before .before .before .before .before .before .before .before .before .before .before .before .before .before .before .before .args .marks .now) = omega (arith, l, m) in
+    fresh-there i _ _ _ _ _ _ _ _ _ _ cv cw cm _ _ _ _ _ _ _ _ (c .before .before .before .before .before .before .before .fresh .ensures) iw il iv im (c .before .before .before .before .before .before .words .given .0 ∙ mid-len _ _ _ iw)
+    (c .before .before .before .before .levels .given .0 ∙ mid-len _ _ _ il) (c .before .before .values .given .0 ∙ mid-len _ _ _ iv) (c .before .marks .given .0 ∙ mid-len _ _ _ im)
+
+pub fresh-at-spec : {M : Type 1} → statement M
+fresh-at-spec = tie.close (tie.spec (λ c. search needs) (λ c. search needs) (λ c. search needs) (λ c. search needs) (λ c. search needs) (λ c. search needs) (λ c. search needs) (λ c. search needs) (λ c. search needs) (λ c. search needs) (λ c. search needs) (λ c. search needs) (λ c. search needs) (λ c. search needs) (λ c. search needs) (λ c. search needs) (λ c. search needs) (λ c. search needs) (λ c. search needs) (λ c. search needs) (λ c. search needs) fresh-requires (λ c. search needs) (λ c. search needs) (λ c. search needs) (λ c. search needs) returns)

@@ -1,0 +1,12 @@
+-- `queue::none` meets its contract: each place stands once in its order. Assumes nothing.
+use mathlib.Core.Path.{_≡_, refl, sym, _∙_, ap, subst}
+use Rattle.turns.proofs.Orders.{whole-none}
+use borrow.Author.Needs.{needs}
+use Rattle.turns.proofs.queue.none.Statement.{statement}
+use Rattle.turns.proofs.queue.none.Tie as tie
+
+returns : tie.Need-returns
+returns c = (whole-none, refl)
+
+pub none-spec : {M : Type 1} → statement M
+none-spec = tie.close (tie.spec returns)
