@@ -11,6 +11,7 @@ use crate::generate::Case;
 use crate::history::{self, Event, Expected, Model};
 use crate::job::{self, command, kind, operator, Job, Record, Target, MAX_BLOCKS, READS};
 use crate::mistake::{Mistake, RULED_COMMANDS};
+use crate::rounds::{self, Reply, Roof, MAX_RUNS, TURN_STEPS};
 use crate::run::{self, Outcome, State};
 use crate::table::Fault;
 use crate::tree::{Path, Tree};
@@ -20,6 +21,8 @@ use crate::{apart, join, Level, PUBLIC};
 #[derive(Clone, Debug, Default, PartialEq, Eq)]
 pub struct Coverage {
     counts: BTreeMap<String, u64>,
+    /// Of an order of newcomers and turns: a run has ended since the roof was empty.
+    ended_before: bool,
 }
 
 /// What the steps of one case met, by number: a step is counted too often to be
@@ -95,6 +98,11 @@ impl Coverage {
         self.missing_of(wanted_of_histories())
     }
 
+    /// The names of [`wanted_of_rounds`] that never came up.
+    pub fn missing_of_rounds(&self) -> Vec<String> {
+        self.missing_of(wanted_of_rounds())
+    }
+
     fn missing_of(&self, wanted: Vec<String>) -> Vec<String> {
         let never = |name: &String| self.of(name) == 0;
         wanted.into_iter().filter(never).collect()
@@ -148,6 +156,65 @@ impl Coverage {
             self.count_all(follow_on_name(command), carried_out);
         }
         expected
+    }
+
+    /// Lets `roof` take in a newcomer or a turn, counts what it meets, and hands back
+    /// what must come.
+    pub fn add_round(&mut self, roof: &mut Roof, event: &Event) -> Reply {
+        let before = roof.unended();
+        let reply = roof.expect(event);
+        self.count(round_event_name(event.kind));
+        match &reply {
+            Reply::Taken => {
+                let between = self.ended_before && before > 0;
+                self.count_all(String::from(PLACE_AGAIN), between as u64);
+            }
+            Reply::TurnedBack(outcome) => {
+                self.count(newcomer_name(outcome.ending));
+                let alone = || run::outcome(&event.body, &event.limits()).ending;
+                if outcome.ending == Ending::NoPlace && alone().turned_back() {
+                    self.count(String::from(UNREAD));
+                }
+            }
+            Reply::Turn { took, ended, .. } => self.add_turn(roof, *took, ended.as_ref(), before),
+            Reply::Idle => self.count(String::from(IDLE)),
+            Reply::Unknown => {}
+        }
+        self.ended_before = match &reply {
+            Reply::Turn { ended, .. } => ended.is_some() || self.ended_before,
+            _ => self.ended_before && roof.unended() > 0,
+        };
+        reply
+    }
+
+    fn add_turn(&mut self, roof: &Roof, took: u64, ended: Option<&Outcome>, unended: usize) {
+        self.count_all(String::from(FULL_CIRCLE), (unended == MAX_RUNS) as u64);
+        let Some(outcome) = ended else {
+            let state = roof.last().expect("the run that had the turn");
+            let met = [
+                true,
+                !state.guards.is_empty(),
+                state.guards.iter().any(|&guard| guard != PUBLIC),
+                state.cursor_level != PUBLIC,
+                !state.cursor.is_empty(),
+                state.remembered.iter().any(Option::is_some),
+                !state.lines.is_empty(),
+            ];
+            for (name, met) in AT_THE_EDGE.into_iter().zip(met) {
+                self.count_all(String::from(name), met as u64);
+            }
+            return;
+        };
+        self.count(run_ending_name(outcome.ending));
+        let edge = outcome.steps % TURN_STEPS == 0;
+        match (outcome.ending, took) {
+            (Ending::Finished, 0) if outcome.steps == 0 => self.count(String::from(EMPTY_SCRIPT)),
+            (Ending::Finished | Ending::BudgetUsed, TURN_STEPS) => {
+                self.count(edge_name(outcome.ending, outcome.steps))
+            }
+            (_, 0) if edge && outcome.steps > 0 => self.count(String::from(STOP_BEHIND)),
+            _ => {}
+        }
     }
 
     fn count(&mut self, name: String) {
@@ -554,12 +621,73 @@ fn follow_on_name(command: u8) -> String {
     format!("command {command:02} carried out in a script")
 }
 
+/// R-13, newcomers and turns.
+const PLACE_AGAIN: &str = "newcomer taken where a run has ended and another has not";
+const UNREAD: &str = "15 for a job that would be turned back";
+const IDLE: &str = "turn with no run";
+const FULL_CIRCLE: &str = "turn while eight runs are unended";
+const EMPTY_SCRIPT: &str = "turn of an empty script";
+const STOP_BEHIND: &str = "stop right behind a turn's last step, in the next turn";
+
+/// What a turn leaves to the run's next turn.
+const AT_THE_EDGE: [&str; 7] = [
+    "turn that leaves the run unended",
+    "turn that ends in an open block",
+    "turn that ends under a guard that is not public",
+    "turn that ends under cover",
+    "turn that ends away from the root",
+    "turn that ends in an if that comes back",
+    "turn that ends behind a line",
+];
+
+fn round_event_name(kind: u32) -> String {
+    String::from(match kind {
+        rounds::kind::NEWCOMER => "newcomer",
+        rounds::kind::TURN => "turn",
+        _ => "event of no kind",
+    })
+}
+
+fn newcomer_name(ending: Ending) -> String {
+    format!("newcomer turned back with {:02}", ending.number())
+}
+
+fn run_ending_name(ending: Ending) -> String {
+    format!("turn, ending {:02}", ending.number())
+}
+
+/// A run that ends right behind a turn's last step, in that turn.
+fn edge_name(ending: Ending, steps: u64) -> String {
+    let number = ending.number();
+    format!("turn, ending {number:02} right behind step {steps}")
+}
+
+/// Everything that orders of newcomers and turns must reach: every kind of event, every
+/// number for a newcomer, every ending of a run, the edges of turns, and all that
+/// a turn can leave to the next.
+pub fn wanted_of_rounds() -> Vec<String> {
+    let mut names: Vec<String> = (0..=2).map(round_event_name).collect();
+    // No job is turned back with 4, 11 or 14.
+    let can_come = |ending: &Ending| ending.turned_back() && ![4, 11, 14].contains(&ending.number());
+    names.extend(Ending::ALL.into_iter().filter(can_come).map(newcomer_name));
+    let ends = |ending: &Ending| !ending.turned_back();
+    names.extend(Ending::ALL.into_iter().filter(ends).map(run_ending_name));
+    for steps in [TURN_STEPS, 2 * TURN_STEPS] {
+        names.push(edge_name(Ending::Finished, steps));
+        names.push(edge_name(Ending::BudgetUsed, steps));
+    }
+    let others = [PLACE_AGAIN, UNREAD, IDLE, FULL_CIRCLE, EMPTY_SCRIPT, STOP_BEHIND];
+    names.extend(others.map(String::from));
+    names.extend(AT_THE_EDGE.map(String::from));
+    names
+}
+
 /// Everything that histories must reach: every kind of event, every ending that
 /// a script can have, every reason for 11, every command in a script, and every answer of writing.
 pub fn wanted_of_histories() -> Vec<String> {
     let mut names: Vec<String> = (0..=5).map(event_name).collect();
-    // A script has no checks 1 to 6, none of an order of nodes and none of an area.
-    let can_end = |ending: &Ending| ![1, 2, 3, 4, 5, 6, 13, 14].contains(&ending.number());
+    // A script has no checks 1 to 6, none of an order of nodes, of an area or of a place.
+    let can_end = |ending: &Ending| ![1, 2, 3, 4, 5, 6, 13, 14, 15].contains(&ending.number());
     names.extend(
         Ending::ALL
             .into_iter()
@@ -582,9 +710,8 @@ pub fn wanted_of_histories() -> Vec<String> {
 pub fn wanted() -> Vec<String> {
     let mut names = Vec::new();
     names.extend((0..command::COUNT as u8).map(command_name));
-    // No job is turned back with 11 or 14, and from R-12 on none with 4.
-    let reachable =
-        |ending: &Ending| ![Ending::Standing, Ending::Area, Ending::VariableLevel].contains(ending);
+    // No job by itself is turned back with 11, 14 or 15, and from R-12 on none with 4.
+    let reachable = |ending: &Ending| ![4, 11, 14, 15].contains(&ending.number());
     names.extend(Ending::ALL.into_iter().filter(reachable).map(ending_name));
     names.extend(LONG_RUNS.map(length_name));
     let stops: [(Ending, &[u8]); 5] = [

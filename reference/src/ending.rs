@@ -1,6 +1,6 @@
 //! The ways a job can end, with the paper's numbers.
 
-/// Finished, a job or script turned back (1 to 14), or a run that stopped (21 to 25, 27).
+/// Finished, a job or script turned back (1 to 15), or a run that stopped (21 to 25, 27).
 #[derive(Clone, Copy, Debug, PartialEq, Eq, PartialOrd, Ord)]
 pub enum Ending {
     Finished = 0,
@@ -35,6 +35,8 @@ pub enum Ending {
     Order = 13,
     /// "the output area is shorter than the job"
     Area = 14,
+    /// "a newcomer while eight runs are unended"
+    NoPlace = 15,
     /// "a rule above"
     Rule = 21,
     /// "the node moved to or removed does not exist, or command 12 at the root"
@@ -50,7 +52,7 @@ pub enum Ending {
 }
 
 impl Ending {
-    pub const ALL: [Ending; 21] = [
+    pub const ALL: [Ending; 22] = [
         Ending::Finished,
         Ending::Size,
         Ending::Layout,
@@ -66,6 +68,7 @@ impl Ending {
         Ending::Spare,
         Ending::Order,
         Ending::Area,
+        Ending::NoPlace,
         Ending::Rule,
         Ending::Missing,
         Ending::TableFull,
@@ -79,8 +82,8 @@ impl Ending {
         self as u32
     }
 
-    /// Endings 1 to 14: no step was made and no lent buffer changed.
+    /// Endings 1 to 15: no step was made and no lent buffer changed.
     pub fn turned_back(self) -> bool {
-        (1..=14).contains(&self.number())
+        (1..=15).contains(&self.number())
     }
 }

@@ -7,6 +7,7 @@
 //! - [`run`]: checks 9 and 10, the steps, the whole outcome.
 //! - [`follow`] and [`table`]: a script over a lent tree; [`writer`]: such a tree as a job
 //!   again; [`history`]: the events of the `history` program.
+//! - [`rounds`]: runs that take turns, and the events of the `rounds` program.
 //! - [`portal`]: the two programs around a run, as functions; [`summary`]: how many
 //!   parties each node carries matters of.
 //! - [`public`]: public parts, agreement, and what a leak is.
@@ -28,6 +29,7 @@ pub mod portal;
 pub mod print;
 pub mod public;
 pub mod random;
+pub mod rounds;
 pub mod run;
 pub mod shrink;
 pub mod source;

@@ -226,6 +226,37 @@ pub enum Mistake {
     AreaBeforePlaces,
     /// A tree in a table of more than 512 places is written.
     WrittenFromMorePlaces,
+    // Runs that take turns.
+    /// A ninth run finds a place.
+    NineRuns,
+    /// A job that is turned back gets its own number while eight runs are unended.
+    JobReadBefore15,
+    /// A newcomer that is turned back takes a place for ever.
+    TurnedBackTakesAPlace,
+    /// The place of an ended run is not used again.
+    PlaceNotUsedAgain,
+    /// A newcomer has the next turn.
+    NewcomerToTheFront,
+    /// A run has turn after turn until it ends.
+    UnendedToTheFront,
+    /// A turn is of 4,999 steps.
+    TurnOf4999,
+    /// A run at its script's end after its turn's last step ends in its next turn.
+    EndsATurnLate,
+    /// A run at its budget after its turn's last step ends in its next turn.
+    SpentATurnLate,
+    /// A record that would stop right after a turn's last step stops in that turn.
+    StopsATurnEarly,
+    /// A turn starts with the cursor at the root.
+    TurnStartsAtTheRoot,
+    /// A turn starts with guards of level 0.
+    TurnForgetsGuards,
+    /// A turn starts with no lines.
+    TurnForgetsLines,
+    /// Each turn has the whole budget.
+    TurnHasTheBudget,
+    /// All steps so far are told in place of the turn's.
+    TookIsSteps,
 }
 
 /// The commands that have a rule.
@@ -354,6 +385,25 @@ impl Mistake {
         Mistake::AreaBeforeStanding,
         Mistake::AreaBeforePlaces,
         Mistake::WrittenFromMorePlaces,
+    ];
+
+    /// The mistakes that only runs that take turns show.
+    pub const TURNING: [Mistake; 15] = [
+        Mistake::NineRuns,
+        Mistake::JobReadBefore15,
+        Mistake::TurnedBackTakesAPlace,
+        Mistake::PlaceNotUsedAgain,
+        Mistake::NewcomerToTheFront,
+        Mistake::UnendedToTheFront,
+        Mistake::TurnOf4999,
+        Mistake::EndsATurnLate,
+        Mistake::SpentATurnLate,
+        Mistake::StopsATurnEarly,
+        Mistake::TurnStartsAtTheRoot,
+        Mistake::TurnForgetsGuards,
+        Mistake::TurnForgetsLines,
+        Mistake::TurnHasTheBudget,
+        Mistake::TookIsSteps,
     ];
 
     /// The mistakes that leak from one script of a history to the next.

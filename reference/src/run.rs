@@ -1,5 +1,7 @@
 //! Checks 9 and 10, the steps of a run, and its whole outcome.
 
+use std::borrow::Cow;
+
 use crate::ending::Ending;
 use crate::job::{self, command, kind, operator, Block, Job, Record};
 use crate::mistake::Mistake;
@@ -201,19 +203,28 @@ pub fn start(
     mistake: Mistake,
     observer: Observer,
 ) -> (Outcome, Option<Standing>) {
-    let refusal = match job::decode_with(bytes, mistake) {
-        Ok(job) => match check_limits(&job, limits) {
-            None => {
-                let standing = Standing::of(&job);
-                let monitor = Monitor::new(&job.script, &standing, limits, mistake);
-                let (outcome, after) = monitor.run_to_end(observer);
-                return (outcome, Some(after));
-            }
-            Some(ending) => turned_back(ending, 0),
-        },
-        Err(refusal) => turned_back(refusal.ending, refusal.index),
-    };
-    (refusal, None)
+    match admitted(bytes, limits, mistake) {
+        Ok(monitor) => {
+            let (outcome, after) = monitor.run_to_end(observer);
+            (outcome, Some(after))
+        }
+        Err(refusal) => (refusal, None),
+    }
+}
+
+/// The run of a job before its first step; the outcome of one turned back.
+pub fn admitted(
+    bytes: &[u8],
+    limits: &Limits,
+    mistake: Mistake,
+) -> Result<Monitor<'static>, Outcome> {
+    let job = job::decode_with(bytes, mistake)
+        .map_err(|refusal| turned_back(refusal.ending, refusal.index))?;
+    if let Some(ending) = check_limits(&job, limits) {
+        return Err(turned_back(ending, 0));
+    }
+    let standing = Standing::of(&job);
+    Ok(Monitor::new(job.script, &standing, limits, mistake))
 }
 
 /// "steps and lines are 0 for 1 to 10"
@@ -248,11 +259,12 @@ struct Evaluated {
 }
 
 /// A run: what is fixed, and the state.
+#[derive(Clone)]
 pub struct Monitor<'a> {
-    script: &'a [Record],
+    script: Cow<'a, [Record]>,
     /// For each if, else, while and end, the block that it belongs to.
     blocks: Vec<Option<Block>>,
-    limits: &'a Limits,
+    pub limits: Limits,
     mistake: Mistake,
     names: Names,
     next_name: u64,
@@ -264,13 +276,14 @@ pub struct Monitor<'a> {
 impl<'a> Monitor<'a> {
     /// The run of a script that passed its checks, before its first step.
     pub fn new(
-        script: &'a [Record],
+        script: impl Into<Cow<'a, [Record]>>,
         standing: &Standing,
-        limits: &'a Limits,
+        limits: &Limits,
         mistake: Mistake,
     ) -> Monitor<'a> {
+        let script = script.into();
         let mut blocks = vec![None; script.len()];
-        for block in job::pair_blocks(script, mistake).expect("check 8 is passed") {
+        for block in job::pair_blocks(&script, mistake).expect("check 8 is passed") {
             blocks[block.opening] = Some(block);
             blocks[block.end] = Some(block);
             if let Some(otherwise) = block.otherwise {
@@ -297,7 +310,7 @@ impl<'a> Monitor<'a> {
         Monitor {
             script,
             blocks,
-            limits,
+            limits: *limits,
             mistake,
             names,
             next_name,
@@ -306,33 +319,52 @@ impl<'a> Monitor<'a> {
         }
     }
 
-    /// "At the script's end the run has finished, even with the budget used
-    /// up. Otherwise, if the steps equal the budget, stop 25."
+    /// The whole run: how it ended, at which record, and what stands then.
     pub fn run(mut self, observer: Observer) -> (Ending, usize, State) {
+        let ended = self.go_on(u64::MAX, observer);
+        let (ending, index) = ended.expect("no budget is as large");
+        (ending, index, self.state)
+    }
+
+    /// So many steps, or fewer where the run ends; how it ended and at which record,
+    /// if it has. "At the script's end the run has finished, even with the budget
+    /// used up. Otherwise, if the steps equal the budget, stop 25."
+    pub fn go_on(&mut self, steps: u64, observer: Observer) -> Option<(Ending, usize)> {
+        let mut left = steps;
         loop {
             let next = self.state.next;
             if next == self.script.len() {
-                return (Ending::Finished, 0, self.state);
+                return Some((Ending::Finished, 0));
             }
             if self.state.steps == self.limits.budget {
-                return (Ending::BudgetUsed, next, self.state);
+                return Some((Ending::BudgetUsed, next));
+            }
+            if left == 0 {
+                return None;
             }
             let record = self.script[next];
             if let Err(ending) = self.carry_out(&record) {
                 if self.mistake == Mistake::StopCountsStep {
                     self.state.steps += 1;
                 }
-                return (ending, next, self.state);
+                return Some((ending, next));
             }
             // "Each record carried out is one step".
             self.state.steps += 1;
+            left -= 1;
             observer(&self.state, &record);
         }
     }
 
     /// The outcome of the run, and what stands then.
-    pub fn run_to_end(self, observer: Observer) -> (Outcome, Standing) {
-        let (ending, index, state) = self.run(observer);
+    pub fn run_to_end(mut self, observer: Observer) -> (Outcome, Standing) {
+        let ended = self.go_on(u64::MAX, observer);
+        self.ended(ended.expect("no budget is as large"))
+    }
+
+    /// The outcome of a run that has ended so, and what stands then.
+    pub fn ended(self, (ending, index): (Ending, usize)) -> (Outcome, Standing) {
+        let state = self.state;
         let after = Standing {
             variables: state.variables,
             tree: state.tree,

@@ -1,4 +1,4 @@
-//! Cases, pairs of cases and histories from a seed. The same seed gives the same.
+//! Cases, pairs of cases, histories and orders of newcomers and turns from a seed. The same seed gives the same.
 
 mod damage;
 mod dirty;
@@ -6,6 +6,7 @@ mod history;
 mod history_pairs;
 mod nodes;
 mod pairs;
+mod rounds;
 mod script;
 mod shuffled;
 
@@ -15,6 +16,7 @@ pub use history::{history, moved};
 pub use history_pairs::{history_pair, HistoryPair};
 use nodes::Growth;
 pub use pairs::{pair, pair_with, Pair};
+pub use rounds::order;
 pub use shuffled::{shuffled, shuffled_greatest};
 
 use crate::arrange::in_order;

@@ -4,6 +4,7 @@ mod coverage;
 mod histories;
 mod mistakes;
 mod pairs;
+mod rounds;
 mod shrinking;
 
 use std::sync::OnceLock;
