@@ -6,12 +6,14 @@
 //! - [`run`]: checks 9 and 10, and the steps.
 //! - [`follow`]: a script over a lent table of node records; [`write`](mod@write): such a
 //!   table as a job again.
+//! - [`rounds`]: runs that take turns.
 //! - [`entry`]: the portal's call, also for C.
 
 pub mod arena;
 pub mod check;
 pub mod entry;
 pub mod follow;
+pub mod rounds;
 pub mod run;
 pub mod write;
 
@@ -40,6 +42,7 @@ pub mod ending {
     pub const SPARE: u8 = 12;
     pub const ORDER: u8 = 13;
     pub const AREA: u8 = 14;
+    pub const NO_PLACE: u8 = 15;
     pub const RULE: u8 = 21;
     pub const MISSING: u8 = 22;
     pub const TABLE_FULL: u8 = 23;

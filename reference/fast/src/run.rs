@@ -9,17 +9,23 @@ use crate::{MAX_BLOCKS, MAX_BUDGET, MAX_NODES, MAX_VARIABLES};
 /// the reader set.
 /// What is left in `buffers` after a run is the last state.
 pub fn run(buffers: &mut Buffers, job: &[u8], limits: Limits, area: &mut [u8]) -> Answer {
-    if let Err(answer) = check(buffers, job) {
-        return answer;
+    match admit(buffers, job, limits) {
+        Ok(()) => steps(buffers, limits.budget as u32, limits.places, area),
+        Err(answer) => answer,
     }
+}
+
+/// All checks of a job; what it holds goes into `buffers`.
+pub fn admit(buffers: &mut Buffers, job: &[u8], limits: Limits) -> Result<(), Answer> {
+    check(buffers, job)?;
     if limits.budget < 1 || limits.budget > MAX_BUDGET {
-        return Answer::turned_back(ending::BUDGET, 0);
+        return Err(Answer::turned_back(ending::BUDGET, 0));
     }
     let table = limits.places <= MAX_NODES && limits.places >= buffers.arena.used();
     if !table || limits.variables < buffers.variable_count {
-        return Answer::turned_back(ending::BUFFER, 0);
+        return Err(Answer::turned_back(ending::BUFFER, 0));
     }
-    steps(buffers, limits.budget as u32, limits.places, area)
+    Ok(())
 }
 
 /// An expression's value, none where it leaves the range, and its level E.
@@ -108,26 +114,53 @@ struct Back {
     removed: u32,
 }
 
+/// What stands of a run between two of its turns, besides its buffers.
+#[derive(Clone, Copy, Default)]
+pub struct Paused {
+    cursor: u16,
+    cursor_level: u8,
+    /// The context, and what it was outside of each open block.
+    context: u8,
+    outer: [u8; MAX_BLOCKS],
+    depth: usize,
+    /// What the open blocks remember that come back, the outermost first.
+    backs: [Back; MAX_BLOCKS],
+    back_count: usize,
+    next: usize,
+    lines: usize,
+}
+
 /// The steps of a script that passed its checks, over what `buffers` hold.
 pub fn steps(buffers: &mut Buffers, budget: u32, places: usize, area: &mut [u8]) -> Answer {
+    go_on(buffers, &mut Paused::default(), budget, places, area)
+}
+
+/// The same from where a run stands, with so many steps, which are those of the answer.
+pub fn go_on(
+    buffers: &mut Buffers,
+    paused: &mut Paused,
+    budget: u32,
+    places: usize,
+    area: &mut [u8],
+) -> Answer {
     let Buffers {
         variables,
         arena,
         ops,
         ..
     } = buffers;
-    let mut cursor = 0u16;
-    let mut cursor_level = 0u8;
-    // The context, and what it was outside of each open block.
-    let mut context = 0u8;
-    let mut outer = [0u8; MAX_BLOCKS];
-    let mut depth = 0usize;
-    // What the open blocks remember that come back, the outermost first.
-    let mut backs = [Back::default(); MAX_BLOCKS];
-    let mut back_count = 0usize;
-    let mut next = 0usize;
+    let Paused {
+        mut cursor,
+        mut cursor_level,
+        mut context,
+        mut outer,
+        mut depth,
+        mut backs,
+        mut back_count,
+        mut next,
+        mut lines,
+    } = *paused;
     let mut left = budget;
-    let mut lines = 0usize;
     let (ending, index) = loop {
         let op = &ops[next];
         // "At the script's end the run has finished, even with the budget used up."
@@ -364,6 +397,17 @@ pub fn steps(buffers: &mut Buffers, budget: u32, places: usize, area: &mut [u8])
             _ => break (ending::FINISHED, 0),
         }
         left -= 1;
+    };
+    *paused = Paused {
+        cursor,
+        cursor_level,
+        context,
+        outer,
+        depth,
+        backs,
+        back_count,
+        next,
+        lines,
     };
     Answer {
         ending,

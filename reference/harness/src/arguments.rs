@@ -55,6 +55,12 @@ impl Arguments {
         named.or_else(|| std::env::var("REPLAY").ok())
     }
 
+    /// `--rounds PATH`, or the environment variable ROUNDS.
+    pub fn rounds(&self) -> Option<String> {
+        let named = self.text("--rounds").map(String::from);
+        named.or_else(|| std::env::var("ROUNDS").ok())
+    }
+
     /// `--mistake NAME`.
     pub fn mistake(&self) -> Mistake {
         self.text("--mistake").map_or(Mistake::None, mistake_named)
@@ -78,6 +84,7 @@ pub fn mistake_named(name: &str) -> Mistake {
     let all = all_mistakes()
         .chain(Mistake::FOLLOWING)
         .chain(Mistake::WRITING)
+        .chain(Mistake::TURNING)
         .chain(Mistake::CLEANING)
         .chain(Mistake::ARRANGING);
     let mut named = all.chain([Mistake::None]);

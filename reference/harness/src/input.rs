@@ -3,6 +3,7 @@
 use std::io::{self, ErrorKind, Read, Write};
 
 use reference::clean::Output;
+use reference::history::Event;
 use reference::mistake::Mistake;
 
 use crate::arguments::mistake_named;
@@ -25,6 +26,26 @@ pub fn started(input: &mut impl Read, header: &mut [u8]) -> io::Result<Option<bo
         return Ok(None);
     }
     fill(input, &mut header[1..]).map(Some)
+}
+
+/// The next event of `history` or `rounds`: nothing at the input's end, and none where
+/// it is cut.
+pub fn next_event(input: &mut impl Read) -> io::Result<Option<Option<Event>>> {
+    let mut header = [0; 16];
+    let Some(whole) = started(input, &mut header)? else {
+        return Ok(None);
+    };
+    let mut body = vec![0; word(&header, 4) as usize];
+    if !whole || !fill(input, &mut body)? {
+        return Ok(Some(None));
+    }
+    Ok(Some(Some(Event {
+        kind: word(&header, 0),
+        budget: word(&header, 8),
+        places: half(&header, 12),
+        lines: half(&header, 14),
+        body,
+    })))
 }
 
 /// False where the input ends before `bytes` is full.

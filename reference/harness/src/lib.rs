@@ -7,12 +7,13 @@
 //!   `arrange`.
 //! - [`differential`]: whole outcomes against the reference.
 //! - [`histories`]: scripts over a standing tree, through `history`.
+//! - [`rounds`]: runs that take turns, through `rounds`.
 //! - [`leaks`]: pairs of jobs that agree on their public parts.
 //! - [`history_pairs`]: pairs of histories.
 //! - [`quick`]: outcomes of the fast version.
 //! - [`workloads`], [`bench`], [`clock`] and [`instructions`]: the jobs that are
 //!   measured, and how; [`lua`]: the same work in Lua.
-//! - [`memory`]: that of a process that runs for long.
+//! - [`soak`] and [`memory`]: a process that runs for long, and its memory.
 //! - [`input`]: what the stand-ins read.
 //! - [`search`], [`arguments`] and [`progress`]: what the searches over seeds
 //!   share, the command lines and the progress lines.
@@ -34,6 +35,8 @@ pub mod programs;
 pub mod progress;
 pub mod quick;
 pub mod replay;
+pub mod rounds;
 pub mod search;
+pub mod soak;
 pub mod stored;
 pub mod workloads;

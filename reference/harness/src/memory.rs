@@ -14,17 +14,17 @@ pub fn resident_kib(child: &Child) -> u64 {
     number.unwrap_or(0)
 }
 
-/// Says what the samples are, each after so many jobs, and whether they grow.
-pub fn constant(samples: &[(u64, u64)]) -> bool {
+/// Says what the samples are, each after so many `parts`, and whether they grow.
+pub fn constant(samples: &[(u64, u64)], parts: &str) -> bool {
     // The process may have ended before the last ones were taken.
     let taken: Vec<(u64, u64)> = samples.iter().copied().filter(|s| s.1 > 0).collect();
     let (Some(first), Some(last)) = (taken.first(), taken.last()) else {
-        println!("too few jobs to sample the memory");
+        println!("too few {parts} to sample the memory");
         return false;
     };
     let most = taken.iter().map(|sample| sample.1).max().unwrap_or(0);
     println!(
-        "resident memory in KiB: {} after {} jobs, {} after {}, at most {most}, in {} samples",
+        "resident memory in KiB: {} after {} {parts}, {} after {}, at most {most}, in {} samples",
         first.1,
         first.0,
         last.1,

@@ -92,6 +92,7 @@ fn name(ending: Ending) -> &'static str {
         Ending::Buffer => "buffers do not fit",
         Ending::Standing => unreachable!("only a follow-on script gets 11"),
         Ending::Area => unreachable!("only a tree that is written back gets 14"),
+        Ending::NoPlace => unreachable!("only a newcomer among others gets 15"),
         Ending::Spare => "spare byte not zero",
         Ending::Order => "node out of order",
         Ending::Rule => "flow rule broken",

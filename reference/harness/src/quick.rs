@@ -30,16 +30,7 @@ pub fn job(
     limits: &run::Limits,
 ) -> (Outcome, Option<Vec<(Level, i32)>>) {
     let mut area = vec![0; LINE_BYTES * limits.lines];
-    let answer = fast::run::run(
-        buffers,
-        bytes,
-        Limits {
-            budget: limits.budget,
-            places: limits.places,
-            variables: limits.variables,
-        },
-        &mut area,
-    );
+    let answer = fast::run::run(buffers, bytes, self::limits(limits), &mut area);
     let outcome = whole(answer, &area, buffers);
     let variables = outcome.last.as_ref().map(|last| last.variables.clone());
     (outcome, variables)
@@ -67,10 +58,28 @@ pub fn script(
     whole(answer, &area, buffers)
 }
 
-/// An answer with its lines and the last state.
-fn whole(answer: Answer, area: &[u8], buffers: &Buffers) -> Outcome {
+/// Limits in the fast version's form.
+pub fn limits(limits: &run::Limits) -> Limits {
+    Limits {
+        budget: limits.budget,
+        places: limits.places,
+        variables: limits.variables,
+    }
+}
+
+fn ending_of(answer: &Answer) -> Ending {
     let is_ending = |ending: &Ending| ending.number() == u32::from(answer.ending);
-    let ending = Ending::ALL.into_iter().find(is_ending).expect("an ending");
+    Ending::ALL.into_iter().find(is_ending).expect("an ending")
+}
+
+/// The answer to a job turned back.
+pub fn turned_back(answer: Answer) -> Outcome {
+    run::turned_back(ending_of(&answer), answer.index as usize)
+}
+
+/// An answer with its lines and the last state.
+pub fn whole(answer: Answer, area: &[u8], buffers: &Buffers) -> Outcome {
+    let ending = ending_of(&answer);
     let lines = area.chunks_exact(LINE_BYTES).take(answer.lines as usize);
     Outcome {
         ending,

@@ -10,8 +10,11 @@ use harness::memory;
 use harness::portal::{Portal, UNLINKED};
 use harness::programs;
 use harness::replay::Replay;
+use harness::rounds::Player;
 use harness::workloads;
 use reference::generate::{self, Case};
+use reference::history::Event;
+use reference::job::Record;
 use reference::mistake::Mistake;
 use reference::run::{self, Limits};
 use reference::source::*;
@@ -23,6 +26,8 @@ const PROGRAMS: &str = env!("CARGO_BIN_EXE_programs");
 const HISTORIES: &str = env!("CARGO_BIN_EXE_histories");
 const HISTORY_STANDIN: &str = env!("CARGO_BIN_EXE_history_standin");
 const HISTORY_PAIRS: &str = env!("CARGO_BIN_EXE_history_pairs");
+const ROUNDS: &str = env!("CARGO_BIN_EXE_rounds");
+const ROUNDS_STANDIN: &str = env!("CARGO_BIN_EXE_rounds_standin");
 const STANDIN: &str = env!("CARGO_BIN_EXE_replay_standin");
 const CLEANER: &str = env!("CARGO_BIN_EXE_cleaner");
 const CLEAN_STANDIN: &str = env!("CARGO_BIN_EXE_clean_standin");
@@ -33,6 +38,7 @@ fn started(program: &str, words: &[&str]) -> Output {
     let output = Command::new(program)
         .args(words)
         .env_remove("REPLAY")
+        .env_remove("ROUNDS")
         .output();
     output.expect("the program starts")
 }
@@ -174,9 +180,10 @@ fn outcomes_can_be_read_back() {
 
 #[test]
 fn growth_is_told_from_a_few_pages() {
-    assert!(memory::constant(&[(1, 900), (2, 904), (3, 900)]));
-    assert!(!memory::constant(&[(1, 900), (2, 904), (3, 1_100)]));
-    assert!(!memory::constant(&[]));
+    let constant = |samples: &[(u64, u64)]| memory::constant(samples, "jobs");
+    assert!(constant(&[(1, 900), (2, 904), (3, 900)]));
+    assert!(!constant(&[(1, 900), (2, 904), (3, 1_100)]));
+    assert!(!constant(&[]));
 }
 
 /// Each row of the bench is a run that goes on to the end of its budget or of its
@@ -205,7 +212,85 @@ fn soak() {
         "{text}"
     );
     let text = ended(SOAK, &["--replay", "cat", "--jobs", "1000"], 1);
-    assert!(text.contains("drift at job 0"), "{text}");
+    assert!(text.contains("drift at 0 jobs"), "{text}");
+}
+
+#[test]
+fn soak_of_newcomers() {
+    let text = ended(SOAK, &["--rounds", ROUNDS_STANDIN, "--jobs", "60000"], 0);
+    assert!(text.contains("constant memory"), "{text}");
+    let jobs = text.lines().find_map(|line| line.split_once(" jobs in "));
+    let jobs: u64 = jobs.expect("a count").0.parse().expect("a number");
+    assert!(jobs >= 60_000, "{text}");
+    for program in ["cat", "true"] {
+        ended(SOAK, &["--rounds", program, "--jobs", "1000"], 1);
+    }
+}
+
+/// Orders of newcomers and turns: the stand-in over the fast version, and over the
+/// reference.
+#[test]
+fn orders_through_a_stand_in() {
+    let words = ["--rounds", ROUNDS_STANDIN, "--seconds", "600", "--orders"];
+    let text = ended(ROUNDS, &[&words[..], &["1000"]].concat(), 0);
+    assert!(
+        text.contains("1000 orders") && text.contains("no difference"),
+        "{text}"
+    );
+    let text = ended(ROUNDS, &[&words[..], &["300", "--each-mistake"]].concat(), 0);
+    assert!(text.contains("each mistake was found"), "{text}");
+}
+
+/// An order that shows a mistake becomes small; another program is no `rounds`, and
+/// neither is one with a mistake.
+#[test]
+fn a_mistake_in_an_order_is_found() {
+    let words = ["--rounds", ROUNDS_STANDIN, "--no-fast", "--mistake"];
+    let text = ended(ROUNDS, &[&words[..], &["EndsATurnLate"]].concat(), 1);
+    let small = text.split("the smallest order that shows it").nth(1);
+    let order = small.and_then(|small| small.split("\nevent ").next());
+    let order = order.expect("a smallest order");
+    assert!(order.lines().count() < 30, "{order}");
+    for program in ["cat", "true"] {
+        let text = ended(ROUNDS, &["--rounds", program, "--no-fast"], 1);
+        assert!(text.contains("differs from the reference"), "{text}");
+    }
+    let wrong = Command::new(ROUNDS)
+        .args(["--rounds", ROUNDS_STANDIN, "--no-fast"])
+        .env("STANDIN_MISTAKE", "UnendedToTheFront")
+        .status();
+    assert_eq!(wrong.expect("the program starts").code(), Some(1));
+}
+
+/// What `rounds` prints, to the letter of PROGRAMS.md: a ninth newcomer, a turn that ends
+/// no run, one that does, none left, and an event of no kind.
+#[test]
+fn what_rounds_prints() {
+    let nodes = [root_node([0, 0, 0], 10)];
+    let newcomer = |script: &[Record]| Event {
+        kind: 0,
+        budget: 6_000,
+        places: 512,
+        lines: 256,
+        body: job(&[house_variable(-1)], &nodes, script).encode(),
+    };
+    let other = |kind| Event {
+        kind,
+        ..Event::default()
+    };
+    let short = newcomer(&[print(value())]);
+    let mut events = vec![newcomer(&[repeat(1), end()]), short];
+    events.extend(vec![newcomer(&[]); 7]);
+    events.extend([other(1), other(1), other(9)]);
+    let mut player = Player::new(Some(Mistake::None));
+    let text: String = events.iter().map(|event| player.play(event)).collect();
+    let taken: String = (0..8).map(|k| format!("newcomer {k}\ntaken\n")).collect();
+    let rest = "newcomer 8\nending 15 index 0 steps 0 lines 0\nturn 9\nrun 0 took 5000\n\
+                turn 10\nrun 1 took 1\nending 0 index 0 steps 1 lines 1\nline 10 0\n\
+                variable 1 -1\nnode 0 0 0 0 10\nunknown 11\n";
+    assert_eq!(text, taken + rest);
+    let idle = Player::new(None).play(&other(1));
+    assert_eq!(idle, "turn 0\nidle\n");
 }
 
 /// A stand-in whose streams end in cut frames.

@@ -9,6 +9,7 @@ mod endings;
 mod follow;
 mod moves;
 mod readings;
+mod rounds;
 mod sets;
 mod trials;
 mod writer;

@@ -8,8 +8,7 @@ use std::io::{self, BufReader, BufWriter, Write};
 use harness::arguments::mistake_named;
 use harness::frame;
 use harness::histories::{Player, Standin};
-use harness::input::{fill, half, started, word};
-use reference::history::Event;
+use harness::input::next_event;
 
 fn main() -> io::Result<()> {
     let mut input = BufReader::new(io::stdin().lock());
@@ -19,21 +18,14 @@ fn main() -> io::Result<()> {
         Err(_) => Player::Fast,
     };
     let mut standin = Standin::new(player);
-    let mut header = [0; 16];
-    while let Some(whole) = started(&mut input, &mut header)? {
-        let mut body = vec![0; word(&header, 4) as usize];
-        if !whole || !fill(&mut input, &mut body)? {
-            write!(output, "{}", frame::TRUNCATED)?;
-            break;
+    while let Some(event) = next_event(&mut input)? {
+        match event {
+            Some(event) => write!(output, "{}", standin.play(&event))?,
+            None => {
+                write!(output, "{}", frame::TRUNCATED)?;
+                break;
+            }
         }
-        let event = Event {
-            kind: word(&header, 0),
-            budget: word(&header, 8),
-            places: half(&header, 12),
-            lines: half(&header, 14),
-            body,
-        };
-        write!(output, "{}", standin.play(&event))?;
     }
     output.flush()
 }
