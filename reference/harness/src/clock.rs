@@ -1,4 +1,4 @@
-//! The processor time of this thread. On a machine with other work a run is
+//! The processor time of this thread, and medians. On a machine with other work a run is
 //! interrupted now and then; that time is not counted.
 
 #[repr(C)]
@@ -39,4 +39,16 @@ pub fn children_nanoseconds() -> u64 {
     // User time and system time, each in seconds and microseconds.
     let microseconds = (usage[0] + usage[2]) * 1_000_000 + usage[1] + usage[3];
     microseconds as u64 * 1_000
+}
+
+pub fn median(times: &[f64]) -> f64 {
+    let mut sorted = times.to_vec();
+    sorted.sort_by(f64::total_cmp);
+    sorted[sorted.len() / 2]
+}
+
+/// The median of the ratios in each repetition.
+pub fn ratio(times: &[f64], others: &[f64]) -> f64 {
+    let ratios: Vec<f64> = times.iter().zip(others).map(|(a, b)| a / b).collect();
+    median(&ratios)
 }

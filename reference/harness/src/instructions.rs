@@ -90,19 +90,11 @@ pub fn count(workloads: &[Workload], words: &[&str]) -> Result<Vec<Counted>, Str
 
 fn count_in(folder: &Path, workloads: &[Workload], words: &[&str]) -> Result<Vec<Counted>, String> {
     let program = std::env::current_exe().map_err(|error| error.to_string())?;
-    let out = folder.join("out");
-    let run = Command::new("valgrind")
-        .args(["--quiet", "--tool=callgrind"])
-        .arg(format!("--callgrind-out-file={}", out.display()))
+    let run = callgrind(folder)
         .args([
             "--zero-before=*counted_sample*",
             "--dump-before=*sample_end*",
         ])
-        // An instruction that stores many bytes would count once for each of them.
-        .env(
-            "GLIBC_TUNABLES",
-            "glibc.cpu.x86_rep_stosb_threshold=1000000000:glibc.cpu.x86_rep_movsb_threshold=1000000000",
-        )
         .arg(program)
         .arg(MODE)
         .args(words)
@@ -133,6 +125,36 @@ fn count_in(folder: &Path, workloads: &[Workload], words: &[&str]) -> Result<Vec
         counts.push(Counted { ours, fast });
     }
     Ok(counts)
+}
+
+/// Callgrind, which writes to `out` in a folder.
+fn callgrind(folder: &Path) -> Command {
+    let mut command = Command::new("valgrind");
+    command
+        .args(["--quiet", "--tool=callgrind"])
+        .arg(format!("--callgrind-out-file={}", folder.join("out").display()))
+        // An instruction that stores many bytes would count once for each of them.
+        .env(
+            "GLIBC_TUNABLES",
+            "glibc.cpu.x86_rep_stosb_threshold=1000000000:glibc.cpu.x86_rep_movsb_threshold=1000000000",
+        );
+    command
+}
+
+/// All instructions of a program on the bytes of a file, or why there is no count.
+pub fn of_program(path: &str, input: &[u8]) -> Result<f64, String> {
+    let folder = std::env::temp_dir().join(format!("program-{}", std::process::id()));
+    let text = |error: std::io::Error| error.to_string();
+    fs::create_dir_all(&folder).map_err(text)?;
+    let counted = fs::write(folder.join("in"), input).map_err(text).and_then(|()| {
+        let input = fs::File::open(folder.join("in")).map_err(text)?;
+        let run = callgrind(&folder).arg(path).stdin(input).stdout(Stdio::null()).output();
+        let run = run.map_err(|error| format!("valgrind does not start: {error}"))?;
+        let count = total(&fs::read_to_string(folder.join("out")).unwrap_or_default());
+        count.ok_or(String::from_utf8_lossy(&run.stderr).into_owned())
+    });
+    fs::remove_dir_all(&folder).map_err(text)?;
+    counted
 }
 
 /// The sum that a file of callgrind's ends with.

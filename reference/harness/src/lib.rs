@@ -12,7 +12,7 @@
 //! - [`history_pairs`]: pairs of histories.
 //! - [`quick`]: outcomes of the fast version.
 //! - [`workloads`], [`bench`], [`clock`] and [`instructions`]: the jobs that are
-//!   measured, and how; [`lua`]: the same work in Lua.
+//!   measured, and how; [`lua`]: the same work in Lua; [`turns`]: what turns cost.
 //! - [`soak`] and [`memory`]: a process that runs for long, and its memory.
 //! - [`input`]: what the stand-ins read.
 //! - [`search`], [`arguments`] and [`progress`]: what the searches over seeds
@@ -39,4 +39,5 @@ pub mod rounds;
 pub mod search;
 pub mod soak;
 pub mod stored;
+pub mod turns;
 pub mod workloads;

@@ -130,6 +130,16 @@ pub fn table() -> Vec<Workload> {
     ]
 }
 
+/// Runs without an end: a loop of few steps, and a walk over a full table.
+pub fn long_runs() -> [Workload; 2] {
+    let body = [assign(0, sum(variable(1), constant(1)))];
+    let variables = [public_variable(0), public_variable(7)];
+    [
+        long("loop of three steps", &variables, &wide(2), &endless(&body)),
+        walk(MAX_NODES),
+    ]
+}
+
 /// The same work at three sizes.
 pub struct Growth {
     pub name: &'static str,

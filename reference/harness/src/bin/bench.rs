@@ -11,15 +11,17 @@ use std::hint::black_box;
 
 use harness::arguments::Arguments;
 use harness::bench::{Bench, Side};
-use harness::clock;
+use harness::clock::{self, median, ratio};
 use harness::frame::{self, Frame};
 use harness::instructions::{self, Counted};
 use harness::lua;
 use harness::replay::Replay;
+use harness::turns;
 use harness::workloads::{self, Growth, Unit, Workload};
 use reference::mistake::Mistake;
 
-const USAGE: &str = "bench [--portal linked|fast] [--replay PATH] [--repetitions N] [--rows WORDS] [--instructions]
+const USAGE: &str =
+    "bench [--portal linked|fast] [--replay PATH] [--rounds PATH] [--repetitions N] [--rows WORDS] [--instructions]
     --rows: only the rows whose name has these words in it. --instructions: nothing but counts, in seconds";
 
 /// A sample is made of as many calls as take this long on the fast side.
@@ -40,6 +42,7 @@ fn main() {
     let known = [
         "--portal",
         "--replay",
+        "--rounds",
         "--repetitions",
         "--rows",
         "--instructions",
@@ -57,8 +60,16 @@ fn main() {
     println!("ours: {}", bench.portal.name());
     println!("fast: the fast Rust version, with buffers made once");
     let counts = counts(&arguments, rows, &table);
+    let in_turns = match (arguments.rounds(), arguments.replay()) {
+        (Some(rounds), Some(replay)) if turns::NAME.contains(rows) => Some((rounds, replay)),
+        _ => None,
+    };
     if arguments.has("--instructions") {
-        return only_counts(&table, &counts);
+        only_counts(&table, &counts);
+        if let Some((rounds, replay)) = in_turns {
+            turns::counted(&rounds, &replay);
+        }
+        return;
     }
     println!(
         "processor time, medians of {repetitions} repetitions; reading the clock takes {:.0} ns and is not subtracted\n",
@@ -66,6 +77,10 @@ fn main() {
     );
     let measured = main_table(&mut bench, repetitions, &table, &counts);
     others(repetitions, &table, &measured);
+    if let Some((rounds, replay)) = in_turns {
+        turns::timed(&rounds, &replay, repetitions);
+        turns::counted(&rounds, &replay);
+    }
     if !rows.is_empty() {
         return;
     }
@@ -286,18 +301,6 @@ fn sample(bench: &mut Bench, workload: &Workload, calls: usize, side: Side) -> f
         black_box(bench.call(side, workload, workload.budget, area));
     }
     (clock::nanoseconds() - start) as f64 / calls as f64
-}
-
-fn median(times: &[f64]) -> f64 {
-    let mut sorted = times.to_vec();
-    sorted.sort_by(f64::total_cmp);
-    sorted[sorted.len() / 2]
-}
-
-/// The median of the ratios in each repetition.
-fn ratio(times: &[f64], others: &[f64]) -> f64 {
-    let ratios: Vec<f64> = times.iter().zip(others).map(|(a, b)| a / b).collect();
-    median(&ratios)
 }
 
 /// What two readings of the clock, one after the other, are apart.
