@@ -23,9 +23,9 @@
 #include <stdint.h>
 
 /* The version of this header and of the library beside it. The first number changes where a program must be changed. */
-#define PORTAL_VERSION "2.0.0"
+#define PORTAL_VERSION "2.1.0"
 #define PORTAL_VERSION_MAJOR 2
-#define PORTAL_VERSION_MINOR 0
+#define PORTAL_VERSION_MINOR 1
 #define PORTAL_VERSION_PATCH 0
 
 /* The largest job, in bytes. Read up to one byte more, so that a longer one is seen and turned back. */
@@ -80,6 +80,7 @@ enum {
     PORTAL_SPARE_BYTE = 12,         /* a byte that nobody reads is not zero */
     PORTAL_BAD_ORDER = 13,          /* a node's parent is neither the record before it nor above that record */
     PORTAL_BAD_AREA = 14,           /* from portal_write alone: the area is shorter than the job */
+    PORTAL_NO_PLACE = 15,           /* from the program rounds alone: eight runs that take turns are unended */
     PORTAL_FLOW = 21,               /* a command would have let a party's data flow to others */
     PORTAL_NO_NODE = 22,            /* the node to go to, to remove or to come back to does not exist */
     PORTAL_TABLE_FULL = 23,         /* a new node, where there are as many as places */
@@ -234,6 +235,7 @@ static inline const char *portal_ending_name(int ending) {
     case PORTAL_SPARE_BYTE: return "spare byte not zero";
     case PORTAL_BAD_ORDER: return "node out of order";
     case PORTAL_BAD_AREA: return "area too short";
+    case PORTAL_NO_PLACE: return "no place free";
     case PORTAL_FLOW: return "flow rule broken";
     case PORTAL_NO_NODE: return "node does not exist";
     case PORTAL_TABLE_FULL: return "table full";

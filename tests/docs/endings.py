@@ -7,11 +7,14 @@ import unittest
 
 from support import HOME, assembled, job, program
 
-# "Ways a job can end" of paper 01, and those of paper 02. No job ends with 11, which is for follow-on scripts alone, or 14, for what stands when it is written.
-NUMBERS = [*range(1, 15), 21, 22, 23, 24, 25, 27]
+# "Ways a job can end" of paper 01, and those of paper 02. No job ends with 11, which is for follow-on scripts alone, or 14, for what stands when it is written;
+# 15 is for a newcomer among others.
+NUMBERS = [*range(1, 16), 21, 22, 23, 24, 25, 27]
 OF_STORED = 4  # from clean and arrange alone, which keep the rules of their day
 BY_REPLAY = (9, 10)
 OF_SCRIPTS, OF_WRITING = BY_HISTORY = (11, 14)
+BY_ROUNDS = 15
+NOT_OF_JOBS = (OF_STORED, *BY_HISTORY, BY_ROUNDS)
 
 
 def read(path):
@@ -50,10 +53,12 @@ class Page:
         return struct.pack("<IIHH", len(self.job()), *self.limits()) + self.job()
 
     def events(self):
-        """The job as an event of history, and behind it the script, or what stands written into an area."""
+        """The job as an event of history, and behind it the script, or what stands written into an area; nine times as an event of rounds."""
         def event(kind, data, budget, places, lines):
             return struct.pack("<IIIHH", kind, len(data), budget, places, lines) + data
         first = event(0, assembled(self.block("yoke")), *self.limits())
+        if self.number == BY_ROUNDS:
+            return first * 9
         if self.number == OF_SCRIPTS:
             return first + event(1, self.bytes(), *self.limits())
         (area,) = re.findall(r"an area\s+of (\d+) bytes", self.text)
@@ -85,7 +90,7 @@ class Lists(unittest.TestCase):
                          {("PORTAL_FINISHED", 0), *((page.c_name, page.number) for page in PAGES.values())})
 
     def test_names_of_the_programs(self):
-        names = {0: "finished", **{page.number: page.name for page in PAGES.values() if page.number not in (OF_STORED, *BY_HISTORY)}}
+        names = {0: "finished", **{page.number: page.name for page in PAGES.values() if page.number not in NOT_OF_JOBS}}
         found = re.findall(r'^\s*(\d+) => .*b"([^"]+)"', read("crates/inspect/src/names.rt"), re.M)
         self.assertEqual({int(number): name for number, name in found if int(number) != OF_STORED}, names)
         c_names = {"PORTAL_FINISHED": "finished", **{page.c_name: page.name for page in PAGES.values()}}
@@ -98,7 +103,7 @@ class Lists(unittest.TestCase):
                          {(page.rules_name, page.number) for page in PAGES.values()})
 
     def test_definitions(self):
-        refusals = re.findall(r"^bad\w+ = (\d+)$", read("crates/rules/specs/Limits.antt"), re.M)
+        refusals = re.findall(r"^(?:bad\w+|noPlace) = (\d+)$", read("crates/rules/specs/Limits.antt"), re.M)
         stops = re.findall(r"^stopNumber \w+ = (\d+)$", read("crates/rules/specs/Run.antt"), re.M)
         self.assertEqual([int(number) for number in refusals + stops], NUMBERS)
 
@@ -106,7 +111,7 @@ class Lists(unittest.TestCase):
 class Jobs(unittest.TestCase):
     def test_inspect(self):
         for page in PAGES.values():
-            if page.number in (OF_STORED, *BY_HISTORY, *BY_REPLAY):
+            if page.number in (*NOT_OF_JOBS, *BY_REPLAY):
                 continue
             with self.subTest(page.number):
                 said = page.block("text")
@@ -140,6 +145,11 @@ class Jobs(unittest.TestCase):
                 page = PAGES[f"{number}.md"]
                 self.assertEqual(answer("history", page.events()), page.block("text"))
                 self.assertIn(answered, page.block("text"))
+
+    def test_rounds(self):
+        page = PAGES[f"{BY_ROUNDS}.md"]
+        self.assertEqual(answer("rounds", page.events()), page.block("text"))
+        self.assertTrue(page.block("text").endswith("newcomer 8\nending 15 index 0 steps 0 lines 0\n"))
 
 
 if __name__ == "__main__":

@@ -56,9 +56,9 @@ class Tables(unittest.TestCase):
             self.assertTrue(row.words in words or row.words == "end")
 
 
-def rows(head):
-    """The cells of the one table with this head."""
-    (body,) = re.findall(rf"^\| {re.escape(head)} \|\n\|[-|]+\|\n((?:\|.*\|\n)+)", TEXT, re.M)
+def rows(head, which=0):
+    """The cells of a table with this head."""
+    body = re.findall(rf"^\| {re.escape(head)} \|\n\|[-|]+\|\n((?:\|.*\|\n)+)", TEXT, re.M)[which]
     return [[cell.strip() for cell in row.strip("|").split("|")] for row in body.splitlines()]
 
 
@@ -110,6 +110,25 @@ class FollowOn(unittest.TestCase):
                 self.assertEqual(ending(fields[name], free, value), ["0"])
         self.assertEqual((ending(8, 0, 255), ending(8, 0, 1)), (["0"], ["0"]))  # a variable's level is any set
         self.assertEqual((ending(10, 0, 65), ending(10, 0, 64)), (["11"], ["0"]))  # how many variables
+
+
+class Turns(unittest.TestCase):
+    def test_header(self):
+        """The fields of an event stand where the page says."""
+        found = [(row[0], row[1].split(":")[0].split(";")[0]) for row in rows("byte | what", 3)]
+        self.assertEqual(found, [("0 to 3", "kind"), ("4 to 7", "how many bytes the body has"), ("8 to 11", "budget"),
+                                 ("12, 13", "places of the node table"), ("14, 15", "line capacity"), ("from 16 on", "the body")])
+        data = bytes.fromhex("".join(block("events").split()))
+        kind, length, *limits = struct.unpack_from("<IIIHH", data)
+        self.assertEqual((kind, limits), (0, [int(n) for n in re.search(r"budget (\d+), (\d+) places and (\d+) lines", TEXT).groups()]))
+        self.assertEqual(data[16:16 + length], assembled("tree\n  resort = 10\n"))
+
+    def test_answers(self):
+        data = bytes.fromhex("".join(block("events").split()))
+        done = subprocess.run([program("rounds")], input=data, stdout=subprocess.PIPE, check=True)
+        self.assertEqual(done.stdout.decode(), block("answers"))
+        done = subprocess.run([program("rounds")], input=data[:-1], stdout=subprocess.PIPE, check=True)
+        self.assertEqual(done.stdout.decode(), block("answers").replace("turn 2\nidle\n", "truncated\n"))
 
 
 if __name__ == "__main__":

@@ -94,7 +94,7 @@ class Limits(unittest.TestCase):
         rows = {row[0]: number(row[2]) for row in table("what | least | most")}
         found = dict(re.findall(r"^(max\w+) = (\d+)$", read("crates/rules/specs/Limits.antt"), re.M))
         names = {"bytes of a job": "maxBytes", "variables": "maxVariables", "nodes": "maxNodes", "script records": "maxRecords",
-                 "nested blocks": "maxDepth", "budget, in steps": "maxBudget"}
+                 "nested blocks": "maxDepth", "budget, in steps": "maxBudget", "unended runs that take turns": "maxRuns"}
         self.assertEqual(set(found), set(names.values()))
         self.assertEqual(rows, {what: int(found[name]) for what, name in names.items()})
 

@@ -16,6 +16,7 @@ ENDINGS = {
     12: "spare byte not zero",
     13: "node out of order",
     14: "area too short",
+    15: "no place free",
     21: "flow rule broken",
     22: "node does not exist",
     23: "table full",
