@@ -9,13 +9,13 @@ help:
 	@echo 'make run       build the programs of the first page and show the board of an example job'
 	@echo 'make test      prove every crate, try every wrong edit, run every other test'
 	@echo 'make check     prove every crate that changed, and run its programs'
-	@echo 'make programs  prove and build the programs board, inspect, replay, history, clean, arrange and summary, in target/bin'
+	@echo 'make programs  prove and build the programs board, inspect, replay, history, rounds, clean, arrange and summary, in target/bin'
 	@echo 'make lib       prove and build include/libportal.a, for a portal in C or C++'
 	@echo 'make install   put library, header and portal.pc under PREFIX (now $(PREFIX)); DESTDIR goes in front'
 	@echo 'make fmt       lay out the sources'
 	@echo 'make bench     nanoseconds a step, against a fast version in Rust'
 	@echo 'make fuzz      raw bytes, generated jobs and histories, and pairs of them, until stopped'
-	@echo 'make soak      ten million jobs through one replay process'
+	@echo 'make soak      ten million jobs through one replay process, a million newcomers through one rounds process'
 	@echo 'make clean     remove all that was built'
 
 # The example is a portal's depth summary; its board is examples/expected/depths.out. A program of this toolchain cannot give an exit status, so that the board
@@ -43,7 +43,7 @@ fmt:
 	rt fmt
 
 programs:
-	@bash tools/build board inspect replay history clean arrange summary
+	@bash tools/build board inspect replay history rounds clean arrange summary
 
 lib:
 	rt staticlib portal
@@ -66,7 +66,7 @@ fuzz:
 	@bash tests/fuzz
 
 soak:
-	@bash -euc '. tests/harness.sh; "$$harness/soak"'
+	@bash -euc '. tests/harness.sh; "$$harness/soak"; "$$harness/soak" --rounds "$$ROUNDS"'
 
 clean:
 	rm -rf target reference/target include/libportal.a

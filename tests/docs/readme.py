@@ -51,7 +51,7 @@ class Shown(unittest.TestCase):
     def test_commands(self):
         """Each command, as a reader gives it."""
         transcripts = [Transcript(text) for text in BLOCKS if text.startswith("$ ")]
-        self.assertEqual([transcript.commands[-1].split()[0] for transcript in transcripts], ["make", *["tools/job"] * 5, "cat", "tools/job", "tools/job"])
+        self.assertEqual([transcript.commands[-1].split()[0] for transcript in transcripts], ["make", *["tools/job"] * 5, "cat", *["tools/job"] * 3])
         for transcript in transcripts:
             with self.subTest(transcript.commands[-1]):
                 output, error = transcript.output()

@@ -4,7 +4,7 @@ import unittest
 
 from support import HOME, job, tool, tool_process
 
-VERBS = ("assemble", "list", "clean", "arrange", "picture", "explain", "run", "probe")
+VERBS = ("assemble", "list", "clean", "arrange", "picture", "explain", "run", "rounds", "probe")
 
 
 class Help(unittest.TestCase):

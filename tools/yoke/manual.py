@@ -161,6 +161,17 @@ readers are all among them. That is what the house hands to alpina.
 
 It shows house numbers: it is for whoever owns them. The public sees the board.
 """,
+    "rounds": """\
+Runs sources and jobs in turns, each of 5,000 steps, and says who ends in which
+turn. They come in the order of the call, before the first turn: eight find a
+place, and a ninth is refused with 15. Each has the board runner's limits, or
+those that are given, and ends as it does by itself. The program for this is
+rounds, in target/bin or $ROUNDS.
+
+  tools/job rounds examples/day.yoke examples/buses.yoke examples/guests.yoke
+
+Who ends when may depend on house numbers: it is for the house.
+""",
     "probe": """\
 Runs a source or a job many times, each time with other house numbers and other
 house nodes, all else the same. It says which different boards came, how long

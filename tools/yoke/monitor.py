@@ -9,12 +9,13 @@ from pathlib import Path
 from typing import NamedTuple
 
 from .errors import JobError, visible
-from .limits import HOME, MAX_WRITTEN
+from .limits import HOME, MAX_RUNS, MAX_WRITTEN, TURN_STEPS
 from .pictures import Picture
 
 FRAME = struct.Struct("<IIHH")
 EVENT = struct.Struct("<IIIHH")
-JOB, SCRIPT, WRITE = 0, 1, 4  # kinds of events
+JOB, SCRIPT, WRITE = 0, 1, 4  # kinds of events of history
+NEWCOMER, TURN = 0, 1  # and of rounds
 
 
 class Outcome(NamedTuple):
@@ -190,6 +191,32 @@ def written(job, sections, limits):
     return area[:length]
 
 
+class Turn(NamedTuple):
+    """A turn: whose, by the place among the jobs, how many steps, and the outcome where the run has ended."""
+
+    run: int
+    took: int
+    outcome: Outcome
+
+
+def rounds(jobs, limits):
+    """What becomes of jobs that take turns: for each the number that turns it back, or 0; and the turns, until nobody is left."""
+    most = max(1, -(-limits.budget // TURN_STEPS)) * min(len(jobs), MAX_RUNS)
+    events = [EVENT.pack(NEWCOMER, len(data), *limits) + data for data in jobs] + [EVENT.pack(TURN, 0, 0, 0, 0)] * most
+    child = start("rounds")
+    output, _ = child.communicate(b"".join(events))
+    text = output.decode("utf-8", "replace")
+    answers = Answers(iter(text.split("\n")[:-1]), "turn")
+    try:
+        newcomers = [answers.newcomer() for _ in jobs]
+        turns = [turn for turn in (answers.turn() for _ in range(most)) if turn]
+        if answers.more() or sum(turn.outcome is not None for turn in turns) != newcomers.count(0):
+            raise ValueError("an answer for each run expected")
+        return newcomers, turns
+    except (ValueError, IndexError) as problem:
+        raise misread("rounds", problem, child.returncode, answers.row or "") from None
+
+
 def outcomes(name, parts, heads, brief=False):
     """The outcome of each part of a program's input, in order; the first is a job. The parts are written while the answers are read."""
     child = start(name)
@@ -252,12 +279,39 @@ class Answers:
         while self.row is not None and self.row.split(" ", 1)[0] in words:
             self.next()
 
-    def read(self, brief):
-        head = self.heads if self.count else "job"
+    def head(self, head):
+        """The line that starts the next part."""
         (number,) = self.numbers(head)
         if number != self.count:
             raise ValueError(f"{head} {self.count} expected, there is {head} {number}")
         self.count += 1
+
+    def word(self, word):
+        """Whether the next row is this word, which is then passed over."""
+        found = self.row == word
+        if found:
+            self.next()
+        return found
+
+    def read(self, brief):
+        self.head(self.heads if self.count else "job")
+        return self.block(brief)
+
+    def newcomer(self):
+        """The number that turns a newcomer back, or 0."""
+        self.head("newcomer")
+        return 0 if self.word("taken") else self.block(True).ending
+
+    def turn(self):
+        """A turn, or None where there is no run."""
+        self.head("turn")
+        if self.word("idle"):
+            return None
+        run, took = self.numbers("run", "took")
+        return Turn(run, took, self.block(False) if (self.row or "").startswith("ending ") else None)
+
+    def block(self, brief):
+        """An outcome, behind its head."""
         ending, record, steps, count = self.numbers("ending", "index", "steps", "lines")
         lines = [line_of(line) for line in self.several("line")]
         if len(lines) != count:

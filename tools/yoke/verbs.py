@@ -18,9 +18,10 @@ from .history import History, Part, read_part
 from .limits import ASKED_BUDGET, ASKED_LINES, ASKED_PLACES, HOME, LEVELS, PROGRAM, PUBLIC, UNNAMED, Limits
 from .listing import listing, preorder, record_text, script_lines
 from .manual import DESCRIPTIONS, LANGUAGE, STATUS
-from .monitor import history, outcome, stored, written
+from .monitor import history, outcome, rounds, stored, written
 from .pictures import pictured, text_picture
 from .probe import Variations, boards, probe_report, terminal_progress
+from .rounds import rounds_lines
 from .run import Run
 from .streams import lost, warn
 from .trace import trace
@@ -278,6 +279,15 @@ def run_history(first, options, limits):
     return 0 if past.finished else 1
 
 
+def do_rounds(options):
+    need_one_stdin(*options.jobs)
+    parts = [read_either(path) for path in options.jobs]
+    paths = [source.path if source else shown(path) for path, (source, _) in zip(options.jobs, parts)]
+    newcomers, turns = rounds([data for _, data in parts], limits_of(options)[0])
+    print("\n".join(rounds_lines(paths, newcomers, turns)))
+    return 0 if not any(newcomers) and all(turn.outcome.ending == FINISHED for turn in turns if turn.outcome) else 1
+
+
 def do_probe(options):
     need_one_stdin(options.job, options.tree)
     source, data = read_either(options.job, options.tree)
@@ -313,8 +323,9 @@ def number_from(low, high):
     return number
 
 
-def add_limits(one):
-    one.add_argument("--tree", metavar="TREE", help="variables and tree from this source or job, which has no script")
+def add_limits(one, tree=True):
+    if tree:
+        one.add_argument("--tree", metavar="TREE", help="variables and tree from this source or job, which has no script")
     one.add_argument("--budget", metavar="N", type=number_from(0, ASKED_BUDGET), help="steps; 100,000 if not given")
     one.add_argument("--places", metavar="N", type=number_from(0, ASKED_PLACES), help="nodes that there is room for; 512 if not given")
     one.add_argument("--lines", metavar="N", type=number_from(0, ASKED_LINES), help="board lines; 256 if not given")
@@ -369,6 +380,9 @@ def parser():
     one.add_argument("--all", action="store_true", help="leave nothing out of the last tree, however long a row is")
     one.add_argument("--reader", metavar="PARTIES", help="show only the lines that these parties see, as alpina or alpina+buses; public for nobody's")
     one.add_argument("--save", metavar="FILE", help="write the variables and the tree that stand in the end to FILE, as a job without a script")
+    one = verb("rounds", "run sources and jobs in turns and say who ends when", do_rounds)
+    one.add_argument("jobs", metavar="SOURCE|JOB", nargs="+", help="sources and jobs in the order in which they come, one of them - for standard input")
+    add_limits(one, tree=False)
     one = verb("probe", "run it with many house numbers and compare the boards", do_probe)
     one.add_argument("job", metavar="SOURCE|JOB", help="a source or a job, or - for standard input")
     add_limits(one)
