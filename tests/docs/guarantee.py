@@ -104,7 +104,8 @@ class Figures(unittest.TestCase):
 
 class Theorems(unittest.TestCase):
     def test_each_is_there(self):
-        rows = re.findall(r"^\| `([^`]+)` \| [^|]+ \| `(crates/[^`]+\.antt)` \|$", TEXT, re.M)
+        rows = [(name, path) for names, path in re.findall(r"^\| (`[^|]+`) \| [^|]+ \| `(crates/[^`]+\.antt)` \|$", TEXT, re.M)
+                for name in re.findall(r"`([^`]+)`", names)]
         self.assertGreaterEqual(len(rows), 4)
         for name, path in rows + re.findall(r"`([\w-]+)` in\s+`(crates/[^`]+\.antt)`", TEXT):
             with self.subTest(name):
