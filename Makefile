@@ -14,7 +14,7 @@ help:
 	@echo 'make install   put library, header and portal.pc under PREFIX (now $(PREFIX)); DESTDIR goes in front'
 	@echo 'make fmt       lay out the sources'
 	@echo 'make bench     nanoseconds a step, against a fast version in Rust'
-	@echo 'make fuzz      raw bytes, generated jobs and histories, and pairs of them, until stopped'
+	@echo 'make fuzz      raw bytes, generated jobs, histories, orders of newcomers and turns, and pairs, until stopped'
 	@echo 'make soak      ten million jobs through one replay process, a million newcomers through one rounds process'
 	@echo 'make clean     remove all that was built'
 

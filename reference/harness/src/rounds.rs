@@ -73,7 +73,9 @@ impl Through {
     /// empty roof.
     pub fn told(&self, orders: &[&[Event]]) -> Vec<Told> {
         let mut rest = match self {
-            Through::Program(program) => split(&printed_text(program.run(stream(&orders.concat())))),
+            Through::Program(program) => {
+                split(&printed_text(program.run(stream(&orders.concat()))))
+            }
             Through::Fast => {
                 let mut player = Player::new(None);
                 let events = orders.iter().copied().flatten();
@@ -197,12 +199,17 @@ pub fn show(events: &[Event]) -> String {
         } = event;
         match event.kind {
             kind::NEWCOMER => {
-                writeln!(text, "newcomer {number}, budget {budget}, places {places}, lines {lines}")
-                    .unwrap();
+                writeln!(
+                    text,
+                    "newcomer {number}, budget {budget}, places {places}, lines {lines}"
+                )
+                .unwrap();
                 text += &print::section(true, body);
             }
             kind::TURN => writeln!(text, "turn {number}").unwrap(),
-            other => writeln!(text, "event {number} of kind {other}, {} bytes", body.len()).unwrap(),
+            other => {
+                writeln!(text, "event {number} of kind {other}, {} bytes", body.len()).unwrap()
+            }
         }
     }
     text

@@ -149,7 +149,10 @@ pub fn soak(path: &str, set: Set, jobs: u64, limit: Duration) -> bool {
         }
         if got != wanted.as_bytes() {
             let got = String::from_utf8_lossy(&got).into_owned();
-            println!("drift at {done} {}\nexpected\n{wanted}\ngot\n{got}", set.parts);
+            println!(
+                "drift at {done} {}\nexpected\n{wanted}\ngot\n{got}",
+                set.parts
+            );
             return false;
         }
         done += 1;

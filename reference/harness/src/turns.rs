@@ -13,10 +13,7 @@ use crate::workloads::{self, Workload};
 /// The name of the rows.
 pub const NAME: &str = "8 runs of 1,000,000 steps in turns";
 
-const STEPS: u64 = 1_000_000;
-
-/// Enough steps for a count of instructions.
-const COUNTED_STEPS: u64 = 100_000;
+const STEPS: u32 = 1_000_000;
 
 /// The input of `rounds` and that of `replay`.
 struct Inputs {
@@ -26,10 +23,10 @@ struct Inputs {
 }
 
 impl Inputs {
-    fn new(workload: Workload, steps: u64) -> Inputs {
+    fn new(workload: Workload) -> Inputs {
         let newcomer = Event {
             kind: kind::NEWCOMER,
-            budget: steps as u32,
+            budget: STEPS,
             places: 512,
             lines: 0,
             body: workload.job.clone(),
@@ -38,10 +35,10 @@ impl Inputs {
             kind: kind::TURN,
             ..Event::default()
         };
-        let turns = MAX_RUNS * (steps / TURN_STEPS) as usize;
+        let turns = MAX_RUNS * (STEPS / TURN_STEPS as u32) as usize;
         let frame = Frame {
             job: workload.job,
-            budget: steps as u32,
+            budget: STEPS,
             places: 512,
             lines: 0,
         };
@@ -55,7 +52,10 @@ impl Inputs {
     /// Both programs must tell the same outcome of all eight.
     fn compare(&self, rounds: &Replay, replay: &Replay) {
         let alone = replay.run(self.alone.clone()).text;
-        let outcome = alone.split("job ").nth(1).and_then(|job| job.split_once('\n'));
+        let outcome = alone
+            .split("job ")
+            .nth(1)
+            .and_then(|job| job.split_once('\n'));
         let outcome = outcome.expect("replay tells an outcome").1;
         let told = rounds.run(self.turns.clone()).text.matches(outcome).count();
         assert_eq!(told, MAX_RUNS, "{}: rounds and replay differ", self.name);
@@ -63,8 +63,8 @@ impl Inputs {
 }
 
 /// The same for a short loop and for one that goes over all of a full table.
-fn inputs(steps: u64) -> [Inputs; 2] {
-    workloads::long_runs().map(|workload| Inputs::new(workload, steps))
+fn inputs() -> [Inputs; 2] {
+    workloads::long_runs().map(Inputs::new)
 }
 
 fn programs(rounds: &str, replay: &str) -> [Replay; 2] {
@@ -76,7 +76,7 @@ pub fn timed(rounds: &str, replay: &str, repetitions: usize) {
     let [rounds, replay] = programs(rounds, replay);
     println!("\n| {NAME} | in turns | one after the other | ratio |");
     println!("|---|---:|---:|---:|");
-    for inputs in inputs(STEPS) {
+    for inputs in inputs() {
         inputs.compare(&rounds, &replay);
         let time = |program: &Replay, input: &[u8]| {
             let before = clock::children_nanoseconds();
@@ -99,11 +99,11 @@ pub fn timed(rounds: &str, replay: &str, repetitions: usize) {
     }
 }
 
-/// Instructions of both, of shorter runs.
+/// Instructions of both.
 pub fn counted(rounds: &str, replay: &str) {
-    println!("\n| 8 runs of {COUNTED_STEPS} steps, instructions | in turns | one after the other | ratio |");
+    println!("\n| {NAME}, instructions | in turns | one after the other | ratio |");
     println!("|---|---:|---:|---:|");
-    for inputs in inputs(COUNTED_STEPS) {
+    for inputs in inputs() {
         let turns = instructions::of_program(rounds, &inputs.turns);
         let alone = instructions::of_program(replay, &inputs.alone);
         match (turns, alone) {

@@ -137,7 +137,9 @@ impl Writer<'_> {
             0 => case.limits.budget = self.random.pick(&[0, MAX_BUDGET + 1, 1 << 40]),
             1 => case.limits.places = self.random.pick(&[0, 513, 514, 65_535]),
             2 => {
-                let length = self.random.pick(&[MAX_BYTES + 1, MAX_BYTES + 2, 30_000, 70_000]);
+                let length = self
+                    .random
+                    .pick(&[MAX_BYTES + 1, MAX_BYTES + 2, 30_000, 70_000]);
                 case.bytes.resize(length, self.random.byte());
             }
             _ => {}
@@ -224,11 +226,17 @@ impl Writer<'_> {
             records.push(cover());
         }
         for _ in 0..self.random.below(3) {
-            records.push(self.random.pick(&[when(1), come_back(1), come_back(value())]));
+            records.push(
+                self.random
+                    .pick(&[when(1), come_back(1), come_back(value())]),
+            );
             opened += 1;
         }
         if guarded {
-            records.push(self.random.pick(&[when(variable(2)), come_back(variable(2))]));
+            records.push(
+                self.random
+                    .pick(&[when(variable(2)), come_back(variable(2))]),
+            );
             opened += 1;
         }
         (records, opened)
@@ -248,7 +256,13 @@ impl Writer<'_> {
         match self.random.below(6) {
             0 | 1 => Vec::new(),
             2 | 3 => vec![self.random.pick(&stops)],
-            4 => vec![print(variable(0)), print(value()), set_value(1), root(), up()],
+            4 => vec![
+                print(variable(0)),
+                print(value()),
+                set_value(1),
+                root(),
+                up(),
+            ],
             _ => vec![
                 first_child(),
                 print(children()),

@@ -108,28 +108,49 @@ fn ends_at_the_edge() {
     };
     // The script's end.
     let one = [nothing()];
-    assert_eq!(ends(counting(4_999, &[], 9_000)), [(0, 4_999, Some((0, 0, 4_999)))]);
-    assert_eq!(ends(counting(4_999, &one, 9_000)), [(0, 5_000, Some((0, 0, 5_000)))]);
+    assert_eq!(
+        ends(counting(4_999, &[], 9_000)),
+        [(0, 4_999, Some((0, 0, 4_999)))]
+    );
+    assert_eq!(
+        ends(counting(4_999, &one, 9_000)),
+        [(0, 5_000, Some((0, 0, 5_000)))]
+    );
     let later = [(0, 5_000, None), (0, 1, Some((0, 0, 5_001)))];
     assert_eq!(ends(counting(4_999, &[nothing(); 2], 9_000)), later);
     let twice = [(0, 5_000, None), (0, 5_000, Some((0, 0, 10_000)))];
     assert_eq!(ends(counting(9_997, &[nothing(); 3], 20_000)), twice);
     // "At the script's end the run has finished, even with the budget used up."
-    assert_eq!(ends(counting(4_999, &one, 5_000)), [(0, 5_000, Some((0, 0, 5_000)))]);
+    assert_eq!(
+        ends(counting(4_999, &one, 5_000)),
+        [(0, 5_000, Some((0, 0, 5_000)))]
+    );
     // The budget.
     let budget = |budget| ends(newcomer(&[repeat(1), end()], budget));
     assert_eq!(budget(1), [(0, 1, Some((25, 1, 1)))]);
     assert_eq!(budget(4_999), [(0, 4_999, Some((25, 1, 4_999)))]);
     assert_eq!(budget(5_000), [(0, 5_000, Some((25, 0, 5_000)))]);
-    assert_eq!(budget(5_001), [(0, 5_000, None), (0, 1, Some((25, 1, 5_001)))]);
-    assert_eq!(budget(10_000), [(0, 5_000, None), (0, 5_000, Some((25, 0, 10_000)))]);
+    assert_eq!(
+        budget(5_001),
+        [(0, 5_000, None), (0, 1, Some((25, 1, 5_001)))]
+    );
+    assert_eq!(
+        budget(10_000),
+        [(0, 5_000, None), (0, 5_000, Some((25, 0, 10_000)))]
+    );
     // Any other stop needs its record: right behind step 5,000 it comes in the next turn,
     // with a budget of 5,000 not at all.
     let stops = [nothing(), up()];
     let next = [(0, 5_000, None), (0, 0, Some((22, 4, 5_000)))];
     assert_eq!(ends(counting(4_999, &stops, 5_001)), next);
-    assert_eq!(ends(counting(4_999, &stops, 5_000)), [(0, 5_000, Some((25, 4, 5_000)))]);
-    assert_eq!(ends(counting(4_999, &stops[1..], 5_000)), [(0, 4_999, Some((22, 3, 4_999)))]);
+    assert_eq!(
+        ends(counting(4_999, &stops, 5_000)),
+        [(0, 5_000, Some((25, 4, 5_000)))]
+    );
+    assert_eq!(
+        ends(counting(4_999, &stops[1..], 5_000)),
+        [(0, 4_999, Some((22, 3, 4_999)))]
+    );
 }
 
 /// An empty script takes a place, and ends in its first turn.
@@ -152,7 +173,12 @@ fn eight_places() {
     let broken = event(kind::NEWCOMER, Vec::new(), 100);
     let mut events = vec![forever(); 7];
     events.extend([broken.clone(), newcomer(&[], 0)]);
-    events.extend([short.clone(), short.clone(), broken.clone(), newcomer(&[], 0)]);
+    events.extend([
+        short.clone(),
+        short.clone(),
+        broken.clone(),
+        newcomer(&[], 0),
+    ]);
     let before = replies(&events);
     assert!(before[..7].iter().all(|reply| *reply == Reply::Taken));
     assert_eq!([number(&before[7]), number(&before[8])], [1, 9]);

@@ -9,7 +9,7 @@ use harness::frame;
 use harness::histories::text;
 use harness::progress::Progress;
 use harness::replay::Replay;
-use harness::rounds::{check, show, Told, Through};
+use harness::rounds::{check, show, Through, Told};
 use harness::search::{each_found, Bounds};
 use reference::coverage::Coverage;
 use reference::generate;
@@ -112,13 +112,7 @@ fn told(side: &Through, orders: &[Vec<Event>]) -> Vec<Told> {
 }
 
 /// The smallest order that shows it; the order as it is, where it does not by itself.
-fn report(
-    side: &Through,
-    seed: u64,
-    order: &[Event],
-    wrong: (usize, Unlike),
-    mistake: Mistake,
-) {
+fn report(side: &Through, seed: u64, order: &[Event], wrong: (usize, Unlike), mistake: Mistake) {
     let wrong_of = |events: &[Event]| {
         let told = side.told_one(events);
         check(events, &told, mistake, &mut Coverage::new()).err()
@@ -137,7 +131,11 @@ fn report(
     };
     println!("the smallest order that shows it\n\n{}", show(&small));
     let Unlike { expected, got } = unlike;
-    println!("event {number}\nexpected\n{}got\n{}", beginning(&expected), beginning(&got));
+    println!(
+        "event {number}\nexpected\n{}got\n{}",
+        beginning(&expected),
+        beginning(&got)
+    );
 }
 
 /// A board may have many lines.
