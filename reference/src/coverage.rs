@@ -171,8 +171,8 @@ impl Coverage {
             }
             Reply::TurnedBack(outcome) => {
                 self.count(newcomer_name(outcome.ending));
-                let alone = || run::outcome(&event.body, &event.limits()).ending;
-                if outcome.ending == Ending::NoPlace && alone().turned_back() {
+                let alone = || run::admitted(&event.body, &event.limits(), Mistake::None);
+                if outcome.ending == Ending::NoPlace && alone().is_err() {
                     self.count(String::from(UNREAD));
                 }
             }
@@ -180,10 +180,8 @@ impl Coverage {
             Reply::Idle => self.count(String::from(IDLE)),
             Reply::Unknown => {}
         }
-        self.ended_before = match &reply {
-            Reply::Turn { ended, .. } => ended.is_some() || self.ended_before,
-            _ => self.ended_before && roof.unended() > 0,
-        };
+        let ended = matches!(&reply, Reply::Turn { ended: Some(_), .. });
+        self.ended_before = roof.unended() > 0 && (ended || self.ended_before);
         reply
     }
 
