@@ -83,14 +83,14 @@ static void no_area(void) {
 static void names(void) {
     int named = 0;
     for (int ending = -1; ending <= 40; ending++) {
-        int known = ending == 0 || (1 <= ending && ending <= 14) || (21 <= ending && ending <= 25) || ending == 27;
+        int known = ending == 0 || (1 <= ending && ending <= 15) || (21 <= ending && ending <= 25) || ending == 27;
         same("portal_ending_name", "known", known, strcmp(portal_ending_name(ending), "unknown") != 0);
         named += known;
         for (int other = 0; known && other < ending; other++) {
             same("portal_ending_name", "another name", 1, strcmp(portal_ending_name(ending), portal_ending_name(other)) != 0);
         }
     }
-    same("portal_ending_name", "how many", 21, named);
+    same("portal_ending_name", "how many", 22, named);
     same("portal_ending_name", "finished", 0, strcmp(portal_ending_name(PORTAL_FINISHED), "finished"));
 }
 
