@@ -21,7 +21,8 @@ fn wide(x: u8) -> u32 {
     x as u32
 }
 
-fn put_answer(buf: &mut [u8; SIZE], out: Out, a: Answer) -> Out
+// The four numbers of an answer.
+pub fn put_answer(buf: &mut [u8; SIZE], out: Out, a: Answer) -> Out
     requires { ⌜ out .used ≤ 65536 ⌝ }
     ensures { λ r. ⌜ r .used ≤ 65536 ⌝ }
 {
@@ -89,8 +90,8 @@ fn put_tree(buf: &mut [u8; SIZE], out: Out, words: &[u32], places: usize) -> Out
 }
 
 // The tree of a run that was lent so many places.
-fn put_lent_tree(buf: &mut [u8; SIZE], out: Out, words: &[u32; WORDS], places: usize) -> Out
-    requires { ⌜ out .used ≤ 65536 ⌝ }
+fn put_lent_tree(buf: &mut [u8; SIZE], out: Out, words: &[u32], places: usize) -> Out
+    requires { ⌜ (out .used ≤ 65536) × (5120 ≤ length (now words)) ⌝ }
     ensures { λ r. ⌜ r .used ≤ 65536 ⌝ }
 {
     if places < 1 {
@@ -102,7 +103,32 @@ fn put_lent_tree(buf: &mut [u8; SIZE], out: Out, words: &[u32; WORDS], places: u
     put_tree(buf, out, words, places)
 }
 
-// What became of a run: n variables, places of a table and an area for lines were lent to it.
+// What became of a run: n variables, places of a table and an area for lines were lent to it. The words are at least those of the largest table.
+pub fn put_run(
+    buf: &mut [u8; SIZE],
+    out: Out,
+    o: Outcome,
+    n: usize,
+    places: usize,
+    words: &[u32],
+    levels: &[u8],
+    values: &[i32],
+    lines: &[u8],
+) -> Out
+    requires { ⌜ (out .used ≤ 65536) × (5120 ≤ length (now words)) × (n ≤ length (now levels)) × (n ≤ length (now values)) ⌝ }
+    ensures { λ r. ⌜ r .used ≤ 65536 ⌝ }
+{
+    let a = answer::of(o);
+    let mut r = put_answer(buf, out, a);
+    if !answer::was_run(o) {
+        return r;
+    }
+    r = print::lines(buf, r, b"line ", lines, a.lines);
+    r = put_variables(buf, r, n, levels, values);
+    put_lent_tree(buf, r, words, places)
+}
+
+// The same with a table of its own.
 pub fn put(
     buf: &mut [u8; SIZE],
     out: Out,
@@ -117,12 +143,5 @@ pub fn put(
     requires { ⌜ (out .used ≤ 65536) × (n ≤ length (now levels)) × (n ≤ length (now values)) ⌝ }
     ensures { λ r. ⌜ r .used ≤ 65536 ⌝ }
 {
-    let a = answer::of(o);
-    let mut r = put_answer(buf, out, a);
-    if !answer::was_run(o) {
-        return r;
-    }
-    r = print::lines(buf, r, b"line ", lines, a.lines);
-    r = put_variables(buf, r, n, levels, values);
-    put_lent_tree(buf, r, words, places)
+    put_run(buf, out, o, n, places, words, levels, values, lines)
 }

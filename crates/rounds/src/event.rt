@@ -14,9 +14,12 @@ use turns::pool;
 use turns::pool::Pool;
 ghost use mathlib.Core.Path.{_≡_};
 ghost use mathlib.Core.List.{List, []};
-ghost use Prim.Native.Nat.{ℕ, _<_, _≤_};
+ghost use Prim.Native.Nat.{ℕ, _*_, _<_, _≤_};
+ghost use lib.ListN.{length};
+ghost use Rattle.rules.specs.Limits.{maxBytes, maxVariables, maxRuns};
+ghost use Rattle.actions.specs.Marks.{marksSize};
 ghost use Rattle.frames.specs.Bounds.{Fits};
-ghost use Rattle.turns.specs.Pool.{parts, Open, Housed};
+ghost use Rattle.turns.specs.Pool.{planSize, tableSize, areaSize, parts, Open, Housed};
 
 // The slices of eight parts that the runs are lent.
 pub const JOBS: usize = MAX_BYTES * MAX_RUNS;
@@ -35,6 +38,39 @@ pub const MARKS: usize = marks::SIZE * MAX_RUNS;
 
 // One byte more than a job may have, so that a body that is too long is seen.
 const BODY: usize = 23049;
+
+// No run yet, in slices that are long enough.
+fn begin(
+    jobs: &[u8],
+    plans: &[u32],
+    levels: &[u8],
+    words: &[u32],
+    values: &[i32],
+    lines: &[u8],
+    marks: &[u16],
+) -> Pool
+    requires { ⌜ (length (now jobs) ≡ maxBytes * maxRuns) × (length (now plans) ≡ planSize * maxRuns) × (length (now levels) ≡ maxVariables * maxRuns)
+        × (length (now words) ≡ tableSize * maxRuns) × (length (now values) ≡ maxVariables * maxRuns) × (length (now lines) ≡ areaSize * maxRuns)
+        × (length (now marks) ≡ marksSize * maxRuns) ⌝ }
+    ensures { λ p. ⌜ Housed p (parts (now (jobs .entry)) (now (plans .entry)) (now (levels .entry)) (now (words .entry)) (now (values .entry)) (now (lines .entry)) (now (marks .entry))) ⌝ }
+{
+    pool::empty()
+}
+
+// The same in arrays, whose lengths are known.
+pub fn none(
+    jobs: &[u8; JOBS],
+    plans: &[u32; PLANS],
+    levels: &[u8; LEVELS],
+    words: &[u32; WORDS],
+    values: &[i32; VALUES],
+    lines: &[u8; LINES],
+    marks: &[u16; MARKS],
+) -> Pool
+    ensures { λ p. ⌜ Housed p (parts (now (jobs .entry)) (now (plans .entry)) (now (levels .entry)) (now (words .entry)) (now (values .entry)) (now (lines .entry)) (now (marks .entry))) ⌝ }
+{
+    begin(jobs, plans, levels, words, values, lines, marks)
+}
 
 // The state after an event, and the runs.
 pub struct After {
@@ -84,8 +120,9 @@ fn newcomer(
         marks,
     );
     let pool = a.pool;
+    let reply = a.reply;
     Told {
-        out: show::put_admission(buf, r, a.reply),
+        out: show::put_admission(buf, r, reply),
         pool,
     }
 }
@@ -109,19 +146,11 @@ fn turn(
         × Housed (r .pool) (parts (now (jobs .entry)) (now (plans .entry)) (now (levels .entry)) (now (words .exit)) (now (values .exit)) (now (lines .exit)) (now (marks .exit))) ⌝ }
 {
     let r = frames::head(buf, out, b"turn ", k);
-    let a = pool::turn(
-        p,
-        jobs,
-        plans,
-        levels,
-        words,
-        values,
-        lines,
-        marks,
-    );
+    let a = pool::turn(p, jobs, plans, levels, words, values, lines, marks);
     let pool = a.pool;
+    let reply = a.reply;
     Told {
-        out: show::put_turn(buf, r, a.reply, pool, words, levels, values, lines),
+        out: show::put_turn(buf, r, reply, pool, words, levels, values, lines),
         pool,
     }
 }
@@ -137,42 +166,81 @@ fn unknown(k: u64, buf: &mut [u8; SIZE], out: Out, p: Pool) -> Told
     }
 }
 
-// What an event of a kind does.
-fn act(
-    kind: u32,
-    body: &[u8],
+// A newcomer's body is read, and the newcomer comes.
+fn admit(
+    block: &mut [u8; SIZE],
+    buf: &mut [u8; SIZE],
+    s: State,
+    p: Pool,
     h: Header,
     k: u64,
-    buf: &mut [u8; SIZE],
-    out: Out,
-    p: Pool,
     jobs: &mut [u8; JOBS],
     plans: &mut [u32; PLANS],
     levels: &mut [u8; LEVELS],
     words: &mut [u32; WORDS],
     values: &mut [i32; VALUES],
+    marks: &mut [u16; MARKS],
+) -> After
+    requires { ⌜ Fits s × (h .lines < 65536) × Open p (parts (now jobs) (now plans) (now levels) (now words) (now values) [] (now marks)) ⌝ }
+    ensures { λ r. ⌜ Fits (r .state)
+        × ((lines : List ℕ) → Housed p (parts (now (jobs .entry)) (now (plans .entry)) (now (levels .entry)) (now (words .entry)) (now (values .entry)) lines (now (marks .entry)))
+        → Housed (r .pool) (parts (now (jobs .exit)) (now (plans .exit)) (now (levels .exit)) (now (words .exit)) (now (values .exit)) lines (now (marks .exit)))) ⌝ }
+{
+    let mut body = [0u8; BODY];
+    let b = frames::read_body(block, &mut body, buf, s, h.size);
+    let read = b.state;
+    if read.over {
+        return After {
+            state: read,
+            pool: p,
+        };
+    }
+    let count = b.count;
+    let told = newcomer(
+        &body[..count],
+        h,
+        k,
+        buf,
+        read.out,
+        p,
+        jobs,
+        plans,
+        levels,
+        words,
+        values,
+        marks,
+    );
+    let span = read.span;
+    let out = told.out;
+    let pool = told.pool;
+    After {
+        state: State {
+            span,
+            out,
+            over: false,
+        },
+        pool,
+    }
+}
+
+// A turn, or an event of no kind.
+fn act(
+    kind: u32,
+    k: u64,
+    buf: &mut [u8; SIZE],
+    out: Out,
+    p: Pool,
+    jobs: &[u8; JOBS],
+    plans: &[u32; PLANS],
+    levels: &[u8; LEVELS],
+    words: &mut [u32; WORDS],
+    values: &mut [i32; VALUES],
     lines: &mut [u8; LINES],
     marks: &mut [u16; MARKS],
 ) -> Told
-    requires { ⌜ (out .used ≤ 65536) × (h .lines < 65536) × Housed p (parts (now jobs) (now plans) (now levels) (now words) (now values) (now lines) (now marks)) ⌝ }
-    ensures { λ r. ⌜ (r .out .used ≤ 65536) × Housed (r .pool) (parts (now (jobs .exit)) (now (plans .exit)) (now (levels .exit)) (now (words .exit)) (now (values .exit)) (now (lines .exit)) (now (marks .exit))) ⌝ }
+    requires { ⌜ (out .used ≤ 65536) × Housed p (parts (now jobs) (now plans) (now levels) (now words) (now values) (now lines) (now marks)) ⌝ }
+    ensures { λ r. ⌜ (r .out .used ≤ 65536) × Housed (r .pool) (parts (now (jobs .entry)) (now (plans .entry)) (now (levels .entry)) (now (words .exit)) (now (values .exit)) (now (lines .exit)) (now (marks .exit))) ⌝ }
 {
-    if kind == 0 {
-        return newcomer(
-            body,
-            h,
-            k,
-            buf,
-            out,
-            p,
-            jobs,
-            plans,
-            levels,
-            words,
-            values,
-            marks,
-        );
-    }
     if kind == 1 {
         return turn(
             k,
@@ -191,7 +259,7 @@ fn act(
     unknown(k, buf, out, p)
 }
 
-// The next event, which is number k.
+// The next event, which is number k. Only a newcomer's body is read.
 pub fn next(
     block: &mut [u8; SIZE],
     buf: &mut [u8; SIZE],
@@ -216,23 +284,34 @@ pub fn next(
     }
     let kind = full_at(&bytes, 0);
     let h = frames::read_header(&bytes, 4);
-    let mut body = [0u8; BODY];
-    let b = frames::read_body(block, &mut body, buf, t, h.size);
-    let read = b.state;
-    if read.over {
+    if kind == 0 {
+        return admit(
+            block,
+            buf,
+            t,
+            p,
+            h,
+            k,
+            jobs,
+            plans,
+            levels,
+            words,
+            values,
+            marks,
+        );
+    }
+    let passed = frames::pass(block, buf, t, h.size);
+    if passed.over {
         return After {
-            state: read,
+            state: passed,
             pool: p,
         };
     }
-    let count = b.count;
     let told = act(
         kind,
-        &body[..count],
-        h,
         k,
         buf,
-        read.out,
+        passed.out,
         p,
         jobs,
         plans,
@@ -242,7 +321,7 @@ pub fn next(
         lines,
         marks,
     );
-    let span = read.span;
+    let span = passed.span;
     let out = told.out;
     let pool = told.pool;
     After {

@@ -11,7 +11,6 @@ use event::PLANS;
 use event::VALUES;
 use event::WORDS;
 use print::SIZE;
-use turns::pool;
 
 // A proved loop has to end, and nothing says that the input does: so this one ends too where the events can be counted no further.
 fn rounds(
@@ -26,7 +25,7 @@ fn rounds(
     marks: &mut [u16; MARKS],
 ) {
     let mut s = frames::start();
-    let mut p = pool::empty();
+    let mut p = event::none(jobs, plans, levels, words, values, lines, marks);
     let mut k: u64 = 0;
     while k < u64::MAX {
         let e = event::next(

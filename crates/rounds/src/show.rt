@@ -13,9 +13,11 @@ use turns::pool;
 use turns::pool::Place;
 use turns::pool::Pool;
 use turns::pool::Reply;
-ghost use Prim.Native.Nat.{_<_, _≤_};
-ghost use Rattle.rules.specs.Limits.{maxRuns};
-ghost use Rattle.turns.specs.Pool.{Sized, Shows};
+ghost use mathlib.Core.Path.{_≡_};
+ghost use Prim.Native.Nat.{_*_, _<_, _≤_};
+ghost use lib.ListN.{length};
+ghost use Rattle.rules.specs.Limits.{maxVariables, maxRuns};
+ghost use Rattle.turns.specs.Pool.{tableSize, areaSize, Sized, Shows};
 
 // A newcomer is taken in, or turned back with its answer.
 pub fn put_admission(buf: &mut [u8; SIZE], out: Out, reply: Reply) -> Out
@@ -51,12 +53,13 @@ fn put_ended(
     o: Outcome,
     i: usize,
     place: Place,
-    words: &[u32; WORDS],
-    levels: &[u8; LEVELS],
-    values: &[i32; VALUES],
-    lines: &[u8; LINES],
+    words: &[u32],
+    levels: &[u8],
+    values: &[i32],
+    lines: &[u8],
 ) -> Out
-    requires { ⌜ (out .used ≤ 65536) × (i < maxRuns) × Sized place ⌝ }
+    requires { ⌜ (out .used ≤ 65536) × (i < maxRuns) × Sized place × (length (now words) ≡ tableSize * maxRuns)
+        × (length (now levels) ≡ maxVariables * maxRuns) × (length (now values) ≡ maxVariables * maxRuns) × (length (now lines) ≡ areaSize * maxRuns) ⌝ }
     ensures { λ r. ⌜ r .used ≤ 65536 ⌝ }
 {
     let w0 = table::WORDS * i;
@@ -103,17 +106,7 @@ pub fn put_turn(
             let r = put_took(buf, out, name, took);
             let i = pool::ended(p);
             let place = p.places[i];
-            put_ended(
-                buf,
-                r,
-                outcome,
-                i,
-                place,
-                words,
-                levels,
-                values,
-                lines,
-            )
+            put_ended(buf, r, outcome, i, place, words, levels, values, lines)
         }
         Reply::GoesOn { name, took } => put_took(buf, out, name, took),
     }

@@ -1,19 +1,19 @@
 -- Newcomers and turns over eight places: the front's place shows its run after the turn, the other places show what they did, since nothing of theirs was
 -- written, and the order of places changes as the rules' queue does. Assumes nothing.
 use mathlib.Core.Path.{_≡_, refl, sym, _∙_, ap, ap₂, subst}
-use Prim.Native.Nat.{ℕ, zero, suc, _+_, _-_, _*_, _/_, _<_, _≤_, min}
+use Prim.Native.Nat.{ℕ, suc, _+_, _-_, _*_, _/_, _<_, _≤_}
 use native.Mathlib.Nat.{le-refl}
 use native.Mathlib.Omega.{arith}
-use mathlib.Core.Bool.{Bool, true, false, cond}
+use mathlib.Core.Bool.{true, false}
 use mathlib.Core.List.{List, [], _∷_, _++_}
 use lib.ListN.{length, getD, set, take, replicate, length-set, length-replicate, getD-replicate}
 use lib.Dec.{eqb, ltb, leb}
 use lib.Seq.{getD-set-same, getD-set-other}
-use lib.IntN.{ℤ, pos}
-use borrow.Author.Tests.{ltb-true, lt-ltb, le-ltb, eqb-true, eqb-false, leb-true}
-use Rattle.rules.specs.Limits.{maxBytes, maxVariables, maxNodes, maxBudget, maxRecords, trailerSize}
+use lib.IntN.{ℤ}
+use borrow.Author.Tests.{lt-ltb, le-ltb, eqb-true, eqb-false, leb-true}
+use Rattle.rules.specs.Limits.{maxBytes, maxVariables, trailerSize}
 use Rattle.rules.specs.Limits.{noPlace, maxRuns, turnSteps}
-use Rattle.rules.specs.Bytes.{variableCount, nodeCount, recordCount}
+use Rattle.rules.specs.Bytes.{recordCount}
 use Rattle.rules.specs.Check as Check
 use Rattle.rules.specs.Check.{checkBytes, lengthRule}
 use Rattle.rules.specs.Run.{Buffers, Ending, finished, stopped, Ended}
@@ -31,15 +31,13 @@ use Rattle.job.specs.declared.checks.Checked.the-variants.{Accepted}
 use Rattle.job.specs.declared.checks.Checked.the-variants as Checked
 use Rattle.job.specs.Layout.{layoutOf}
 use Rattle.job.proofs.Answers.{is-accepted, is-refused}
-use Rattle.table.specs.Cells.{cellSize}
 use Rattle.actions.specs.declared.control.Running.{Running}
 use Rattle.actions.specs.Board.{capacity}
 use Rattle.actions.specs.Marks.{marksSize}
-use Rattle.actions.specs.Shows.{Slices, slices}
+use Rattle.actions.specs.Shows.{slices}
 use Rattle.monitor.specs.declared.step.Frame.{Frame}
 use Rattle.monitor.specs.declared.entry.Outcome.{Outcome}
 use Rattle.monitor.specs.declared.entry.Outcome.the-variants.{Refused}
-use Rattle.monitor.specs.Steps.{held}
 use Rattle.monitor.specs.Promises.{told, toldBy, Tree, Ran}
 use Rattle.monitor.specs.Starting.{AdmitsJob, Begun, asLent}
 use Rattle.monitor.specs.Starting.{frameOf, Room}

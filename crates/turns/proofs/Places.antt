@@ -1,12 +1,11 @@
 -- One place: its turn and its newcomer over the parts that are lent are those over what stands in them. Assumes nothing.
-use mathlib.Core.Path.{_≡_, refl, sym, _∙_, ap, subst}
-use Prim.Native.Nat.{ℕ, _+_, _-_, _*_, _<_, _≤_}
+use mathlib.Core.Path.{_≡_, sym}
+use Prim.Native.Nat.{ℕ, _+_, _-_, _*_, _≤_}
 use native.Mathlib.Omega.{arith}
 use mathlib.Core.List.{List}
 use lib.ListN.{length}
 use lib.IntN.{ℤ, pos}
-use Rattle.rules.specs.Limits.{maxBytes, maxVariables, maxBudget}
-use Rattle.rules.specs.Limits.{maxRuns}
+use Rattle.rules.specs.Limits.{maxBytes, maxVariables}
 use Rattle.job.specs.declared.sections.Layout.{Layout}
 use Rattle.actions.specs.declared.control.Running.{Running}
 use Rattle.actions.specs.Marks.{marksSize}
@@ -17,12 +16,8 @@ use Rattle.turns.specs.declared.pool.Place.{Place}
 use Rattle.turns.specs.declared.turn.Turned.{Turned}
 use Rattle.turns.specs.Pieces.{piece, Beside}
 use Rattle.turns.specs.Turn.{Freshens, TakesTurn}
-use Rattle.turns.specs.Pool.{planSize, tableSize, areaSize, Parts, parts, Long, Elsewhere, heldAt, slicesAt, marksAt, Sized, Ready}
+use Rattle.turns.specs.Pool.{planSize, tableSize, areaSize, Parts, parts, Elsewhere, heldAt, slicesAt, marksAt, Ready}
 use Rattle.turns.proofs.Cuts.{Cut, mid, put, mid-is, piece-put, beside, beside-same}
-
--- from a to e is inside of a slice
-cut-inside : (n i m a e l : ℕ) → Cut n i m a e → n * i + n ≤ l → e ≤ l
-cut-inside n i m a e l c h = let f = c .from in let t = c .to in let s = c .short in omega (arith, f, t, s, h)
 
 -- a turn
 module _ (i : ℕ) (r : Place) (jobs plans levels words : List ℕ) (values : List ℤ) (lines marks : List ℕ) (j₀ j₁ p₀ p₁ v₀ v₁ w₀ w₁ b₀ b₁ m₀ m₁ : ℕ)
@@ -46,7 +41,7 @@ module _ (i : ℕ) (r : Place) (jobs plans levels words : List ℕ) (values : Li
       TakesTurn (heldAt s i r) (r .budget) (slicesAt s i r) (slicesAt s′ i r) (marksAt s i) (marksAt s′ i) (r .running) t × Elsewhere i s s′
   turn-there ws vs ls ms t iw iv ib im lw lv lb lm h = (
     rw (piece-put 0 _ _ _ _ _ words ws cw iw lw, piece-put (pos 0) _ _ _ _ _ values vs cv iv lv, piece-put 0 _ _ _ _ _ lines ls cb ib lb, piece-put 0 _ _ _ _ _ marks ms cm im lm, sym (mid-is _ _ _ _ _ jobs cj), sym (mid-is _ _ _ _ _ plans cp), sym (mid-is _ _ _ _ _ words cw), sym (mid-is _ _ _ _ _ levels cv), sym (mid-is _ _ _ _ _ values cv), sym (mid-is _ _ _ _ _ lines cb), sym (mid-is _ _ _ _ _ marks cm))
-    h,
+        h,
     record {
       jobs = beside-same _ _ _;
       plans = beside-same _ _ _;
@@ -77,7 +72,7 @@ module _ (i : ℕ) (levels words : List ℕ) (values : List ℤ) (marks : List �
       × Beside maxVariables i values (put v₀ v₁ values vs) × Beside marksSize i marks (put m₀ m₁ marks ms)
   fresh-there b l budget ws ls vs ms r h iw il iv im lw ll lv lm = (
     rw (piece-put 0 _ _ _ _ _ words ws cw iw lw, piece-put 0 _ _ _ _ _ levels ls cv il ll, piece-put (pos 0) _ _ _ _ _ values vs cv iv lv, piece-put 0 _ _ _ _ _ marks ms cm im lm, sym (mid-is _ _ _ _ _ words cw), sym (mid-is _ _ _ _ _ levels cv), sym (mid-is _ _ _ _ _ values cv))
-    h,
+        h,
     beside 0 _ _ _ _ _ words ws cw iw lw,
     beside 0 _ _ _ _ _ levels ls cv il ll,
     beside (pos 0) _ _ _ _ _ values vs cv iv lv,

@@ -5,13 +5,11 @@ use mathlib.Core.Bool.{false}
 use mathlib.Core.List.{List, [], _∷_}
 use lib.ListN.{length, getD, set}
 use lib.IntN.{ℤ}
-use Rattle.rules.specs.Limits.{maxBytes, maxVariables, maxNodes, maxBudget}
+use Rattle.rules.specs.Limits.{maxBytes, maxVariables, maxBudget}
 use Rattle.rules.specs.Limits.{maxRuns, turnSteps}
-use Rattle.rules.specs.Run.{Buffers}
 use Rattle.rules.specs.Outcome as Rules
 use Rattle.rules.specs.Rounds as Rounds
 use Rattle.rules.specs.Rounds.{Newcomer, Active, arrives, turn, happen, turnTakes, unended, turnOf}
-use Rattle.table.specs.Cells.{cellSize}
 use Rattle.actions.specs.declared.control.Running.{Running}
 use Rattle.actions.specs.Marks.{marksSize}
 use Rattle.actions.specs.Shows.{Slices, slices}

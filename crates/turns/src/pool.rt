@@ -32,7 +32,7 @@ ghost use Rattle.monitor.specs.Starting.{Room};
 ghost use Rattle.turns.specs.Pieces.{piece, Beside, Filled};
 ghost use Rattle.turns.specs.Queue.{Whole, firstFree};
 ghost use Rattle.turns.specs.Turn.{Freshens, TakesTurn};
-ghost use Rattle.turns.specs.Pool.{planSize, tableSize, areaSize, parts, Parts, Long, Elsewhere, heldAt, slicesAt, marksAt, Sized, Ready, Houses, Housed, Open, withRunning, stepsOf, refused, Joined, Passed, Left, comer, Arrives, TakesTurns};
+ghost use Rattle.turns.specs.Pool.{planSize, tableSize, areaSize, parts, Parts, Long, Elsewhere, heldAt, slicesAt, Sized, Ready, Houses, Housed, Open, withRunning, stepsOf, refused, Joined, Passed, Left, comer, Arrives, TakesTurns};
 
 // What is kept of a run beside its parts: the name that it came with, how many bytes its job has and how many lines it was lent, its budget, and where it
 // stands.
@@ -249,16 +249,7 @@ pub fn arrive(
         Checked::Accepted(l) => {
             let i = queue::free(q);
             keep(i, job, &script, jobs, plans);
-            let running = fresh_at(
-                i,
-                job,
-                l,
-                budget as usize,
-                words,
-                levels,
-                values,
-                marks,
-            );
+            let running = fresh_at(i, job, l, budget as usize, words, levels, values, marks);
             joined(
                 p,
                 i,
@@ -407,17 +398,7 @@ pub fn turn(
     }
     let i = queue::first(q);
     let place = p.places[i];
-    let turned = turn_at(
-        i,
-        place,
-        jobs,
-        plans,
-        levels,
-        words,
-        values,
-        lines,
-        marks,
-    );
+    let turned = turn_at(i, place, jobs, plans, levels, words, values, lines, marks);
     match turned {
         Turned::GoesOn(running) => passed(p, i, place, running),
         Turned::Ends(outcome) => left(p, place, outcome),

@@ -1,7 +1,7 @@
 // Which places have an unended run, the one whose turn is next first. Places behind `count` are free, so each of the eight stands in `order` once.
 use rules::limits::MAX_RUNS;
 ghost use mathlib.Core.Path.{_≡_};
-ghost use Prim.Native.Nat.{_<_, _≤_};
+ghost use Prim.Native.Nat.{_<_};
 ghost use lib.ListN.{getD};
 ghost use Rattle.rules.specs.Limits.{maxRuns};
 ghost use Rattle.turns.specs.Queue.{Whole, ordered, firstFree, front, source, rotated, atBack, takenOff, movedBack};

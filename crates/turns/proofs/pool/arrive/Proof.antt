@@ -1,5 +1,5 @@
 -- `pool::arrive` meets its contract: turned back for want of a place or by its checks, or taken in at the first free place. Assumes nothing.
-use mathlib.Core.Path.{_≡_, refl, sym, _∙_, ap, subst}
+use mathlib.Core.Path.{refl, sym, subst}
 use native.Mathlib.Omega.{arith}
 use Rattle.monitor.specs.Starting.{AdmitsJob}
 use Rattle.turns.specs.Pool.{Arrives}

@@ -1,12 +1,12 @@
 -- `pool::fresh_at` meets its contract: what is lent are the parts of the place. Assumes nothing.
-use mathlib.Core.Path.{_≡_, refl, sym, _∙_, ap, subst}
-use Prim.Native.Nat.{_<_, _-_, _+_, _*_, _≤_}
+use mathlib.Core.Path.{refl, _∙_}
+use Prim.Native.Nat.{_-_, _+_, _*_, _≤_}
 use native.Mathlib.Omega.{arith}
 use native.Mathlib.Nat.{le-refl}
 use borrow.Rule.Slice.PartMut.{mid-len}
-use Rattle.rules.specs.Limits.{maxBytes, maxVariables}
+use Rattle.rules.specs.Limits.{maxVariables}
 use Rattle.actions.specs.Marks.{marksSize}
-use Rattle.turns.specs.Pool.{planSize, tableSize, areaSize}
+use Rattle.turns.specs.Pool.{tableSize}
 use Rattle.turns.proofs.Cuts.{Cut}
 use lib.ListN.{length}
 use Rattle.turns.proofs.Places.{room-there, fresh-there}

@@ -1,5 +1,5 @@
 -- `pool::turn` meets its contract: the front's place is ready for a turn, and what comes of it is what comes of the front of the rules' queue. Assumes nothing.
-use mathlib.Core.Path.{_≡_, refl, sym, _∙_, ap, subst}
+use mathlib.Core.Path.{refl, subst}
 use native.Mathlib.Omega.{arith}
 use Rattle.turns.specs.Turn.{TakesTurn}
 use Rattle.turns.proofs.Housing.{ready, idle-turn, on-turn, out-turn}

@@ -1,6 +1,6 @@
 -- `pool::turn_at` meets its contract: what is lent are the parts of the place. Assumes nothing.
-use mathlib.Core.Path.{_≡_, refl, sym, _∙_, ap, subst}
-use Prim.Native.Nat.{_<_, _-_, _+_, _*_, _≤_}
+use mathlib.Core.Path.{refl, _∙_}
+use Prim.Native.Nat.{_-_, _+_, _*_, _≤_}
 use native.Mathlib.Omega.{arith}
 use native.Mathlib.Nat.{le-refl}
 use borrow.Rule.Slice.PartMut.{mid-len}

@@ -1,9 +1,9 @@
 -- `queue::first` meets its contract: a whole queue has eight places. Assumes nothing.
-use mathlib.Core.Path.{_≡_, refl, sym, _∙_, ap, subst}
-use Prim.Native.Nat.{_<_, _-_, _+_, _*_, _≤_}
+use mathlib.Core.Path.{_≡_, sym, subst}
+use Prim.Native.Nat.{_<_, _-_}
 use native.Mathlib.Omega.{arith}
 use Rattle.rules.specs.Limits.{maxRuns}
-use Rattle.turns.specs.Queue.{Whole, front, firstFree, source}
+use Rattle.turns.specs.Queue.{front}
 use borrow.Author.Needs.{needs}
 use Rattle.turns.proofs.queue.first.Statement.{statement}
 use Rattle.turns.proofs.queue.first.Tie as tie

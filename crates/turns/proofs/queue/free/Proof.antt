@@ -1,9 +1,8 @@
 -- `queue::free` meets its contract: a whole queue has eight places. Assumes nothing.
-use mathlib.Core.Path.{_≡_, refl, sym, _∙_, ap, subst}
-use Prim.Native.Nat.{_<_, _-_, _+_, _*_, _≤_}
-use native.Mathlib.Omega.{arith}
+use mathlib.Core.Path.{_≡_, sym, subst}
+use Prim.Native.Nat.{_<_, _-_}
 use Rattle.rules.specs.Limits.{maxRuns}
-use Rattle.turns.specs.Queue.{Whole, front, firstFree, source}
+use Rattle.turns.specs.Queue.{firstFree}
 use borrow.Author.Needs.{needs}
 use Rattle.turns.proofs.queue.free.Statement.{statement}
 use Rattle.turns.proofs.queue.free.Tie as tie

@@ -1,5 +1,4 @@
 -- `queue::join` meets its contract: the first free place is the one behind the last. Assumes nothing.
-use mathlib.Core.Path.{_≡_, refl, sym, _∙_, ap, subst}
 use Rattle.turns.proofs.Orders.{whole-joined, joined}
 use borrow.Author.Needs.{needs}
 use Rattle.turns.proofs.queue.join.Statement.{statement}

@@ -1,6 +1,5 @@
 -- `queue::moved` meets its contract: the entry comes from one of the eight. Assumes nothing.
-use mathlib.Core.Path.{_≡_, refl, sym, _∙_, ap, subst}
-use native.Mathlib.Omega.{arith}
+use mathlib.Core.Path.{ap}
 use lib.ListN.{getD}
 use Rattle.turns.proofs.Orders.{source-within}
 use borrow.Author.Needs.{needs}

@@ -1,7 +1,6 @@
 -- `queue::none` meets its contract: each place stands once in its order. Assumes nothing.
-use mathlib.Core.Path.{_≡_, refl, sym, _∙_, ap, subst}
+use mathlib.Core.Path.{refl}
 use Rattle.turns.proofs.Orders.{whole-none}
-use borrow.Author.Needs.{needs}
 use Rattle.turns.proofs.queue.none.Statement.{statement}
 use Rattle.turns.proofs.queue.none.Tie as tie
 

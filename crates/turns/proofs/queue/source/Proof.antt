@@ -1,5 +1,5 @@
 -- `queue::source` meets its contract: by its tests. Assumes nothing.
-use mathlib.Core.Path.{_≡_, refl, sym, _∙_, ap, subst}
+use mathlib.Core.Path.{sym}
 use native.Mathlib.Omega.{arith}
 use Rattle.turns.proofs.Orders.{source-next, source-last, source-stays}
 use borrow.Author.Needs.{needs}

@@ -1,0 +1,14 @@
+-- `newcomer` meets its contract: the places still show a queue. Assumes nothing.
+use Rattle.turns.proofs.Housing.{arrived}
+use borrow.Author.Needs.{needs}
+use Rattle.rounds.proofs.event.newcomer.Statement.{statement}
+use Rattle.rounds.proofs.event.newcomer.Tie as tie
+
+returns : tie.Need-returns
+returns c =
+    (c .put-admission .ensures, λ lines h. arrived _ _ _ _ _ h (c .before .before .before .arrive .ensures lines))
+
+pub newcomer-spec : {M : Type 1} → statement M
+newcomer-spec =
+    tie.close (tie.spec
+    (λ c. search needs) (λ c κs. search needs) (λ c κs. search needs) (λ c κs. search needs) returns)
