@@ -666,7 +666,8 @@ fn edge_name(ending: Ending, steps: u64) -> String {
 pub fn wanted_of_rounds() -> Vec<String> {
     let mut names: Vec<String> = (0..=2).map(round_event_name).collect();
     // No job is turned back with 4, 11 or 14.
-    let can_come = |ending: &Ending| ending.turned_back() && ![4, 11, 14].contains(&ending.number());
+    let can_come =
+        |ending: &Ending| ending.turned_back() && ![4, 11, 14].contains(&ending.number());
     names.extend(Ending::ALL.into_iter().filter(can_come).map(newcomer_name));
     let ends = |ending: &Ending| !ending.turned_back();
     names.extend(Ending::ALL.into_iter().filter(ends).map(run_ending_name));
@@ -674,7 +675,14 @@ pub fn wanted_of_rounds() -> Vec<String> {
         names.push(edge_name(Ending::Finished, steps));
         names.push(edge_name(Ending::BudgetUsed, steps));
     }
-    let others = [PLACE_AGAIN, UNREAD, IDLE, FULL_CIRCLE, EMPTY_SCRIPT, STOP_BEHIND];
+    let others = [
+        PLACE_AGAIN,
+        UNREAD,
+        IDLE,
+        FULL_CIRCLE,
+        EMPTY_SCRIPT,
+        STOP_BEHIND,
+    ];
     names.extend(others.map(String::from));
     names.extend(AT_THE_EDGE.map(String::from));
     names

@@ -146,13 +146,19 @@ pub fn of_program(path: &str, input: &[u8]) -> Result<f64, String> {
     let folder = std::env::temp_dir().join(format!("program-{}", std::process::id()));
     let text = |error: std::io::Error| error.to_string();
     fs::create_dir_all(&folder).map_err(text)?;
-    let counted = fs::write(folder.join("in"), input).map_err(text).and_then(|()| {
-        let input = fs::File::open(folder.join("in")).map_err(text)?;
-        let run = callgrind(&folder).arg(path).stdin(input).stdout(Stdio::null()).output();
-        let run = run.map_err(|error| format!("valgrind does not start: {error}"))?;
-        let count = total(&fs::read_to_string(folder.join("out")).unwrap_or_default());
-        count.ok_or(String::from_utf8_lossy(&run.stderr).into_owned())
-    });
+    let counted = fs::write(folder.join("in"), input)
+        .map_err(text)
+        .and_then(|()| {
+            let input = fs::File::open(folder.join("in")).map_err(text)?;
+            let run = callgrind(&folder)
+                .arg(path)
+                .stdin(input)
+                .stdout(Stdio::null())
+                .output();
+            let run = run.map_err(|error| format!("valgrind does not start: {error}"))?;
+            let count = total(&fs::read_to_string(folder.join("out")).unwrap_or_default());
+            count.ok_or(String::from_utf8_lossy(&run.stderr).into_owned())
+        });
     fs::remove_dir_all(&folder).map_err(text)?;
     counted
 }
