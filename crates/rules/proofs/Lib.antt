@@ -71,3 +71,5 @@ pub mod WriteTrials
 pub mod Summary
 pub mod Rounds
 pub mod RoundsTrials
+pub mod Budget
+pub mod BudgetTrials

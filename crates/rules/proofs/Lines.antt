@@ -65,7 +65,7 @@ seen-extends : (o : Level) (xs ys : List Line) → Extends xs ys → Extends (se
 seen-extends o xs ys h = record { prefix = (seenLines o (h .prefix .0), sym (seen-append o xs (h .prefix .0)) ∙ ap (seenLines o) (h .prefix .1)) }
 
 -- the lines so far begin those of the whole run
-run-longer : (lent : Buffers) (cs : List Command) (n : ℕ) (s : State) → Extends (s .memory .lines) ((run lent cs n s) .last .memory .lines)
+pub run-longer : (lent : Buffers) (cs : List Command) (n : ℕ) (s : State) → Extends (s .memory .lines) ((run lent cs n s) .last .memory .lines)
 unfolding Longer
 run-longer lent cs n s =
     memory-keeps lent cs (Longer (s .memory))

@@ -20,5 +20,6 @@ pub mod Clean
 pub mod Arrange
 pub mod Write
 pub mod Rounds
+pub mod Budget
 pub mod Trials
 pub mod Summary
