@@ -10,5 +10,6 @@ pub mod Followed
 pub mod Taken
 pub mod Histories
 pub mod JobHistories
+pub mod Budgets
 pub mod Children
 pub mod Admitted

@@ -6,4 +6,5 @@ pub mod Secrecy
 pub mod FromRoot
 pub mod Follow
 pub mod Histories
+pub mod Budgets
 pub mod Children
