@@ -5,3 +5,4 @@ pub mod Secret
 pub mod Bounds
 pub mod Standing
 pub mod Written
+pub mod Budgets

@@ -4,3 +4,4 @@ pub mod Secrecy
 pub mod Bound
 pub mod Standing
 pub mod Written
+pub mod Budgets
