@@ -8,6 +8,7 @@
 //! - [`follow`] and [`table`]: a script over a lent tree; [`writer`]: such a tree as a job
 //!   again; [`history`]: the events of the `history` program.
 //! - [`rounds`]: runs that take turns, and the events of the `rounds` program.
+//! - [`budgets`]: what a larger budget may change.
 //! - [`portal`]: the two programs around a run, as functions; [`summary`]: how many
 //!   parties each node carries matters of.
 //! - [`public`]: public parts, agreement, and what a leak is.
@@ -17,6 +18,7 @@
 //! - [`print`] and [`shrink`]: for failing cases.
 
 pub mod arrange;
+pub mod budgets;
 pub mod clean;
 pub mod coverage;
 pub mod ending;

@@ -257,6 +257,13 @@ pub enum Mistake {
     TurnHasTheBudget,
     /// All steps so far are told in place of the turn's.
     TookIsSteps,
+    // Budgets.
+    /// A run whose budget is used up has finished.
+    SpentIsFinished,
+    /// A run whose budget is used up puts out its steps as a last line.
+    SpentPrintsSteps,
+    /// The last step that the budget allows has no room for a line.
+    LastStepHasNoLine,
 }
 
 /// The commands that have a rule.
@@ -404,6 +411,13 @@ impl Mistake {
         Mistake::TurnForgetsLines,
         Mistake::TurnHasTheBudget,
         Mistake::TookIsSteps,
+    ];
+
+    /// The mistakes by which a larger budget changes what was said.
+    pub const SPENDING: [Mistake; 3] = [
+        Mistake::SpentIsFinished,
+        Mistake::SpentPrintsSteps,
+        Mistake::LastStepHasNoLine,
     ];
 
     /// The mistakes that leak from one script of a history to the next.

@@ -337,7 +337,7 @@ impl<'a> Monitor<'a> {
                 return Some((Ending::Finished, 0));
             }
             if self.state.steps == self.limits.budget {
-                return Some((Ending::BudgetUsed, next));
+                return Some(self.spent(next));
             }
             if left == 0 {
                 return None;
@@ -354,6 +354,19 @@ impl<'a> Monitor<'a> {
             left -= 1;
             observer(&self.state, &record);
         }
+    }
+
+    /// The budget is used up in front of this record.
+    fn spent(&mut self, next: usize) -> (Ending, usize) {
+        match self.mistake {
+            Mistake::SpentIsFinished => return (Ending::Finished, 0),
+            Mistake::SpentPrintsSteps => self.state.lines.push(Line {
+                number: self.state.steps as i32,
+                readers: PUBLIC,
+            }),
+            _ => {}
+        }
+        (Ending::BudgetUsed, next)
     }
 
     /// The outcome of the run, and what stands then.
@@ -580,7 +593,9 @@ impl<'a> Monitor<'a> {
     fn print(&mut self, record: &Record) -> Result<(), Ending> {
         let expression = self.evaluate(record);
         let level = self.without_cursor(&expression);
-        let room = match self.state.lines.len() == self.limits.lines {
+        let last_step = self.state.steps + 1 == self.limits.budget;
+        let withheld = last_step && self.mistake == Mistake::LastStepHasNoLine;
+        let room = match self.state.lines.len() == self.limits.lines || withheld {
             true => Err(Ending::LinesFull),
             false => Ok(()),
         };

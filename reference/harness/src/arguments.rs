@@ -85,6 +85,7 @@ pub fn mistake_named(name: &str) -> Mistake {
         .chain(Mistake::FOLLOWING)
         .chain(Mistake::WRITING)
         .chain(Mistake::TURNING)
+        .chain(Mistake::SPENDING)
         .chain(Mistake::CLEANING)
         .chain(Mistake::ARRANGING);
     let mut named = all.chain([Mistake::None]);

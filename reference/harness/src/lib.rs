@@ -8,6 +8,7 @@
 //! - [`differential`]: whole outcomes against the reference.
 //! - [`histories`]: scripts over a standing tree, through `history`.
 //! - [`rounds`]: runs that take turns, through `rounds`.
+//! - [`budgets`]: the same work under two budgets.
 //! - [`leaks`]: pairs of jobs that agree on their public parts.
 //! - [`history_pairs`]: pairs of histories.
 //! - [`quick`]: outcomes of the fast version.
@@ -20,6 +21,7 @@
 
 pub mod arguments;
 pub mod bench;
+pub mod budgets;
 pub mod clock;
 pub mod differential;
 pub mod frame;

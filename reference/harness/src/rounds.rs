@@ -41,7 +41,7 @@ pub struct Told {
 }
 
 /// The parts of an output, one for each event.
-fn split(text: &str) -> Vec<String> {
+pub fn split(text: &str) -> Vec<String> {
     const HEADS: [&str; 4] = ["newcomer ", "turn ", "unknown ", "truncated"];
     let mut parts: Vec<String> = Vec::new();
     for line in text.split_inclusive('\n') {

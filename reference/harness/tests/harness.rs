@@ -28,6 +28,7 @@ const HISTORY_STANDIN: &str = env!("CARGO_BIN_EXE_history_standin");
 const HISTORY_PAIRS: &str = env!("CARGO_BIN_EXE_history_pairs");
 const ROUNDS: &str = env!("CARGO_BIN_EXE_rounds");
 const ROUNDS_STANDIN: &str = env!("CARGO_BIN_EXE_rounds_standin");
+const BUDGETS: &str = env!("CARGO_BIN_EXE_budgets");
 const STANDIN: &str = env!("CARGO_BIN_EXE_replay_standin");
 const CLEANER: &str = env!("CARGO_BIN_EXE_cleaner");
 const CLEAN_STANDIN: &str = env!("CARGO_BIN_EXE_clean_standin");
@@ -237,7 +238,11 @@ fn orders_through_a_stand_in() {
         text.contains("1000 orders") && text.contains("no difference"),
         "{text}"
     );
-    let text = ended(ROUNDS, &[&words[..], &["300", "--each-mistake"]].concat(), 0);
+    let text = ended(
+        ROUNDS,
+        &[&words[..], &["300", "--each-mistake"]].concat(),
+        0,
+    );
     assert!(text.contains("each mistake was found"), "{text}");
 }
 
@@ -581,4 +586,38 @@ fn cleaning() {
 #[test]
 fn rearranging() {
     stored(ARRANGER, "arrange", ARRANGE_STANDIN, &Mistake::ARRANGING);
+}
+
+/// Larger budgets change nothing said, through each program; each planted mistake is
+/// found, in a portal and in the programs.
+#[test]
+fn two_budgets() {
+    let programs = [
+        ["--replay", STANDIN],
+        ["--history", HISTORY_STANDIN],
+        ["--rounds", ROUNDS_STANDIN],
+    ];
+    let words = ["--portal", "fast", "--jobs", "2000", "--seconds", "600"];
+    let text = ended(BUDGETS, &[&words[..], &programs.concat()].concat(), 0);
+    assert_eq!(
+        text.matches("nothing said was changed").count(),
+        4,
+        "{text}"
+    );
+    let text = ended(BUDGETS, &["--each-mistake", "--jobs", "2000"], 0);
+    assert!(text.contains("each mistake was found"), "{text}");
+    for program in programs {
+        let wrong = Command::new(BUDGETS)
+            .args(["--no-portal", "--jobs", "2000"])
+            .args(program)
+            .env("STANDIN_MISTAKE", "SpentPrintsSteps")
+            .output()
+            .expect("the program starts");
+        let text = String::from_utf8_lossy(&wrong.stdout);
+        assert_eq!(wrong.status.code(), Some(1), "{text}");
+        assert!(
+            text.contains("a larger budget changes what was said"),
+            "{text}"
+        );
+    }
 }

@@ -1,5 +1,6 @@
 //! Cases, pairs of cases, histories and orders of newcomers and turns from a seed. The same seed gives the same.
 
+mod budgets;
 mod damage;
 mod dirty;
 mod history;
@@ -10,6 +11,7 @@ mod rounds;
 mod script;
 mod shuffled;
 
+pub use budgets::{raised, raised_history, raised_order};
 pub use damage::damaged;
 pub use dirty::{dirty, full_of_notes};
 pub use history::{history, moved};

@@ -1,5 +1,6 @@
 //! What the generated cases and pairs reach and find.
 
+mod budgets;
 mod coverage;
 mod histories;
 mod mistakes;
