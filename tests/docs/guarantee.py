@@ -5,10 +5,10 @@ import re
 import subprocess
 import unittest
 
-from support import HOME, assembled, job, played, program
+from support import HOME, assembled, job, played, program, replayed
 
 TEXT = (HOME / "docs" / "GUARANTEE.md").read_text(encoding="utf-8")
-HOLDS, PARTIES, ENDS, LEAVES = re.findall(r"^```yoke\n(.*?)^```$", TEXT, re.M | re.S)
+HOLDS, PARTIES, ENDS, LEAVES, SPENT = re.findall(r"^```yoke\n(.*?)^```$", TEXT, re.M | re.S)
 (READS,) = re.findall(r"^```script\n(.*?)^```$", TEXT, re.M | re.S)
 SECRET = re.compile(r"^(.*\S) +# or (none|-?\d+)\n", re.M)
 
@@ -84,6 +84,19 @@ class Examples(unittest.TestCase):
         (left, right) = (re.findall(r"came (\d+) \d+ (?:\[\]|\(pos (\d+) ∷ \[\]\))", half) for half in body.split("×"))
         self.assertEqual(([ending for ending, _ in left], [ending for ending, _ in right]), (["21", "0"], ["0", "0"]))
         self.assertNotEqual(left[1], right[1])
+
+    def test_a_larger_budget(self):
+        """The board under a budget that ends with 25, and under those that do not."""
+        few, count, first = re.search(r"With a budget of (\d+) it ends with 25 and its board has the (\d+) lines ([\d, ]+)\.", TEXT).groups()
+        enough, most, all_lines = re.search(r"From (\d+) steps\s+on it finishes, with the (\d+) lines ([\d, ]+), whatever", TEXT).groups()
+        data = assembled(SPENT)
+        for budget, ending, lines in ((int(few), 25, first), (int(enough) - 1, 25, None), (int(enough), 0, all_lines), (1_000_000, 0, all_lines)):
+            (answer,) = replayed([data], budget)
+            self.assertTrue(answer[0].startswith(f"ending {ending} "), answer[0])
+            if lines:
+                found = [row.split()[1] for row in answer if row.startswith("line ")]
+                self.assertEqual(found, lines.split(", "))
+                self.assertEqual(len(found), int(count if ending else most))
 
 
 class Figures(unittest.TestCase):

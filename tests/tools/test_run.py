@@ -176,6 +176,30 @@ class Stopped(unittest.TestCase):
         # The while costs two steps a round behind one step: after 100,000 steps the end is next.
         self.stops(script("nothing", "while 1", "  empty"), FIRST + 1, 3, 25, "100,000 steps", "at the end of the block that this line opens")
 
+    def test_a_larger_budget(self):
+        """After a 25 it says what a larger budget can and cannot change, and it is so."""
+        text = script("while v < 5", "  v := v + 1", "  print v", "first child", "set 7")
+        said = "What a larger budget does:"
+        boards = []
+        for budget in (1, 7, 8, 20, 21, 22, 1_000_000):
+            done = tool("run", "-", "--budget", str(budget), data=text, REPLAY=program("replay"))
+            self.assertEqual(said in done.output, budget < 23)
+            boards.append(done.output.split("\nboard, ")[1].split("\n\n")[0].split("\n")[1:])
+        for smaller, larger in zip(boards, boards[1:]):
+            self.assertEqual(larger[:len(smaller)], smaller)
+        self.assertEqual(boards[-1], [f"  {n}" for n in range(1, 6)])
+        done = tool("run", "-", "--budget", "7", data=text, REPLAY=program("replay"))
+        self.assertIn("the lines below stay, the first ones of the board", " ".join(done.output.split()))
+        self.assertEqual([row for row in done.output.split("\n") if len(row) > 79], [])
+
+    def test_no_larger_budget(self):
+        """There is none above 1,000,000, and after another stop none would change anything."""
+        forever = script("while 1", "  nothing")
+        done = tool("run", "-", "--budget", "1000000", data=forever, REPLAY=program("replay"))
+        self.assertIn("stopped with 25", done.output)
+        self.assertNotIn("larger budget", done.output)
+        self.assertNotIn("larger budget", run(script("up")).output)
+
 
 class Advice(unittest.TestCase):
     """What the advice says, done: the run comes past the line that stopped it."""

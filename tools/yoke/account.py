@@ -49,6 +49,7 @@ class Account:
         self.rule = ""
         self.reasons = []
         self.advice = []
+        self.larger = []  # what a larger budget can and cannot change, after a 25
         {FLOW: self.flow, ABSENT: self.absent, FULL_TABLE: self.table, FULL_BOARD: self.board,
          USED_UP: self.budget, OVERFLOW: self.overflow}.get(run.ending, self.unknown)()
 
@@ -290,6 +291,10 @@ class Account:
         self.inside_loop()
         self.advice.append("A loop ends when its guard is 0. Change a number of the guard inside the loop, as in `n := n - 1`.")
         self.more("budget", self.run.limits.budget, MAX_BUDGET)
+        if self.run.limits.budget < MAX_BUDGET:
+            self.larger = ["It cannot change what was said: the lines below stay, the first ones of the board, and the steps are no fewer.",
+                           "It can add lines, and change the variables, the tree and the ending; so what runs over the tree afterwards may come out differently.",
+                           "Once the script ends with another number than 25, no larger budget changes anything of it."]
 
     def overflow(self):
         result, _ = self.run.evaluate(self.record)
@@ -332,6 +337,10 @@ def account_lines(account):
     if account.advice:
         lines += ["", "What you can do:"]
         for item in account.advice:
+            lines += wrapped(item, bullet="- ")
+    if account.larger:
+        lines += ["", "What a larger budget does:"]
+        for item in account.larger:
             lines += wrapped(item, bullet="- ")
     return lines
 
