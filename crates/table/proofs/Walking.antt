@@ -330,15 +330,20 @@ module _ {m : Table} {n : ℕ} (le : n ≤ gone) where
       walk-ready (outside ne z e) lt = absurd (omega arith)
       walk-ready (down ne room z e) lt = record { above = λ l. absurd (ne l); below = λ _. (omega (arith, w .few), w .limit) }
 
+      -- levels that are bytes where a node is entered are bytes at every turn: the node above was entered
+      pub walk-bytes : Asked s n x → x < n → ((s .link ≡ gone → ⊥) → x ≡ s .link → ByteLevels (m x .label)) → ByteLevels (m x .label)
+      walk-bytes (short l z e) lt b = absurd (omega arith)
+      walk-bytes (over l z d e) lt b = absurd (omega arith)
+      walk-bytes (up l z pos e) lt b = subst (λ v. ByteLevels (m v .label)) (sym e) (over-there pos .1)
+      walk-bytes (full ne z e) lt b = absurd (omega arith)
+      walk-bytes (outside ne z e) lt b = absurd (omega arith)
+      walk-bytes (down ne room z e) lt b = b ne e
+
       -- levels that are no bytes
       pub walk-plain : Asked s n x → x < n → (ByteLevels (m x .label) → ⊥) → Decided m n false
-      walk-plain (short l z e) lt no′ = absurd (omega arith)
-      walk-plain (over l z d e) lt no′ = absurd (omega arith)
-      walk-plain (up l z pos e) lt no′ = absurd (no′ (subst (λ v. ByteLevels (m v .label)) (sym e) (over-there pos .1)))
-      walk-plain (full ne z e) lt no′ = absurd (omega arith)
-      walk-plain (outside ne z e) lt no′ = absurd (omega arith)
-      walk-plain (down ne room z e) lt no′ =
-          never (λ T few h. no′ (subst (λ v. ByteLevels (m v .label)) (sym e) (meets T few ne h .0 .bytes)))
+      walk-plain a lt no′ =
+          never λ T few h.
+          no′ (walk-bytes a lt (λ ne e. subst (λ v. ByteLevels (m v .label)) (sym e) (meets T few ne h .0 .bytes)))
 
       -- a turn
       pub walk-turn : {d : Node} {b′ e′ c′ : List ℕ} {r : Spot} → Asked s n x → x < n → cellOf d ≡ m x → Rooms b e c → Turned s d b e c b′ e′ c′ r → Walking m n b′ e′ c′ r × (turns r < turns s)

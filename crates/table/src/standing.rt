@@ -198,6 +198,17 @@ fn plain(words: &[u32], x: usize) -> bool
     words[at + 7] < 256
 }
 
+// Whether the levels of place x are bytes, asked only where a node is entered: where the link leads to none, the walk goes up to one that it has entered.
+fn readable(words: &[u32], link: u32, x: usize) -> bool
+    requires { ⌜ cellSize * x + cellSize ≤ length (now words) ⌝ }
+    ensures { λ r. ⌜ (r ≡ true → (link ≡ gone → ⊥) → ByteLevels (cells (now (words .entry)) x .label)) × (ByteLevels (cells (now (words .entry)) x .label) → r ≡ true) ⌝ }
+{
+    if index(link) == super::NIL {
+        return true;
+    }
+    plain(words, x)
+}
+
 // Leaves all places with no mark.
 fn clear(marks: &mut [u8])
     requires { ⌜ maxNodes ≤ length (now marks) ⌝ }
@@ -226,7 +237,7 @@ pub fn held(
     let mut s = start();
     let mut x = ask(s, places);
     while x < places {
-        if !plain(words, x) {
+        if !readable(words, s.link, x) {
             return false;
         }
         let d = node_of(words, x);

@@ -10,7 +10,7 @@ use Rattle.table.specs.Cells.{cells, gone}
 use Rattle.table.specs.Lent.{cellOf}
 use Rattle.table.specs.Stands.{Asked}
 use Rattle.table.proofs.Copies.{same-cell}
-use Rattle.table.proofs.Walking.{Walking, turns, walk-start, walk-ready, walk-plain, walk-turn, walk-end}
+use Rattle.table.proofs.Walking.{Walking, turns, walk-start, walk-ready, walk-plain, walk-bytes, walk-turn, walk-end}
 use borrow.Author.Needs.{needs}
 use Rattle.table.proofs.standing.held.Statement.{statement}
 use Rattle.table.proofs.standing.held.Tie as tie
@@ -40,8 +40,8 @@ loop-holds c =
       c .ask .ensures,
     )
 
-plain-requires : tie.Need-plain-requires Inv-loop μ-loop
-plain-requires c κs = omega (arith, c .before .before .before .before .before .before .before .before .before .before .before .before .pre .0 .0, c .loop-test .taken)
+readable-requires : tie.Need-readable-requires Inv-loop μ-loop
+readable-requires c κs = omega (arith, c .before .before .before .before .before .before .before .before .before .before .before .before .pre .0 .0, c .loop-test .taken)
 
 same-length : tie.Need-same-length Inv-loop μ-loop
 same-length c = c .before .before .before .loop .inv .0
@@ -56,7 +56,7 @@ returns : tie.Need-returns Inv-loop μ-loop
 returns c =
     let i = c .before .before .before .loop .inv in
     let le : c .before .before .before .before .before .before .before .before .before .before .before .before .before .before .args .places ≤ gone = omega (arith, c .before .before .before .before .before .before .before .before .before .before .before .before .before .before .pre .0 .1) in (
-      walk-plain le (i .3) (i .4) (c .before .before .loop-test .taken) (λ b. true≢false (sym (c .before .plain .ensures .1 b) ∙ not-true _ (c .if1 .taken))),
+      walk-plain le (i .3) (i .4) (c .before .before .loop-test .taken) (λ b. true≢false (sym (c .before .readable .ensures .1 b) ∙ not-true _ (c .if1 .taken))),
       λ e. absurd (true≢false (sym e)),
     )
 
@@ -87,9 +87,10 @@ turned c =
     let i = c .before .before .before .before .before .before .before .before .before .before .before .before .before .before .before .loop .inv in
     let r = c .before .before .before .before .before .before .before .before .before .before .before .before .before .before .before .before .before .before .before .before .before .before .before .before .before .before .pre .1 in
     let le : c .before .before .before .before .before .before .before .before .before .before .before .before .before .before .before .before .before .before .before .before .before .before .before .before .before .before .args .places ≤ gone = omega (arith, c .before .before .before .before .before .before .before .before .before .before .before .before .before .before .before .before .before .before .before .before .before .before .before .before .before .before .pre .0 .1) in
+    let lt = c .before .before .before .before .before .before .before .before .before .before .before .before .before .before .loop-test .taken in
     let e : cellOf (c .before .before .before .before .before .before .before .before .before .before .before .node-of .result) ≡ cells (now (c .before .before .before .before .before .before .before .before .before .before .before .before .before .before .before .before .before .before .before .before .before .before .before .before .before .before .args .words)) (c .before .before .before .before .before .before .before .before .before .before .before .before .before .before .before .loop .x) =
-    ap cellOf (c .before .before .before .before .before .before .before .before .before .before .before .node-of .ensures) ∙ same-cell _ (c .before .before .before .before .before .before .before .before .before .before .before .before .before .plain .ensures .0 (not-false _ (c .before .before .before .before .before .before .before .before .before .before .before .before .if1 .left))) in
-    walk-turn le (i .3) (i .4) (c .before .before .before .before .before .before .before .before .before .before .before .before .before .before .loop-test .taken) e
+    ap cellOf (c .before .before .before .before .before .before .before .before .before .before .before .node-of .ensures) ∙ same-cell _ (walk-bytes le (i .3) (i .4) lt (λ ne _. c .before .before .before .before .before .before .before .before .before .before .before .before .before .readable .ensures .0 (not-false _ (c .before .before .before .before .before .before .before .before .before .before .before .before .if1 .left)) ne)) in
+    walk-turn le (i .3) (i .4) lt e
     record {
       dues = omega (arith, i .0, r .dues);
       bounds = omega (arith, i .1, r .bounds);
@@ -123,4 +124,4 @@ returns-2 c =
 pub held-spec : {M : Type 1} → statement M
 held-spec =
     tie.close
-    (tie.spec Inv-loop μ-loop clear-requires (λ c κs. search needs) ask-requires loop-holds plain-requires same-length same-length-2 same-length-3 returns node-of-requires turn-requires ask-requires-2 loop-less loop-again same-length-4 same-length-5 same-length-6 returns-2)
+    (tie.spec Inv-loop μ-loop clear-requires (λ c κs. search needs) ask-requires loop-holds readable-requires same-length same-length-2 same-length-3 returns node-of-requires turn-requires ask-requires-2 loop-less loop-again same-length-4 same-length-5 same-length-6 returns-2)
