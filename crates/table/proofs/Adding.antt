@@ -17,8 +17,8 @@ use Rattle.table.proofs.Links.{withCount, link-count, same-count, paren
 use Rattle.table.proofs.Changes.{loose, grow}
 use Rattle.table.proofs.Relocating.{stands-grown, elsewhere}
 use Rattle.table.proofs.Spares.{handed, found-room, refused}
-use Rattle.table.proofs.Moves.{few-above, to-above}
-use Rattle.table.proofs.Sides.{return, link-above, parent-above, at, way-on, forest-on, view-on}
+use Rattle.table.proofs.Moves.{few-above, climb}
+use Rattle.table.proofs.Sides.{return, link-above, at, way-on, forest-on, view-on}
 use Rattle.table.proofs.Words.{with-link, one-more}
 
 -- the place y is linked in, with the label a
@@ -55,7 +55,7 @@ module _ {m : Table} {n used free x : ℕ} {t : Forest} {p : Place} {u : ℕ} (h
   view = view-on h (sideOf side)
 
   is-parent : u ≡ parentOf there
-  is-parent = one-lead z (to-above h (sideOf side)) lu ∙ parent-above (sideOf side) view
+  is-parent = one-lead z (subst (λ q. Leads m n used free t (up (to (sideOf side) q)) (parentOf there)) (at h .is-path) (climb there _ view)) lu
 
   module _ {m₁ : Table} {y free′ used′ : ℕ} (took : Took m n used free m₁ y free′ used′) where
     pub added-none : {a : Label} → n ≤ y → Added (sideOf side) a m m₁ n used free x y free′ used′ t p

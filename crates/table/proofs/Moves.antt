@@ -6,7 +6,7 @@ use mathlib.Core.Option.{some}
 use Prim.Native.Nat.{ℕ, suc, _≤_}
 use native.Mathlib.Omega.{arith}
 use Rattle.rules.specs.Tree.{Label, Forest, tree, Side, child, sibling, along, Place, root, to, up, leftOf, lastFrom, lastOf, sub, exists, label, count}
-use Rattle.table.specs.Cells.{Table, ByteLevels, gone, link, parentOn}
+use Rattle.table.specs.Cells.{Table, ByteLevels, gone, link}
 use Rattle.table.specs.Holds.{Placed, empty, node, erase, head, last, beside, Spare, Holds}
 use Rattle.table.specs.Promises.{Leads, outside, missing, found}
 use Rattle.table.proofs.Counting.{few-siblings}
@@ -47,7 +47,7 @@ module _ {m : Table} {n used free : ℕ} {t : Forest} {s : Spare} where
   below k (node x l c r) h i =
       found (pathOf k) (omega (arith, i, h .stored .0, h .room)) refl (subst (λ z. Holds m n used free z t (pathOf k)) (sym i) (whole k h))
 
-  climb : (k : Way) (f : Placed) → Focus m n used free t empty k f s → Leads m n used free t (up (pathOf k)) (parentOf k)
+  pub climb : (k : Way) (f : Placed) → Focus m n used free t empty k f s → Leads m n used free t (up (pathOf k)) (parentOf k)
   unfolding up
   climb home f h = outside (omega (arith, h .room, h .few)) refl
   climb (step child x l o k) f h = found (pathOf k) (omega (arith, h .above .0, h .room)) refl (whole k (back child h))
@@ -125,12 +125,6 @@ module _ {m : Table} {n used free x : ℕ} {t : Forest} {p : Place} (h : Holds m
       (subst (λ q. Leads m n used free t (lastFrom (to child q) (erase (at .c))) (m x .last)) (at .is-path)
       (subst (λ z. Leads m n used free t (lastFrom (to child (pathOf (at .k))) (erase (at .c))) z) (sym (ap (λ a. a .last) (at .focus .stored .1)))
       (furthest _ (at .c) (omega (arith, h .few)) below)))
-
-  -- the parent that nodes on a side have
-  pub to-above : (d : Side) → Leads m n used free t (up (to d p)) (parentOn d x (m x))
-  unfolding up
-  to-above child = found p (omega (arith, h .live, h .room)) refl h
-  to-above sibling = to-parent
 
   -- a stored level is a byte
   pub levels : ByteLevels (m x .label)

@@ -5,7 +5,7 @@ use mathlib.Core.Option.{none, some}
 use Prim.Native.Nat.{ℕ, _+_, _-_, _<_, _≤_}
 use native.Mathlib.Omega.{arith}
 use Rattle.rules.specs.Tree.{Label, Forest, Place, to, change, remove, count, afterRemove}
-use Rattle.table.specs.Cells.{Table, gone, wordOf, sideOf, parentOn, leftOn}
+use Rattle.table.specs.Cells.{Table, gone, wordOf, sideOf, leftOn}
 use Rattle.table.specs.Holds.{Placed, empty, node, head, Spare, end, more, hit, times, Holds}
 use Rattle.table.specs.Promises.{Leads, Removed}
 use Rattle.table.specs.Steps.{withWord, Put, Reparented, LedBack, Detached}
@@ -15,7 +15,7 @@ use Rattle.table.proofs.Unique.{Stands, there as standing, held-stands,
 use Rattle.table.proofs.Moves.{few-above, counts-all, to-side}
 use Rattle.table.proofs.Links.{withLink, withCount, link-count, same-count, led-count}
 use Rattle.table.proofs.Changes.{prune}
-use Rattle.table.proofs.Sides.{return, link-above, parent-above, has-parent, at, way-on, forest-on, view-on}
+use Rattle.table.proofs.Sides.{return, link-above, has-parent, at, way-on, forest-on, view-on}
 use Rattle.table.proofs.Relocating.{stands-pruned, stands-lost, elsewhere}
 use Rattle.table.proofs.Words.{with-link, fits, one-less}
 
@@ -70,23 +70,26 @@ module _ {m : Table} {n used free x : ℕ} {t : Forest} {p : Place} (h : Holds m
     pub found : First y (forest-on h (sideOf side))
     found = first (forest-on h (sideOf side)) is-head (λ z. omega (arith, h .few))
 
-    -- and one without a parent never does
-    pub never-parentless : {u : ℕ} → u ≡ parentOn (sideOf side) x (m x) → n ≤ u → ⊥
-    never-parentless z ge =
-        let f = view-on h (sideOf side) in
-        omega (arith, has-parent (sideOf side) (at h .k) _ f (omega (arith, is-head)), z, parent-above (sideOf side) f)
-
   module _ {y : ℕ} (o : First y (forest-on h (sideOf side))) where
     pub seen-first : Focus m n used free t empty there (node y (o .l) (o .c) (o .r)) (at h .s)
     seen-first = subst (λ f. Focus m n used free t empty there f (at h .s)) (o .was) (view-on h (sideOf side))
+
+    -- its cell leads to its parent
+    above : m y .parent ≡ parentOf there
+    above = ap (λ a. a .parent) (seen-first .stored .1)
+
+    -- which is a node
+    pub never-parentless : {u : ℕ} → u ≡ m y .parent → n ≤ u → ⊥
+    never-parentless z ge =
+        omega (arith, has-parent (sideOf side) (at h .k) _ seen-first (omega (arith, seen-first .stored .0, h .room)), above, z)
 
     -- it has gone
     abbrev pub Gone : Table → Type 0
     Gone m′ = Focus m′ n used y (change (pathOf there) remove t) empty there (o .r) (more y (o .c) empty (at h .s))
 
-    pub pruned : {m₀ m′ : Table} {u : ℕ} → side < 2 → u ≡ parentOn (sideOf side) x (m x) → u < n → Reparented (λ i. times i (o .c)) m m₀
+    pub pruned : {m₀ m′ : Table} {u : ℕ} → side < 2 → u ≡ m y .parent → u < n → Reparented (λ i. times i (o .c)) m m₀
         → Detached side m₀ m′ n x u y (wordOf free) → Gone m′
-    pruned lt z lu g d = cut-off side lt seen-first (z ∙ parent-above (sideOf side) seen-first) lu g (rw (free-fits seen-first) at d)
+    pruned lt z lu g d = cut-off side lt seen-first (z ∙ above) lu g (rw (free-fits seen-first) at d)
 
     -- a node that stood in the tree
     stood : {i : ℕ} {q : Place} → Holds m n used free i t q → Stands i q (plug there (node y (o .l) (o .c) (o .r)))

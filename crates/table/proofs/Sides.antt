@@ -3,7 +3,7 @@ use mathlib.Core.Path.{_≡_, refl, ap}
 use Prim.Native.Nat.{ℕ, suc, _<_}
 use native.Mathlib.Omega.{arith}
 use Rattle.rules.specs.Tree.{Label, Forest, Side, child, sibling, Place, count}
-use Rattle.table.specs.Cells.{Table, link, parentOn}
+use Rattle.table.specs.Cells.{Table, link}
 use Rattle.table.specs.Holds.{Placed, empty, node, erase, head, beside, Spare, Holds}
 use Rattle.table.proofs.Ways.{Way, home, step, pathOf, parentOf}
 use Rattle.table.proofs.Focus.{Focus, across, down, back, At, seen, whole}
@@ -19,10 +19,6 @@ module _ {m : Table} {n used free x : ℕ} {t : Forest} {w : Placed} {l : Label}
   pub link-above : (d : Side) → Focus m n used free t w (step d x l o k) f s → link d (m x) ≡ head f
   link-above child h = ap (λ a. a .first) (h .above .1)
   link-above sibling h = ap (λ a. a .right) (h .above .1)
-
-  pub parent-above : (d : Side) → Focus m n used free t w (step d x l o k) f s → parentOn d x (m x) ≡ parentOf (step d x l o k)
-  parent-above child h = refl
-  parent-above sibling h = ap (λ a. a .parent) (h .above .1)
 
 module _ {m : Table} {n used free : ℕ} {t : Forest} {w : Placed} {s : Spare} where
   inner : (j : ℕ) (k : Way) (f : Placed) → Focus m n used free t w k f s → count (erase f) ≡ suc (suc j) → parentOf k < n

@@ -71,11 +71,6 @@ abbrev pub link : Side → Cell → ℕ
 link child a = a .first
 link sibling a = a .right
 
--- the place of the parent that nodes on a side have, of the node at x with the cell a: it is x itself, or the parent of x
-abbrev pub parentOn : Side → ℕ → Cell → ℕ
-parentOn child x a = x
-parentOn sibling x a = a .parent
-
 -- the place of the left sibling that the first node on a side of the one at x has: none, or x itself
 abbrev pub leftOn : Side → ℕ → ℕ
 leftOn child x = gone

@@ -4,7 +4,7 @@ ghost use mathlib.Core.Option.{some};
 ghost use Prim.Native.Nat.{ℕ, _<_, _≤_};
 ghost use lib.ListN.{length};
 ghost use Rattle.rules.specs.Tree.{Forest, Place, to, up};
-ghost use Rattle.table.specs.Cells.{cells, labelNew, wordOf, sideOf, parentOn, leftOn, Within};
+ghost use Rattle.table.specs.Cells.{cells, labelNew, wordOf, sideOf, leftOn, Within};
 ghost use Rattle.table.specs.Holds.{Holds};
 ghost use Rattle.table.specs.Promises.{Leads, Added, Removed, Behind};
 ghost use Rattle.table.specs.Since.{Forgets};
@@ -21,17 +21,6 @@ pub struct NewNode {
     pub existence: u8,
     pub content: u8,
     pub structure: u8,
-}
-
-// The place of the parent that nodes on a side of the one at `at` have.
-fn parent_on(words: &[u32], places: usize, at: usize, side: usize) -> usize
-    requires { ⌜ Within (now words) places at × (side < 2) ⌝ }
-    ensures { λ r. ⌜ r ≡ parentOn (sideOf side) at (cells (now (words .entry)) at) ⌝ }
-{
-    if side == super::FIRST {
-        return at;
-    }
-    cells::link(words, places, at, cells::PARENT)
 }
 
 // The place of the left sibling that the first node on a side of the one at `at` has: none, or `at` itself.
@@ -110,7 +99,7 @@ pub fn add(
 }
 
 // Removes the node at `old`, the first on a side of the one at `at`, with its subtree; returns what leads to the free places then. Where blocks remember nodes,
-// each node of the subtree is forgotten before. On the side of the children the parent is the cursor's node, whose place needs no test.
+// each node of the subtree is forgotten before. On either side its own cell leads to its parent, which it has in every tree.
 pub fn remove(
     words: &mut [u32],
     places: usize,
@@ -128,8 +117,8 @@ pub fn remove(
         × Forgets remembered (sideOf side) (cells (now (words .entry))) places used free t p (now (since .entry)) (now (since .exit))) ⌝ }
     ensures { λ _. ⌜ Behind places (cells (now (words .entry))) (cells (now (words .exit))) ⌝ }
 {
-    let u = parent_on(words, places, at, side);
-    if (side == super::FIRST) | (u < places) {
+    let u = cells::link(words, places, old, cells::PARENT);
+    if u < places {
         if remembered {
             forget(words, places, old, since);
         }

@@ -1,14 +1,9 @@
--- The subtree is forgotten, and then the node goes; it has a parent. Assumes nothing.
+-- The subtree is forgotten, and then the node goes, from under the parent that its cell leads to; it has one. Assumes nothing.
 use mathlib.Core.Path.{_≡_, refl, ap, _∙_}
 use mathlib.Core.Logic.{⊎-elim}
-use mathlib.Core.Bool.{Bool, true, false, true≢false, _||_}
-use Prim.Native.Nat.{ℕ, zero, suc, _<_, _≤_}
-use native.Mathlib.Omega.{arith}
-use lib.Dec.{eqb, ltb}
 use lib.ListN.{length}
-use borrow.Author.Tests.{ne-eqb, ltb-true, ltb-false}
 use denote.Ref.{now}
-use Rattle.table.specs.Cells.{Cell, cells, sideOf, parentOn}
+use Rattle.table.specs.Cells.{cells}
 use Rattle.table.proofs.Behind.{then-behind}
 use Rattle.table.proofs.Removing.{found, removed, pruned, never-parentless}
 use Rattle.table.proofs.Effects.{detached-behind}
@@ -17,23 +12,10 @@ use borrow.Author.Needs.{needs}
 use Rattle.table.proofs.shape.remove.Statement.{statement}
 use Rattle.table.proofs.shape.remove.Tie as tie
 
--- the test of the parent's place, which on the side of the children is the cursor's
-past : (j : ℕ) {b c : Bool} → (eqb (suc j) 0 || b) ≡ c → b ≡ c
-past j e = rw (ne-eqb (suc j) 0 (λ z. omega arith)) at e
-
-inside : (side : ℕ) {n x u : ℕ} (a : Cell) → x < n → u ≡ parentOn (sideOf side) x a → (eqb side 0 || ltb u n) ≡ true → u < n
-unfolding sideOf
-inside zero a lx e t = rw e lx
-inside (suc j) {n} {u = u} a lx e t = ltb-true u n (past j t)
-
-outside : (side : ℕ) {n u : ℕ} → (eqb side 0 || ltb u n) ≡ false → n ≤ u
-outside zero t = absurd (true≢false t)
-outside (suc j) {n} {u} t = ltb-false u n (past j t)
-
-placed : (c : tie.Then1) → c .before .parent-on .result < c .before .before .before .before .before .args .places
-placed c =
-    let s = c .before .before .before .before .before in
-    inside (s .args .side) (cells (now (s .args .words)) (s .args .at)) (s .pre .0 .inside) (c .before .parent-on .ensures) (c .if1 .taken)
+-- the parent word of the node that goes
+parent-word : (c : tie.After-link) → let a = c .before .before .before .before .args in c .link .result ≡ cells (now (a .words)) (a .old) .parent
+unfolding cells
+parent-word c = c .link .ensures
 
 -- where both ways meet again
 ready : (c : tie.Joined2)
@@ -48,7 +30,6 @@ lengths c =
 detach-requires : tie.Need-detach-requires
 detach-requires c κs =
     let l = lengths (c .before) .0 in
-    let lu = placed (c .before .before) in
     search needs
 
 same-length : tie.Need-same-length
@@ -61,19 +42,19 @@ returns : tie.Need-returns
 returns c =
     let s = c .before .before .before .before .before .before .before .before .before .before in
     let r = ready (c .before .before .before .before) in
-    let lu = placed (c .before .before .before .before .before) in
+    let lu = c .before .before .before .before .before .if1 .taken in
     let d = c .before .before .detach .ensures in (
       λ used t p h e.
           let o = found h (s .args .side) (s .pre .1 .1 .0) e in
           let f = r .done h o in
-          (removed h (s .args .side) o (pruned h (s .args .side) o (s .pre .1 .0) (c .before .before .before .before .before .before .parent-on .ensures) lu (f .0) d), f .1),
+          (removed h (s .args .side) o (pruned h (s .args .side) o (s .pre .1 .0) (parent-word (c .before .before .before .before .before .before)) lu (f .0) d), f .1),
       then-behind (r .behind) (detached-behind (s .pre .0 .inside) lu (s .pre .1 .1 .0) d),
     )
 
 returns-2 : tie.Need-returns-2
 returns-2 c =
     let s = c .before .before .before .before .before in (
-      λ used t p h e. absurd (never-parentless h (s .args .side) (s .pre .1 .1 .0) e (c .before .parent-on .ensures) (outside (s .args .side) (c .if1 .left))),
+      λ used t p h e. absurd (never-parentless h (s .args .side) (found h (s .args .side) (s .pre .1 .1 .0) e) (parent-word (c .before)) (c .if1 .left)),
       record { same = λ _ _. refl },
     )
 
