@@ -7,11 +7,11 @@ use Rattle.table.proofs.since.keep.Tie as tie
 
 returns : tie.Need-returns
 unfolding kept
-returns c = rw (lt-ltb _ _ (c .if1 .taken))
+returns c = rw (lt-ltb (c .before .before .args .k) _ (c .if1 .taken))
 
 returns-2 : tie.Need-returns-2
 unfolding kept
-returns-2 c = rw (le-ltb _ _ (c .if1 .left))
+returns-2 c = rw (le-ltb (c .before .before .args .k) _ (c .if1 .left))
 
 pub keep-spec : {M : Type 1} → statement M
 keep-spec =
