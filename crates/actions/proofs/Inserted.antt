@@ -2,29 +2,30 @@
 -- tree changed, once the tests before it, read from the table, are those of the rules. Assumes nothing.
 use mathlib.Core.Path.{_≡_, refl, sym, ap, ap₂, subst, _∙_}
 use mathlib.Core.Bool.{Bool, true, false, _&&_}
-use mathlib.Core.Option.{some}
+use mathlib.Core.Option.{Option, some}
 use mathlib.Core.List.{List}
 use Prim.Native.Nat.{ℕ, zero, suc, _<_, _≤_}
 use native.Mathlib.Omega.{arith}
 use lib.IntN.{ℤ}
 use lib.Dec.{ltb}
-use borrow.Author.Tests.{lt-ltb, le-ltb}
+use borrow.Author.Tests.{lt-ltb, le-ltb, ltb-true, ltb-false}
 use Rattle.rules.specs.Limits.{maxNodes}
 use Rattle.rules.specs.Number.{bits, signed}
 use Rattle.rules.specs.Answers.{valueOf}
 use Rattle.rules.specs.declared.numbers.Number.{Number}
-use Rattle.rules.specs.Level.{public, secret, join, notAbove}
-use Rattle.rules.specs.Tree as Tree
-use Rattle.rules.specs.Tree.{Label, Forest, Place, to, up, sub, label, size, change, setValue}
+use Rattle.rules.specs.Level.{join, notAbove}
+use Rattle.rules.specs.Tree.{Forest, Place, to, up, sub, label}
 use Rattle.rules.specs.Script.{Expression}
 use Rattle.rules.specs.Run as Run
 use Rattle.rules.specs.Run.{Result, flow, absent, tableFull, stopNumber, need, withTree, current, position, flowOf, mayTouch, newLabel, insertAt, removeAt}
-use Rattle.rules.proofs.Tests.{clash}
+use Rattle.rules.proofs.Tests.{Test, holds, fails, test, clash}
 use Rattle.rules.proofs.Number.{signed-bits}
-use Rattle.table.specs.Cells.{cells, sideOf, labelWith}
+use Rattle.table.specs.Cells.{cells, sideOf, labelNew}
 use Rattle.table.specs.Holds.{Holds}
 use Rattle.table.specs.Since.{number, Forgets}
-use Rattle.table.specs.Promises.{Whenever, Leads, Behind, Added, Removed, Valued as Revalued}
+use Rattle.table.specs.Promises.{Whenever, Leads, found, Behind, Added, Removed, Valued as Revalued}
+use Rattle.table.specs.declared.Taken.{Taken}
+use Rattle.table.specs.declared.shape.NewNode.{NewNode}
 use Rattle.table.proofs.Moves.{stands}
 use Rattle.table.proofs.Remembering.{added-relocates, refused-relocates, valued-relocates, removed-relocates}
 use Rattle.actions.specs.declared.memory.Memory.{Memory}
@@ -34,14 +35,10 @@ use Rattle.actions.specs.declared.control.Stepped.{Stepped}
 use Rattle.actions.specs.Shows.{slices, Shows, levelIn}
 use Rattle.actions.specs.Stands.{stepped, withMemory, went}
 use Rattle.actions.specs.Marks.{countAt}
-use Rattle.actions.specs.Acts.{Does, Kept, shifted, closedUp, Same, Becomes, Acting, Acts, MayFit, Evaluates, ParentOn, MayTouch, MayAdd}
+use Rattle.actions.specs.Acts.{Does, Kept, shifted, closedUp, Same, Becomes, Acting, Acts, MayFit, Evaluates, withSpace, MayTouch, MayAdd, newNode, Placed}
 use Rattle.actions.proofs.Doing.{flow-number, absent-number, table-full-number, overflow-number, does-next, does-stop, passes, refuses, given-passes, given-stops, does-as, halts, moves-on, stays-by, stays}
 use Rattle.actions.proofs.Evaluation.{flow-shown}
 use Rattle.actions.proofs.Touched.{there, nowhere, Under, under, no-parent, position-is}
-
--- the memory with other places that lead to the free ones
-abbrev pub withSpace : Memory → ℕ → ℕ → Memory
-withSpace m free used = record { cursor = m .cursor; level = m .level; lines = m .lines; free = free; used = used }
 
 module _ {places vars : ℕ} {w w′ l b : List ℕ} {v : List ℤ} {m : Memory} {free used : ℕ} where
   -- the words hold the same tree in another way, or another tree
@@ -64,11 +61,27 @@ words-only : {places vars n : ℕ} {w w′ l b : List ℕ} {v : List ℤ} → Be
     → Kept places vars (slices w l v b) (slices w′ l v b) n n
 words-only h = record { grown = omega arith; cells = h; values = λ j h. refl; board = refl }
 
--- the place on a side of the cursor
+-- where a move from the cursor leads
+abbrev LeadsTo : List ℕ → ℕ → Memory → (Place → Option Place) → ℕ → Type 0
+LeadsTo w places m o r =
+    (used free : ℕ) (t : Forest) (p : Place) → Holds (cells w) places used free (m .cursor) t p → Leads (cells w) places used free t (o p) r
+
+-- the place on a side of the cursor, and that of the parent which a node there has
 abbrev pub Beside : List ℕ → ℕ → Memory → ℕ → ℕ → Type 0
-Beside w places m side old =
-    (used free : ℕ) (t : Forest) (p : Place) → Holds (cells w) places used free (m .cursor) t p
-    → Leads (cells w) places used free t (some (to (sideOf side) p)) old
+Beside w places m side = LeadsTo w places m (λ p. some (to (sideOf side) p))
+
+abbrev pub Above : List ℕ → ℕ → Memory → ℕ → ℕ → Type 0
+Above w places m side = LeadsTo w places m (λ p. up (to (sideOf side) p))
+
+-- the parent is the cursor's node, or that node's own
+module _ (w : List ℕ) {places : ℕ} (m : Memory) where
+  pub above-first : m .cursor < places → Above w places m 0 (m .cursor)
+  unfolding sideOf up
+  above-first lt used free t p h = found p lt refl h
+
+  pub above-right : {r : ℕ} → LeadsTo w places m up r → Above w places m 1 r
+  unfolding sideOf up
+  above-right leads = leads
 
 -- removals
 module _ (r : Running) (pc side : ℕ) {places vars old : ℕ} {w l b : List ℕ} {v : List ℤ} (inside : r .memory .cursor < places)
@@ -122,32 +135,62 @@ module _ {P : Run.Memory → Type 0} {n : ℕ} {μ : Run.Memory} where
   both-passed true q x e d = passes flow refl (passes flow e d)
   both-passed false q x e d = clash e refl
 
+-- y is the value and the level of the expression e
+module _ {w l : List ℕ} {v : List ℤ} {places vars : ℕ} {m : Memory} {e : Expression} {y : Valued} (x : Evaluates w l v places vars m e y) where
+  -- the value, by its bits
+  told : {u : ℤ} {n : ℕ} → y .value ≡ Number.Fits u → n ≡ bits u → signed n ≡ u
+  told has i = ap signed i ∙ signed-bits (record { sfits = subst MayFit has (x .fits) })
+
+  -- the label of a new node
+  new-label : {u : ℤ} {new : NewNode} (b : List ℕ) (pc d f : ℕ) → y .value ≡ Number.Fits u → new ≡ newNode u (y .level) d f pc m → (μ : Run.Memory)
+      → Shows places vars (slices w l v b) m μ → labelNew new ≡ newLabel pc μ d f e u
+  unfolding newLabel
+  new-label b pc d f has is μ s =
+      ap labelNew is
+      ∙ λ j.
+      record {
+        value = told has refl j;
+        existence = position-is pc refl s j;
+        content = ap (λ z. join z d) (sym (flow-shown pc x b μ s)) j;
+        structure = ap (λ z. join z f) (position-is pc refl s) j;
+      }
+
 -- insertions
 abbrev pub Inserts : ℕ → ℕ → ℕ → ℕ → ℕ → Expression → Run.Memory → Result Run.Memory
 Inserts pc side content list places e μ = insertAt pc μ places (to (sideOf side) (μ .cursor)) (up (to (sideOf side) (μ .cursor))) content list e
 
-module _ (r : Running) (pc side content list : ℕ) (e : Expression) {places vars above : ℕ} {w l b : List ℕ} {v : List ℤ}
-    (inside : r .memory .cursor < places) (on : ParentOn w places (r .memory) side above) where
-  pub insert-absent : {a : Stepped} → places ≤ above → a ≡ stepped 22 r → Acting (shifted side) Same places vars (slices w l v b) (slices w l v b) r a (Inserts pc side content list places e)
+-- what an insertion on a side asks of the table: the parent's place, what stands on the side, and whether C may add a node there
+pub record Asked (w : List ℕ) (places : ℕ) (m : Memory) (pc side above : ℕ) (ok : Bool) : Type 0 where
+  pub old : ℕ
+  pub c : ℕ
+  pub inside : m .cursor < places
+  pub on : Above w places m side above
+  pub beside : Beside w places m side old
+  pub at : c ≡ join pc (levelIn m)
+  pub lt : above < places
+  pub may : MayAdd w places m above old c ok
+
+module _ (r : Running) (pc side content list : ℕ) (e : Expression) {places vars : ℕ} {w l b : List ℕ} {v : List ℤ} where
+  pub insert-absent : {above : ℕ} {a : Stepped} → r .memory .cursor < places → Above w places (r .memory) side above → places ≤ above → a ≡ stepped 22 r
+      → Acting (shifted side) Same places vars (slices w l v b) (slices w l v b) r a (Inserts pc side content list places e)
   unfolding insertAt
-  insert-absent ge is =
+  insert-absent inside on ge is =
       stays inside is (λ z. omega arith)
       (λ μ s.
-      does-as (ap (λ o. insertAt pc μ places (to (sideOf side) (μ .cursor)) o content list e) (no-parent (sideOf side) (s .tree) (on .leads _ _ (s .tree)) ge))
+      does-as (ap (λ o. insertAt pc μ places (to (sideOf side) (μ .cursor)) o content list e) (no-parent (sideOf side) (s .tree) (on _ _ _ _ (s .tree)) ge))
       (does-stop absent absent-number s))
 
-  module _ {old c : ℕ} {ok : Bool} (beside : Beside w places (r .memory) side old) (at : c ≡ join pc (levelIn (r .memory))) (lt : above < places)
-      (may : MayAdd w places (r .memory) above old c ok) where
+  module _ {above : ℕ} {ok : Bool} (g : Asked w places (r .memory) pc side above ok) where
     -- the parent's place
     parent : {μ : Run.Memory} → Shows places vars (slices w l v b) (r .memory) μ
         → Under (cells w) places (r .memory .used) (r .memory .free) above (μ .tree) (up (to (sideOf side) (μ .cursor)))
-    parent s = under (on .leads _ _ (s .tree)) lt
+    parent s = under (g .on _ _ _ _ (s .tree)) (g .lt)
 
     gated : {μ : Run.Memory} (s : Shows places vars (slices w l v b) (r .memory) μ)
         → ok ≡ (notAbove (position pc μ) ((label (sub (parent s .place) (μ .tree))) .structure) && mayTouch pc μ (sub (to (sideOf side) (μ .cursor)) (μ .tree)))
     gated {μ} s =
-        let i = position-is pc at s in
-        may .add pc μ _ _ i (parent s .holds) (beside _ _ _ _ (s .tree))
+        let i = position-is pc (g .at) s in
+        g .may .add pc μ _ _ i (parent s .holds) (g .beside _ _ _ _ (s .tree))
         ∙ ap (λ z. notAbove z ((label (sub (parent s .place) (μ .tree))) .structure) && mayTouch pc μ (sub (to (sideOf side) (μ .cursor)) (μ .tree))) i
 
     -- the insertion under that parent
@@ -155,10 +198,11 @@ module _ (r : Running) (pc side content list : ℕ) (e : Expression) {places var
         → Inserts pc side content list places e μ ≡ insertAt pc μ places (to (sideOf side) (μ .cursor)) (some (parent s .place)) content list e
     as-under {μ} s = ap (λ o. insertAt pc μ places (to (sideOf side) (μ .cursor)) o content list e) (parent s .is)
 
-    pub insert-refused : {a : Stepped} → ok ≡ false → a ≡ stepped 21 r → Acting (shifted side) Same places vars (slices w l v b) (slices w l v b) r a (Inserts pc side content list places e)
+    pub insert-refused : {a : Stepped} → ok ≡ false → a ≡ stepped 21 r
+        → Acting (shifted side) Same places vars (slices w l v b) (slices w l v b) r a (Inserts pc side content list places e)
     unfolding insertAt
     insert-refused shut is =
-        stays inside is (λ z. omega arith) (λ μ s. does-as (as-under s) (both-refused _ _ _ (sym (gated s) ∙ shut) flow-number s))
+        stays (g .inside) is (λ z. omega arith) (λ μ s. does-as (as-under s) (both-refused _ _ _ (sym (gated s) ∙ shut) flow-number s))
 
     -- y is the value and the level of the expression e
     module _ (may-go : ok ≡ true) {y : Valued} (x : Evaluates w l v places vars (r .memory) e y) where
@@ -166,46 +210,48 @@ module _ (r : Running) (pc side content list : ℕ) (e : Expression) {places var
           → Acting (shifted side) Same places vars (slices w l v b) (slices w l v b) r a (Inserts pc side content list places e)
       unfolding insertAt
       insert-over none is =
-          stays inside is (λ z. omega arith)
+          stays (g .inside) is (λ z. omega arith)
           (λ μ s.
           does-as (as-under s) (both-passed _ _ _ (sym (gated s) ∙ may-go) (given-stops _ (x .value b μ s ∙ ap valueOf none) overflow-number s)))
 
-      module _ {u : ℤ} (has : y .value ≡ Number.Fits u) (w′ : List ℕ) {z free used : ℕ} {new : Label}
+      module _ {u : ℤ} (has : y .value ≡ Number.Fits u) (w′ : List ℕ) {got : Taken} (new : NewNode)
           (added : (t : Forest) (p : Place) → Holds (cells w) places (r .memory .used) (r .memory .free) (r .memory .cursor) t p
           → Leads (cells w) places (r .memory .used) (r .memory .free) t (up (to (sideOf side) p)) above
-          → Added (sideOf side) new (cells w) (cells w′) places (r .memory .used) (r .memory .free) (r .memory .cursor) z free used t p)
+          → Added (sideOf side) (labelNew new) (cells w) (cells w′) places (r .memory .used) (r .memory .free) (r .memory .cursor) (got .place) (got .free) (got .used) t p)
           (behind : Behind places (cells w) (cells w′)) where
         result : {μ : Run.Memory} → Shows places vars (slices w l v b) (r .memory) μ
-            → Added (sideOf side) new (cells w) (cells w′) places (r .memory .used) (r .memory .free) (r .memory .cursor) z free used (μ .tree) (μ .cursor)
-        result s = added _ _ (s .tree) (on .leads _ _ (s .tree))
+            → Added (sideOf side) (labelNew new) (cells w) (cells w′) places (r .memory .used) (r .memory .free) (r .memory .cursor) (got .place) (got .free) (got .used) (μ .tree) (μ .cursor)
+        result s = added _ _ (s .tree) (g .on _ _ _ _ (s .tree))
 
-        pub insert-full : {a : Stepped} → places ≤ z → a ≡ stepped 23 (withMemory r (withSpace (r .memory) free used))
+        insert-full : {a : Stepped} → places ≤ got .place → a ≡ stepped 23 (withMemory r (withSpace (r .memory) (got .free) (got .used)))
             → Acting (shifted side) Same places vars (slices w l v b) (slices w′ l v b) r a (Inserts pc side content list places e)
         unfolding insertAt
         insert-full i is =
-            halts _ is (λ z. omega arith) inside (λ h. h) (words-only behind)
+            halts _ is (λ z. omega arith) (g .inside) (λ h. h) (words-only behind)
             (λ k k′ q μ s.
             does-as (as-under s)
             (both-passed _ _ _ (sym (gated s) ∙ may-go)
             (given-passes _ (x .value b μ s ∙ ap valueOf has)
-            (refuses tableFull _ (sym (result s .when) ∙ le-ltb z places i) table-full-number
+            (refuses tableFull _ (sym (result s .when) ∙ le-ltb (got .place) places i) table-full-number
             (record {
               shows = with-space s (result s .kept i _ _ (s .tree));
               moves = λ _. rw q (refused-relocates (result s) i);
               behind = λ y h. rw q;
             })))))
 
-        pub inserted : {a : Stepped} → ((μ : Run.Memory) → Shows places vars (slices w l v b) (r .memory) μ → new ≡ newLabel pc μ content list e u) → z < places
-            → a ≡ went r (withSpace (r .memory) free used) → Acting (shifted side) Same places vars (slices w l v b) (slices w′ l v b) r a (Inserts pc side content list places e)
+        insert-done : {a : Stepped} → ((μ : Run.Memory) → Shows places vars (slices w l v b) (r .memory) μ → labelNew new ≡ newLabel pc μ content list e u)
+            → got .place < places → a ≡ went r (withSpace (r .memory) (got .free) (got .used))
+            → Acting (shifted side) Same places vars (slices w l v b) (slices w′ l v b) r a (Inserts pc side content list places e)
         unfolding insertAt withTree
-        inserted labels i is =
-            moves-on _ is inside (λ h. h) (words-only behind)
+        insert-done labels i is =
+            moves-on _ is (g .inside) (λ h. h) (words-only behind)
             (λ k k′ q μ s.
-            let done = subst (λ a. Added (sideOf side) a (cells w) (cells w′) places (r .memory .used) (r .memory .free) (r .memory .cursor) z free used (μ .tree) (μ .cursor)) (labels μ s) (result s) in
+            let done = subst (λ a. Added (sideOf side) a (cells w) (cells w′) places (r .memory .used) (r .memory .free) (r .memory .cursor)
+            (got .place) (got .free) (got .used) (μ .tree) (μ .cursor)) (labels μ s) (result s) in
             does-as (as-under s)
             (both-passed _ _ _ (sym (gated s) ∙ may-go)
             (given-passes _ (x .value b μ s ∙ ap valueOf has)
-            (passes tableFull (sym (result s .when) ∙ lt-ltb z places i)
+            (passes tableFull (sym (result s .when) ∙ lt-ltb (got .place) places i)
             (does-next _ refl
             (record {
               shows = with-tree s (done .done i);
@@ -213,27 +259,17 @@ module _ (r : Running) (pc side content list : ℕ) (e : Expression) {places var
               behind = λ y h. rw q;
             }))))))
 
+        pub inserted : {a : Stepped} → new ≡ newNode u (y .level) content list pc (r .memory) → Placed places r got a
+            → Acting (shifted side) Same places vars (slices w l v b) (slices w′ l v b) r a (Inserts pc side content list places e)
+        inserted {a} is p = by (test (ltb (got .place) places))
+          where
+            by : Test (ltb (got .place) places) → Acting (shifted side) Same places vars (slices w l v b) (slices w′ l v b) r a (Inserts pc side content list places e)
+            by (holds i) = insert-done (new-label x b pc content list has is) (ltb-true _ _ i) (p .taken (ltb-true _ _ i))
+            by (fails i) = insert-full (ltb-false _ _ i) (p .full (ltb-false _ _ i))
+
 -- y is the value and the level of the expression e, and k is L
 module _ {w l : List ℕ} {v : List ℤ} {places vars k : ℕ} (r : Running) {e : Expression} {y : Valued} (pc : ℕ)
     (x : Evaluates w l v places vars (r .memory) e y) (flows : k ≡ join (y .level) (join pc (levelIn (r .memory)))) (b : List ℕ) where
-  -- the value, by its bits
-  told : {u : ℤ} {n : ℕ} → y .value ≡ Number.Fits u → n ≡ bits u → signed n ≡ u
-  told has i = ap signed i ∙ signed-bits (record { sfits = subst MayFit has (x .fits) })
-
-  -- the label of a new node at the level c
-  pub new-label : {u : ℤ} {n c p q : ℕ} (d f : ℕ) → y .value ≡ Number.Fits u → n ≡ bits u → c ≡ join pc (levelIn (r .memory))
-      → p ≡ join k d → q ≡ join c f → (μ : Run.Memory)
-      → Shows places vars (slices w l v b) (r .memory) μ → labelWith n c p q ≡ newLabel pc μ d f e u
-  unfolding newLabel
-  new-label d f has i at ip iq μ s =
-      λ j.
-      record {
-        value = told has i j;
-        existence = position-is pc at s j;
-        content = (ip ∙ ap (λ z. join z d) (flows ∙ sym (flow-shown pc x b μ s))) j;
-        structure = (iq ∙ ap (λ z. join z f) (position-is pc at s)) j;
-      }
-
   -- writes to a node of the content c
   module _ {c : ℕ} (inside : r .memory .cursor < places)
       (contents : Whenever (cells w) places (r .memory .cursor) (λ t p. label (sub p t) .content ≡ c)) where
@@ -263,7 +299,7 @@ module _ {w l : List ℕ} {v : List ℤ} {places vars k : ℕ} (r : Running) {e 
     written w′ has h i set behind is =
         moves-on (r .memory) is inside (λ z. z) (words-only behind)
         (λ k k′ q μ s.
-        let d = subst (λ z. Revalued z (cells w) (cells w′) places (r .memory .used) (r .memory .free) (r .memory .cursor) (μ .tree) (μ .cursor)) (told has i) (set _ _ _ _ (s .tree)) in
+        let d = subst (λ z. Revalued z (cells w) (cells w′) places (r .memory .used) (r .memory .free) (r .memory .cursor) (μ .tree) (μ .cursor)) (told x has i) (set _ _ _ _ (s .tree)) in
         passes flow (content-test h μ s)
         (given-passes _ (x .value b μ s ∙ ap valueOf has)
         (does-next _ refl

@@ -6,25 +6,27 @@ use Prim.Native.Nat.{ℕ, zero, suc, _-_, _*_, _<_, _≤_}
 use mathlib.Core.List.{List, map}
 use lib.ListN.{length, getD, drop}
 use lib.IntN.{ℤ, pos}
-use Rattle.rules.specs.Number.{Fits, fitting}
+use Rattle.rules.specs.Number.{Fits, fitting, bits}
 use Rattle.rules.specs.Answers.{valueOf}
 use Rattle.rules.specs.declared.numbers.Number.{Number}
-use Rattle.rules.specs.Level.{notAbove}
+use Rattle.rules.specs.Level.{join, notAbove}
 use Rattle.rules.specs.Tree.{Forest, Place, root, to, up, sub, label, child, sibling, afterInsert, afterRemove}
 use Rattle.rules.specs.Script.{Operand, Expression}
 use Rattle.rules.specs.Run as Run
 use Rattle.rules.specs.Job.{expression}
-use Rattle.rules.specs.Run.{State, Result, next, onBlock, onward, stop, stopNumber, operandValue, operandLevel, value, levelOf, position, mayTouch, moveTo, goTo}
+use Rattle.rules.specs.Run.{State, Result, next, onBlock, onward, stop, stopNumber, operandValue, operandLevel, value, levelOf, position, mayTouch, insertAt, moveTo, goTo}
 use Rattle.table.specs.Cells.{cells, sideOf}
 use Rattle.table.specs.Holds.{Holds}
 use Rattle.table.specs.Promises.{Leads, Behind}
+use Rattle.table.specs.declared.Taken.{Taken}
+use Rattle.table.specs.declared.shape.NewNode.{NewNode}
 use Rattle.actions.specs.declared.memory.Memory.{Memory}
 use Rattle.actions.specs.declared.evaluate.Valued.{Valued}
 use Rattle.actions.specs.declared.evaluate.Found.{Found}
 use Rattle.actions.specs.declared.control.Running.{Running}
 use Rattle.actions.specs.declared.control.Stepped.{Stepped}
 use Rattle.actions.specs.Shows.{Slices, slices, Shows, levelIn}
-use Rattle.actions.specs.Stands.{Stands, stepped, went}
+use Rattle.actions.specs.Stands.{Stands, stepped, withMemory, went}
 
 -- r is the operand's value and level
 pub record Operates (words levels : List ℕ) (values : List ℤ) (places vars : ℕ) (m : Memory) (a : Operand) (r : Found) : Type 0 where
@@ -101,6 +103,10 @@ Acts = Acting keep Same
 abbrev pub withCursor : Memory → ℕ → ℕ → Memory
 withCursor m place level = record { cursor = place; level = level; lines = m .lines; free = m .free; used = m .used }
 
+-- the memory with other places that lead to the free ones
+abbrev pub withSpace : Memory → ℕ → ℕ → Memory
+withSpace m free used = record { cursor = m .cursor; level = m .level; lines = m .lines; free = free; used = used }
+
 -- the cursor at another place or level, or 21 where the context pc is above its level
 unfoldable pub movedTo : ℕ → Running → ℕ → ℕ → Stepped
 movedTo pc r place level = cond (notAbove pc (levelIn (r .memory))) (went r (withCursor (r .memory) place level)) (stepped 21 r)
@@ -117,11 +123,6 @@ pub record Target (words : List ℕ) (places : ℕ) (m : Memory) (place : ℕ) (
   pub leads : (t : Forest) (p : Place) → Holds (cells words) places (m .used) (m .free) (m .cursor) t p
       → Leads (cells words) places (m .used) (m .free) t (o t p) place
 
--- the place of the parent that a node on a side of the cursor's has, or no place of the table
-pub record ParentOn (words : List ℕ) (places : ℕ) (m : Memory) (side r : ℕ) : Type 0 where
-  pub leads : (t : Forest) (p : Place) → Holds (cells words) places (m .used) (m .free) (m .cursor) t p
-      → Leads (cells words) places (m .used) (m .free) t (up (to (sideOf side) p)) r
-
 -- whether C is not above the existence of the node at a place, if it is one
 pub record MayTouch (words : List ℕ) (places : ℕ) (m : Memory) (c place : ℕ) (r : Bool) : Type 0 where
   pub touch : (pc : ℕ) (μ : Run.Memory) (q : Place) → c ≡ position pc μ
@@ -132,3 +133,25 @@ pub record MayAdd (words : List ℕ) (places : ℕ) (m : Memory) (above old c : 
   pub add : (pc : ℕ) (μ : Run.Memory) (q p : Place) → c ≡ position pc μ
       → Holds (cells words) places (m .used) (m .free) above (μ .tree) q → Leads (cells words) places (m .used) (m .free) (μ .tree) (some p) old
       → r ≡ (notAbove c ((label (sub q (μ .tree))) .structure) && mayTouch pc μ (sub p (μ .tree)))
+
+-- what a new node shows, by its value, the level E of that and the sets that its content and its list join
+abbrev pub newNode : ℤ → ℕ → ℕ → ℕ → ℕ → Memory → NewNode
+newNode z e content list pc m =
+    record {
+      value = bits z;
+      existence = join pc (levelIn m);
+      content = join (join e (join pc (levelIn m))) content;
+      structure = join (join pc (levelIn m)) list;
+    }
+
+-- a is the answer once a place was asked for: one record on with what leads to the free places then, or 23 where there was none
+pub record Placed (places : ℕ) (r : Running) (got : Taken) (a : Stepped) : Type 0 where
+  pub taken : got .place < places → a ≡ went r (withSpace (r .memory) (got .free) (got .used))
+  pub full : places ≤ got .place → a ≡ stepped 23 (withMemory r (withSpace (r .memory) (got .free) (got .used)))
+
+-- from the words w and the running record r to w′ and the answer a: a new node on a side of the cursor's, with what e comes to
+abbrev pub InsertsOn : (side content list places pc : ℕ) (w w′ : List ℕ) (e : Valued) (r : Running) (a : Stepped) → Type 0
+InsertsOn side content list places pc w w′ e r a =
+    (l b : List ℕ) (v : List ℤ) (vars : ℕ) (x : Expression) → Evaluates w l v places vars (r .memory) x e
+    → Acting (shifted side) Same places vars (slices w l v b) (slices w′ l v b) r a
+    (λ μ. insertAt pc μ places (to (sideOf side) (μ .cursor)) (up (to (sideOf side) (μ .cursor))) content list x)

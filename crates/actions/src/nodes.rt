@@ -17,6 +17,7 @@ use rules::limits::OVERFLOW;
 use rules::limits::TABLE_FULL;
 use rules::numbers;
 use rules::numbers::Number;
+use table::Taken;
 use table::node;
 use table::shape;
 use table::walk;
@@ -33,18 +34,7 @@ ghost use Rattle.table.specs.Cells.{cellSize, Within, sideOf};
 ghost use Rattle.actions.specs.Shows.{slices};
 ghost use Rattle.actions.specs.Stands.{Timely};
 ghost use Rattle.actions.specs.Marks.{marksSize};
-ghost use Rattle.actions.specs.Acts.{shifted, closedUp, Same, Becomes, Acting, Acts, Evaluates, ParentOn, MayTouch, MayAdd};
-
-// The place of the parent that a node on a side of the cursor's has, or no place.
-fn parent_on(words: &[u32], places: usize, m: Memory, side: usize) -> usize
-    requires { ⌜ Within (now words) places (m .cursor) × (side < 2) ⌝ }
-    ensures { λ r. ⌜ ParentOn (now (words .entry)) places m side r ⌝ }
-{
-    if side == table::FIRST {
-        return m.cursor;
-    }
-    walk::parent(words, places, m.cursor)
-}
+ghost use Rattle.actions.specs.Acts.{shifted, closedUp, Same, Becomes, Acting, Acts, Evaluates, MayTouch, MayAdd, newNode, Placed, InsertsOn};
 
 // Whether C is not above the existence of the node at a place, if it is one.
 fn may_touch(words: &[u32], places: usize, m: Memory, c: u8, place: usize) -> bool
@@ -68,7 +58,113 @@ fn may_add(words: &[u32], places: usize, m: Memory, above: usize, old: usize, c:
     may_touch(words, places, m, c, old)
 }
 
+// What a new node shows, with the value z of the level E; its content and its list join a set each.
+fn new_node(z: i32, e: u8, content: u8, list: u8, pc: u8, m: Memory) -> shape::NewNode
+    ensures { λ n. ⌜ n ≡ newNode z e content list pc m ⌝ }
+{
+    let c = position(pc, m);
+    shape::NewNode {
+        value: numbers::bits(z),
+        existence: c,
+        content: join(flow(e, pc, m), content),
+        structure: join(c, list),
+    }
+}
+
+// Onward with what leads to the free places now; 23 where there was no place for the new node.
+fn placed(r: Running, places: usize, got: Taken) -> Stepped
+    requires { ⌜ Timely r ⌝ }
+    ensures { λ a. ⌜ Placed places r got a ⌝ }
+{
+    let mut next = r.memory;
+    next.free = got.free;
+    next.used = got.used;
+    if got.place >= places {
+        return halt(with_memory(r, next), TABLE_FULL);
+    }
+    onward(r, next)
+}
+
+// Command 11: the parent is the cursor's node.
+fn insert_first(
+    e: Valued,
+    content: u8,
+    list: u8,
+    words: &mut [u32],
+    places: usize,
+    pc: u8,
+    r: Running,
+) -> Stepped
+    requires { ⌜ Timely r × Within (now words) places (r .memory .cursor) ⌝ }
+    ensures { λ a. ⌜ InsertsOn 0 content list places pc (now (words .entry)) (now (words .exit)) e r a ⌝ }
+{
+    let m = r.memory;
+    let c = position(pc, m);
+    let old = walk::beside(words, places, m.cursor, table::FIRST);
+    if !may_add(words, places, m, m.cursor, old, c) {
+        return halt(r, FLOW);
+    }
+    let v = e.value;
+    let Number::Fits(z) = v else {
+        return halt(r, OVERFLOW);
+    };
+    let new = new_node(z, e.level, content, list, pc, m);
+    let got = shape::add(
+        words,
+        places,
+        m.used,
+        m.free,
+        m.cursor,
+        table::FIRST,
+        m.cursor,
+        new,
+    );
+    placed(r, places, got)
+}
+
+// Command 12: the parent is that of the cursor's node; 22 where it has none.
+fn insert_right(
+    e: Valued,
+    content: u8,
+    list: u8,
+    words: &mut [u32],
+    places: usize,
+    pc: u8,
+    r: Running,
+) -> Stepped
+    requires { ⌜ Timely r × Within (now words) places (r .memory .cursor) ⌝ }
+    ensures { λ a. ⌜ InsertsOn 1 content list places pc (now (words .entry)) (now (words .exit)) e r a ⌝ }
+{
+    let m = r.memory;
+    let above = walk::parent(words, places, m.cursor);
+    if above >= places {
+        return halt(r, ABSENT);
+    }
+    let c = position(pc, m);
+    let old = walk::beside(words, places, m.cursor, table::RIGHT);
+    if !may_add(words, places, m, above, old, c) {
+        return halt(r, FLOW);
+    }
+    let v = e.value;
+    let Number::Fits(z) = v else {
+        return halt(r, OVERFLOW);
+    };
+    let new = new_node(z, e.level, content, list, pc, m);
+    let got = shape::add(
+        words,
+        places,
+        m.used,
+        m.free,
+        m.cursor,
+        table::RIGHT,
+        above,
+        new,
+    );
+    placed(r, places, got)
+}
+
 // Commands 11 and 12: a new node on a side, in front of what stands there, with the expression whose value and level are e; its content and its list join a set each.
+// Each side has a function with a body of its own: two calls of one function with constants become one code, which works the side out again.
 pub fn insert_on(
     e: Valued,
     content: u8,
@@ -84,34 +180,10 @@ pub fn insert_on(
         → Acting (shifted side) Same places vars (slices (now (words .entry)) l v b) (slices (now (words .exit)) l v b) r a
         (λ μ. Run.insertAt pc μ places (to (sideOf side) (μ .cursor)) (up (to (sideOf side) (μ .cursor))) content list x)) ⌝ }
 {
-    let m = r.memory;
-    let above = parent_on(words, places, m, side);
-    if above >= places {
-        return halt(r, ABSENT);
+    if side == table::FIRST {
+        return insert_first(e, content, list, words, places, pc, r);
     }
-    let c = position(pc, m);
-    let old = walk::beside(words, places, m.cursor, side);
-    if !may_add(words, places, m, above, old, c) {
-        return halt(r, FLOW);
-    }
-    let v = e.value;
-    let Number::Fits(z) = v else {
-        return halt(r, OVERFLOW);
-    };
-    let new = shape::NewNode {
-        value: numbers::bits(z),
-        existence: c,
-        content: join(flow(e.level, pc, m), content),
-        structure: join(c, list),
-    };
-    let got = shape::add(words, places, m.used, m.free, m.cursor, side, above, new);
-    let mut next = m;
-    next.free = got.free;
-    next.used = got.used;
-    if got.place >= places {
-        return halt(with_memory(r, next), TABLE_FULL);
-    }
-    onward(r, next)
+    insert_right(e, content, list, words, places, pc, r)
 }
 
 // Commands 13 and 14: the first node on a side goes, with its subtree.
