@@ -1,8 +1,8 @@
 -- Where the search for a left sibling starts nothing is passed over: no record up to the parent has it, since where the parents are right every record
--- comes after its parent; and the last child is the nearest. Assumes nothing.
+-- comes after its parent; and the last child is the nearest. What check 6 asks of the left sibling it asks of the parent in any case. Assumes nothing.
 use mathlib.Core.Path.{_≡_, refl, sym, ap, _∙_}
-use mathlib.Core.Bool.{Bool, true, cond}
-use mathlib.Core.Option.{Option, none, some}
+use mathlib.Core.Bool.{Bool, true, false, _&&_, cond}
+use mathlib.Core.Option.{Option, none, some, Option·getD}
 use mathlib.Core.List.{List}
 use Prim.Native.Nat.{ℕ, zero, suc, _≤_, _<_}
 use native.Mathlib.Omega.{arith}
@@ -11,11 +11,12 @@ use lib.ListN.{length, getD, set, length-set, getD-replicate, replicate}
 use lib.Seq.{getD-set-same, getD-set-other}
 use borrow.Author.Tests.{eqb-true, eqb-false, eq-eqb, ne-eqb, lt-ltb, le-ltb, ltb-false}
 use Rattle.rules.specs.Limits.{maxNodes, noParent}
-use Rattle.rules.specs.Check.{parent, parentRule, nearest}
+use Rattle.rules.specs.Level.{notAbove}
+use Rattle.rules.specs.Check.{parent, existence, structure, parentRule, nearest, leftRule, childRule}
 use Rattle.rules.proofs.Tests.{Test, holds, fails, test}
 use Rattle.rules.proofs.Nearest.{near-below}
 use Rattle.rules.proofs.Accepted.{parent-before}
-use Rattle.job.specs.Siblings.{Rooted, Lasts, child, behind}
+use Rattle.job.specs.Siblings.{Rooted, Lasts, child, behind, left, beside}
 
 module _ (b : List ℕ) (base p : ℕ) where
   other : p < maxNodes → (k : ℕ) → k ≤ p → parentRule b base k ≡ true → parent b base k ≡ p → ⊥
@@ -107,3 +108,32 @@ module _ (b : List ℕ) (base i : ℕ) (r : Rooted b base i) (xs : List ℕ) (w 
 
     pub search-start : {k : ℕ} → k ≡ behind (getD xs (parent b base i) 0) (parent b base i) → Right k
     search-start e = rw e (from _ (w .each _ (omega (arith, parent-below, r .few))))
+
+module _ (b : List ℕ) (base i : ℕ) where
+  pub beside-is : {w : Option ℕ} → left b base i ≡ w → beside b base i ≡ Option·getD w (parent b base i)
+  unfolding beside
+  beside-is e = ap (λ w. Option·getD w (parent b base i)) e
+
+  pub beside-below : (i ≡ 0 → ⊥) → Rooted b base i → beside b base i < i
+  beside-below n r = go (left b base i) refl
+    where
+      go : (w : Option ℕ) → left b base i ≡ w → beside b base i < i
+      go none e = rw (beside-is e) (parent-before b base i n (r .parents i (omega arith)))
+      go (some j) e = rw (beside-is e) (near-below b base _ i e)
+
+  -- what check 6 asks by the parent, and by what stands beside node i
+  abbrev bounded : Bool
+  bounded = notAbove (existence b base (parent b base i)) (existence b base i) && notAbove (existence b base i) (structure b base (parent b base i))
+
+  pub child-beside : childRule b base i ≡ (bounded && notAbove (existence b base (beside b base i)) (existence b base i))
+  unfolding childRule leftRule beside
+  child-beside = go (left b base i)
+    where
+      again : (p q : Bool) → (p && q && true) ≡ (p && q && p)
+      again true true = refl
+      again true false = refl
+      again false q = refl
+
+      go : (w : Option ℕ) → (bounded && leftRule b base i w) ≡ (bounded && notAbove (existence b base (Option·getD w (parent b base i))) (existence b base i))
+      go none = again (notAbove (existence b base (parent b base i)) (existence b base i)) (notAbove (existence b base i) (structure b base (parent b base i)))
+      go (some j) = refl

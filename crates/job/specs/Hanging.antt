@@ -7,11 +7,11 @@ use Rattle.rules.specs.Check.{orderRule, nodeClean}
 use Rattle.job.specs.declared.preorder.Hung.{Hung}
 use Rattle.job.specs.declared.preorder.Hung.the-variants.{InOrder, Astray}
 use Rattle.job.specs.Fits.{nodeIn}
-use Rattle.job.specs.Siblings.{Beside}
+use Rattle.job.specs.Siblings.{beside}
 
 -- what is known of node i; of one that is out of order nothing
 abbrev pub Hangs : List ℕ → ℕ → ℕ → Hung → Type 0
-Hangs b base i (InOrder left) = (orderRule b base i ≡ true) × Beside b base i left
+Hangs b base i (InOrder k) = (orderRule b base i ≡ true) × (k ≡ beside b base i)
 Hangs b base i Astray = Unit {0}
 
 -- the first n nodes are in order

@@ -1,7 +1,7 @@
 -- What check 6 goes by: the node itself, the nodes before it and the last child of each, and its left sibling. Assumes nothing.
 use mathlib.Core.Path.{_≡_}
 use mathlib.Core.Bool.{Bool, true, _&&_, cond}
-use mathlib.Core.Option.{Option, none, some}
+use mathlib.Core.Option.{Option, none, some, Option·getD}
 use mathlib.Core.List.{List}
 use Prim.Native.Nat.{ℕ, zero, suc, _+_, _≤_, _<_}
 use lib.Dec.{eqb, ltb}
@@ -44,11 +44,15 @@ behind last p = cond (ltb last p) (suc p) (suc last)
 unfoldable pub ownRule : ℕ → List ℕ → ℕ → ℕ → Bool
 ownRule top b base i = labelIn top b base i && cond (eqb i 0) (notAbove (existence b base i) public) true
 
--- what the search comes to
+-- the left sibling of node i
+abbrev pub left : List ℕ → ℕ → ℕ → Option ℕ
+left b base i = nearest b base (parent b base i) i
+
+-- what the search for it comes to
 unfoldable pub leftOf : Found → Option ℕ
 leftOf (At j) = some j
 leftOf Nothing = none
 
--- it is the left sibling of node i
-abbrev pub Beside : List ℕ → ℕ → ℕ → Found → Type 0
-Beside b base i left = nearest b base (parent b base i) i ≡ leftOf left
+-- the left sibling of node i, or its parent where it has none
+unfoldable pub beside : List ℕ → ℕ → ℕ → ℕ
+beside b base i = Option·getD (left b base i) (parent b base i)

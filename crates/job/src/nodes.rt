@@ -16,7 +16,7 @@ ghost use Rattle.rules.specs.Check.{parent, parentRule, orderRule, childRule, n
 ghost use Rattle.rules.specs.Job.{labelOf};
 ghost use Rattle.job.specs.Fields.{levelsOf};
 ghost use Rattle.job.specs.Fits.{labelIn, nodeIn};
-ghost use Rattle.job.specs.Siblings.{Linked, Rooted, Lasts, Beside, ownRule, behind};
+ghost use Rattle.job.specs.Siblings.{Linked, Rooted, Lasts, ownRule, behind, left, leftOf, beside};
 
 pub fn parent_at(job: &[u8], base: usize, i: usize) -> usize
     requires { ⌜ nodePlace base i + nodeSize ≤ length (now job) ⌝ }
@@ -91,7 +91,7 @@ fn label_ok(job: &[u8], base: usize, i: usize, top: u8) -> bool
 }
 
 // What the search for a left sibling comes to.
-pub enum Found {
+enum Found {
     At(usize),
     Nothing,
 }
@@ -115,7 +115,7 @@ fn start(last: &[u16], p: usize) -> usize
 // the last child of each node is known: the search takes one turn whatever the order is.
 fn left_of(job: &[u8], base: usize, last: &[u16], i: usize) -> Found
     requires { ⌜ (i ≡ 0 → ⊥) × Rooted (now job) base i × Lasts (now job) base i (now last) ⌝ }
-    ensures { λ r. ⌜ Beside (now (job .entry)) base i r ⌝ }
+    ensures { λ r. ⌜ left (now (job .entry)) base i ≡ leftOf r ⌝ }
 {
     let p = parent_at(job, base, i);
     let mut k = start(last, p);
@@ -131,20 +131,29 @@ fn left_of(job: &[u8], base: usize, last: &[u16], i: usize) -> Found
     left
 }
 
-// What check 6 asks of node i by its parent and its left sibling.
-pub fn child_ok(job: &[u8], base: usize, i: usize, left: Found) -> bool
-    requires { ⌜ (i ≡ 0 → ⊥) × Rooted (now job) base i × Beside (now job) base i left ⌝ }
+// The left sibling of node i, or its parent where it has none.
+fn beside(job: &[u8], base: usize, last: &[u16], i: usize) -> usize
+    requires { ⌜ (i ≡ 0 → ⊥) × Rooted (now job) base i × Lasts (now job) base i (now last) ⌝ }
+    ensures { λ r. ⌜ r ≡ beside (now (job .entry)) base i ⌝ }
+{
+    let left = left_of(job, base, last, i);
+    match left {
+        Found::At(k) => k,
+        Found::Nothing => parent_at(job, base, i),
+    }
+}
+
+// What check 6 asks of node i by its parent and its left sibling k. Where it has none, k is its parent, of which the same is asked anyway: so there is no branch.
+pub fn child_ok(job: &[u8], base: usize, i: usize, k: usize) -> bool
+    requires { ⌜ (i ≡ 0 → ⊥) × Rooted (now job) base i × (k ≡ beside (now job) base i) ⌝ }
     ensures { λ r. ⌜ r ≡ childRule (now (job .entry)) base i ⌝ }
 {
     let p = parent_at(job, base, i);
     let own = levels_at(job, base, i);
     let above = levels_at(job, base, p);
-    let bounded = not_above(above.existence, own.existence)
-        & not_above(own.existence, above.structure);
-    match left {
-        Found::At(j) => bounded & not_above(levels_at(job, base, j).existence, own.existence),
-        Found::Nothing => bounded,
-    }
+    not_above(above.existence, own.existence)
+        & not_above(own.existence, above.structure)
+        & not_above(levels_at(job, base, k).existence, own.existence)
 }
 
 // Check 12, of node i.
@@ -180,8 +189,7 @@ fn node_ok(job: &[u8], base: usize, last: &[u16], i: usize, top: u8) -> bool
     if i == 0 {
         return true;
     }
-    let left = left_of(job, base, last, i);
-    child_ok(job, base, i, left)
+    child_ok(job, base, i, beside(job, base, last, i))
 }
 
 // Node i is passed: it is the last child of its parent so far.

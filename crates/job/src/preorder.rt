@@ -1,6 +1,5 @@
 // The checks 13, 6 and 12 of the nodes in one pass, as most jobs pass them: on the way up from the record before a node stands its parent, and right below that its left
 // sibling. A job that does not pass is put to the checks one by one.
-use crate::nodes::Found;
 use crate::nodes::child_ok;
 use crate::nodes::clean_ok;
 use crate::nodes::own_ok;
@@ -10,9 +9,9 @@ ghost use mathlib.Core.Bool.{true};
 ghost use Rattle.job.specs.Siblings.{Linked, Rooted};
 ghost use Rattle.job.specs.Hanging.{Hangs, Ordered, Fit, AllFit};
 
-// A node in order, with its left sibling, or one that is not.
+// A node in order, with its left sibling, or with its parent where it has none; or one that is not in order.
 pub enum Hung {
-    InOrder(Found),
+    InOrder(usize),
     Astray,
 }
 
@@ -26,11 +25,11 @@ fn left_of(job: &[u8], base: usize, i: usize) -> Hung
     let mut k = i - 1;
     let found = loop {
         if k == p {
-            break Hung::InOrder(Found::Nothing);
+            break Hung::InOrder(p);
         }
         let q = parent_at(job, base, k);
         if q == p {
-            break Hung::InOrder(Found::At(k));
+            break Hung::InOrder(k);
         }
         if q < p {
             break Hung::Astray;
@@ -55,10 +54,10 @@ fn node_fits(job: &[u8], base: usize, i: usize, top: u8) -> bool
         return true;
     }
     let found = left_of(job, base, i);
-    let Hung::InOrder(left) = found else {
+    let Hung::InOrder(k) = found else {
         return false;
     };
-    child_ok(job, base, i, left)
+    child_ok(job, base, i, k)
 }
 
 // Whether all nodes pass; where it says no, nothing is known.

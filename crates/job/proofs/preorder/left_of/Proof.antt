@@ -6,7 +6,8 @@ use Prim.Native.Nat.{ℕ, suc, _-_, _≤_, _<_}
 use native.Mathlib.Omega.{arith}
 use Rattle.rules.specs.Check.{parent}
 use Rattle.rules.proofs.Accepted.{parent-before}
-use Rattle.job.specs.Siblings.{Rooted, leftOf}
+use Rattle.job.specs.Siblings.{Rooted}
+use Rattle.job.proofs.Siblings.{beside-is}
 use Rattle.job.proofs.Ways.{On, on-start, on-up, on-order, on-left, on-first}
 use borrow.Author.Needs.{needs}
 use Rattle.job.proofs.preorder.left_of.Statement.{statement}
@@ -50,16 +51,14 @@ loop-again c =
     )
 
 returns : tie.Need-returns Inv-loop μ-loop
-unfolding leftOf
 returns c =
     let q = c .before .before .before .before .pre in
     let v = c .before .loop .inv in
     let e = c .before .before .parent-at .ensures .0 in
     let z = c .if1 .taken ∙ e in
-    (on-order _ _ _ (q .0) (q .1) (q .2) (rw (← z) (v .3)), on-first _ _ _ (q .0) (q .1) (q .2) (ap suc (sym e) ∙ v .2 (c .if1 .taken)))
+    (on-order _ _ _ (q .0) (q .1) (q .2) (rw (← z) (v .3)), e ∙ sym (beside-is _ _ _ (on-first _ _ _ (q .0) (q .1) (q .2) (ap suc (sym e) ∙ v .2 (c .if1 .taken)))))
 
 returns-2 : tie.Need-returns-2 Inv-loop μ-loop
-unfolding leftOf
 returns-2 c =
     let q = c .before .before .before .before .before .before .pre in
     let v = c .before .before .before .loop .inv in
@@ -67,7 +66,7 @@ returns-2 c =
     let e = c .before .before .before .before .parent-at .ensures .0 in
     let z = sym (c .before .parent-at2 .ensures .0) ∙ c .if2 .taken ∙ e in (
       on-order _ _ _ (q .0) (q .1) (q .2) (rw (← z) (on-up _ _ (λ w. omega (arith, v .0)) (v .3))),
-      on-left _ _ _ (q .0) (q .1) (q .2) _ (v .3) z (omega (arith, v .0)) (v .1),
+      sym (beside-is _ _ _ (on-left _ _ _ (q .0) (q .1) (q .2) _ (v .3) z (omega (arith, v .0)) (v .1))),
     )
 
 pub left-of-spec : {M : Type 1} → statement M
