@@ -1,12 +1,12 @@
 -- A script record is right and clean where words of four and eight bytes of it are as the pass asks: a word that is zero, or below a bound, has zero bytes. The bytes that
 -- are read are known by the row of the command. Assumes nothing.
 use mathlib.Core.Path.{_≡_, refl, sym, ap, _∙_, subst}
-use mathlib.Core.Bool.{Bool, true, false, _&&_, _||_, not, cond, and-false}
+use mathlib.Core.Bool.{Bool, true, false, _&&_, _||_, not, cond, and-true, and-false}
 use mathlib.Core.List.{List, map}
 use Prim.Native.Nat.{ℕ, zero, suc, _+_, _*_, _≤_, _<_}
 use native.Mathlib.Omega.{arith}
 use lib.ListN.{length, getD, replicate, List·getD-map}
-use lib.Dec.{leb, ltb, eqb}
+use lib.Dec.{leb, ltb, eqb, leb·suc-suc}
 use borrow.Author.Tests.{lt-ltb, le-ltb, le-leb, lt-leb, eq-eqb, ne-eqb, ltb-true, ltb-false, leb-true, eqb-true, eqb-false, not-true, not-false}
 use Rattle.rules.specs.Limits.{commandCount}
 use Rattle.rules.specs.Bytes.{byte, half, full, nodePlace, variablePlace}
@@ -17,7 +17,7 @@ use Rattle.rules.proofs.Ranges.{all-three, other, needed}
 use Rattle.rules.proofs.ReadBytes.{spare-all, spare-zero}
 use Rattle.job.specs.declared.rows.Row as Held
 use Rattle.job.specs.Fields.{rest, double, rowUsed}
-use Rattle.job.specs.Fits.{limitsOf, operandFits, kindWord, rightFits, expressionFits, targetFits, bareFits, coverFits, recordFits}
+use Rattle.job.specs.Fits.{limitsOf, targetLimit, operandFits, kindWord, rightFits, expressionFits, bareFits, coverFits, recordFits}
 use Rattle.job.proofs.Scans.{same-tests}
 
 -- the three bytes of a variable and of a node that are spare
@@ -62,7 +62,7 @@ below-one (suc n) = le-ltb (suc n) 1 (omega arith) ∙ sym (ne-eqb (suc n) 0 (λ
 pub limited : (vars kind n : ℕ) → n < 4294967296 → kind < 4 → ltb n (getD (limitsOf vars) kind 0) ≡ operandFits vars kind n
 unfolding limitsOf operandFits operandRule hasNumber
 limited vars zero n h l = lt-ltb n 4294967296 h
-limited vars (suc zero) n h l = sym (mathlib.Core.Bool.and-true (ltb n vars))
+limited vars (suc zero) n h l = sym (and-true (ltb n vars))
 limited vars (suc (suc zero)) n h l = below-one n
 limited vars (suc (suc (suc zero))) n h l = below-one n
 limited vars (suc (suc (suc (suc kind)))) n h l = absurd (omega arith)
@@ -196,23 +196,14 @@ if-not : (a c : Bool) → (a ≡ false → c ≡ true) → (a || c) ≡ true
 if-not true c f = refl
 if-not false c f = f refl
 
--- a target
-module _ (vars t : ℕ) where
-  target-to : (i m r : Bool) → (not i || ltb t vars) ≡ true → (not m || leb t 3) ≡ true → (((i || m) || r) ≡ false → t ≡ 0) → targetFits i m r vars t ≡ true
-  unfolding targetFits
-  target-to true m r a c z = a
-  target-to false true r a c z = c
-  target-to false false true a c z = refl
-  target-to false false false a c z = eq-eqb t 0 (z refl)
-
-  target-from : (i m r : Bool) → (i ≡ true → m ≡ false) → targetFits i m r vars t ≡ true
-      → ((not i || ltb t vars) ≡ true) × (((not m || leb t 3) ≡ true) × (((i || m) || r) ≡ false → t ≡ 0))
-  unfolding targetFits
-  target-from true true r n e = clash refl (n refl)
-  target-from true false r n e = (e, (refl, λ q. clash refl q))
-  target-from false true r n e = (refl, (e, λ q. clash refl q))
-  target-from false false true n e = (refl, (refl, λ q. clash refl q))
-  target-from false false false n e = (refl, (refl, λ q. eqb-true t 0 e))
+-- a byte that is a target, by its limit
+by-limit : (vars t : ℕ) (i m r : Bool) → t < 256 → (i ≡ true → m ≡ false)
+    → ltb t (cond i vars (cond m 4 (cond r 256 1))) ≡ ((not i || ltb t vars) && (not m || leb t 3) && (((i || m) || r) || eqb t 0))
+by-limit vars t true true r h n = clash refl (n refl)
+by-limit vars t true false r h n = sym (and-true _ ∙ and-true _)
+by-limit vars t false true r h n = leb·suc-suc t 3 ∙ sym (and-true _)
+by-limit vars t false false true h n = lt-ltb t 256 h
+by-limit vars t false false false h n = below-one t
 
 -- an operand
 module _ (vars kind n : ℕ) where
@@ -488,19 +479,28 @@ module _ (sets : Bool) (b : List ℕ) (vars at : ℕ) (small : byte b at < comma
               number = λ q. z .1 (rw (w .word) (rw (h, t) at q));
             }
 
-    expression-fits : recordFits sets b vars at ≡ (targetFits (own .target) (own .mark) (sets && own .readers) vars (byte b (at + 1)) && expressionFits gap b vars at)
-    unfolding expressionFits fieldsRule expressionRule readsTarget
-    expression-fits = same-tests (recordFits sets b vars at) _ to from
+    -- its target
+    abbrev target : ℕ
+    target = byte b (at + 1)
+
+    target-fits : target < 256
+        → ltb target (targetLimit sets vars own) ≡ ((not (own .target) || ltb target vars) && (not (own .mark) || leb target 3) && (readsTarget b at sets || eqb target 0))
+    unfolding targetLimit readsTarget
+    target-fits u = by-limit vars target (own .target) (own .mark) (sets && own .readers) u (λ q. never-both (byte b at) q .0)
+
+    expression-fits : target < 256 → recordFits sets b vars at ≡ (ltb target (targetLimit sets vars own) && expressionFits gap b vars at)
+    unfolding expressionFits fieldsRule expressionRule
+    expression-fits u = same-tests (recordFits sets b vars at) _ to from
       where
-        to : recordFits sets b vars at ≡ true → (targetFits (own .target) (own .mark) (sets && own .readers) vars (byte b (at + 1)) && expressionFits gap b vars at) ≡ true
+        to : recordFits sets b vars at ≡ true → (ltb target (targetLimit sets vars own) && expressionFits gap b vars at) ≡ true
         to e =
             let p = fits-parts e in
             let z = p .1 in
-            let f = all-three (not (own .target) || ltb (byte b (at + 1)) vars) (not (own .mark) || leb (byte b (at + 1)) 3) (not (own .expression) || expressionRule b vars at) (p .0) in
+            let f = all-three (not (own .target) || ltb target vars) (not (own .mark) || leb target 3) (not (own .expression) || expressionRule b vars at) (p .0) in
             let x = all-three (leb operator 5) (operandRule vars (byte b (at + 3)) (full b (at + 8))) (eqb operator 0 || operandRule vars kind (full b (at + 12)))
             (needed (own .expression) (expressionRule b vars at) (f .2) h)
             in
-            joined (target-to vars (byte b (at + 1)) (own .target) (own .mark) (sets && own .readers) (f .0) (f .1) (z .target))
+            joined (target-fits u ∙ joined (joined (f .0) (f .1)) (if-not (readsTarget b at sets) (eqb target 0) (λ q. eq-eqb target 0 (z .target q))))
             (joined (joined (x .0) (operand-to vars (byte b (at + 3)) (full b (at + 8)) (x .1) (λ q. z .left-number (rw (h, q)))))
             (right-to
             (record {
@@ -511,16 +511,16 @@ module _ (sets : Bool) (b : List ℕ) (vars at : ℕ) (small : byte b at < comma
               number = z .right-number;
             })))
 
-        from : (targetFits (own .target) (own .mark) (sets && own .readers) vars (byte b (at + 1)) && expressionFits gap b vars at) ≡ true → recordFits sets b vars at ≡ true
+        from : (ltb target (targetLimit sets vars own) && expressionFits gap b vars at) ≡ true → recordFits sets b vars at ≡ true
         from e =
-            let p = both (targetFits (own .target) (own .mark) (sets && own .readers) vars (byte b (at + 1))) (expressionFits gap b vars at) e in
-            let t = target-from vars (byte b (at + 1)) (own .target) (own .mark) (sets && own .readers) (λ q. never-both (byte b at) q .0) (p .0) in
+            let p = both (ltb target (targetLimit sets vars own)) (expressionFits gap b vars at) e in
+            let t = all-three (not (own .target) || ltb target vars) (not (own .mark) || leb target 3) (readsTarget b at sets || eqb target 0) (sym (target-fits u) ∙ p .0) in
             let x = all-three (leb operator 5) (operandFits vars (byte b (at + 3)) (full b (at + 8))) (rightFits gap b vars operator at) (p .1) in
             let l = operand-from vars (byte b (at + 3)) (full b (at + 8)) (x .1) in
             let r = right-from (x .2) in
-            parts-fit (joined (joined (t .0) (t .1 .0)) (if-so (own .expression) _ (λ q. joined (joined (x .0) (l .0)) (r .rule))))
+            parts-fit (joined (joined (t .0) (t .1)) (if-so (own .expression) _ (λ q. joined (joined (x .0) (l .0)) (r .rule))))
             (record {
-              target = t .1 .1;
+              target = λ q. eqb-true target 0 (other (readsTarget b at sets) (eqb target 0) (t .2) q);
               fields = λ q. clash h q;
               right = r .unread;
               fifth = λ q. r .always q .0;
@@ -540,11 +540,11 @@ module _ (sets : Bool) (b : List ℕ) (vars at : ℕ) (small : byte b at < comma
     unfolding rowUsed
     held-cover = subst (λ (r : Held.Row). r .expression ≡ false → r .fifth ≡ true → recordFits sets b vars at ≡ coverFits b at) (sym e) cover-fits
 
-    pub held-expression : held .expression ≡ true
-        → recordFits sets b vars at ≡ (targetFits (held .target) (held .mark) (held .readers) vars (byte b (at + 1)) && expressionFits (held .fifth) b vars at)
+    pub held-expression : held .expression ≡ true → byte b (at + 1) < 256
+        → recordFits sets b vars at ≡ (ltb (byte b (at + 1)) (targetLimit sets vars own) && expressionFits (held .fifth) b vars at)
     unfolding rowUsed
     held-expression =
         subst
-        (λ (r : Held.Row). r .expression ≡ true
-        → recordFits sets b vars at ≡ (targetFits (r .target) (r .mark) (r .readers) vars (byte b (at + 1)) && expressionFits (r .fifth) b vars at))
+        (λ (r : Held.Row). r .expression ≡ true → byte b (at + 1) < 256
+        → recordFits sets b vars at ≡ (ltb (byte b (at + 1)) (targetLimit sets vars own) && expressionFits (r .fifth) b vars at))
         (sym e) expression-fits

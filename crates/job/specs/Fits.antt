@@ -5,6 +5,7 @@ use mathlib.Core.List.{List, [], _∷_}
 use lib.Dec.{leb, ltb, eqb}
 use Rattle.rules.specs.Level.{public, notAbove}
 use Rattle.rules.specs.Bytes.{byte, half, full, variablePlace}
+use Rattle.rules.specs.Script.{Row}
 use Rattle.rules.specs.Check.{existence, content, structure, childRule, operandRule, recordRule, hasNumber, recordReads, spareRule}
 use Rattle.job.specs.Fields.{double}
 
@@ -30,6 +31,10 @@ recordFits sets b vars at = recordRule b vars at && spareRule (recordReads b at 
 unfoldable pub limitsOf : ℕ → List ℕ
 limitsOf vars = 4294967296 ∷ vars ∷ 1 ∷ 1 ∷ []
 
+-- by the row of its command, what the target of a record is below: a variable's index, a mark, any reader set, and 0 where it is not read
+unfoldable pub targetLimit : Bool → ℕ → Row → ℕ
+targetLimit sets vars r = cond (r .target) vars (cond (r .mark) 4 (cond (sets && r .readers) 256 1))
+
 -- an operand of a kind with its number
 unfoldable pub operandFits : ℕ → ℕ → ℕ → Bool
 operandFits vars kind n = operandRule vars kind n && (hasNumber kind || eqb n 0)
@@ -48,10 +53,6 @@ module _ (sets : Bool) (b : List ℕ) (vars : ℕ) where
   unfoldable pub expressionFits : ℕ → Bool
   expressionFits at =
       leb (byte b (at + 2)) 5 && operandFits vars (byte b (at + 3)) (full b (at + 8)) && rightFits (byte b (at + 2)) at
-
--- a target, by whether it is a variable's index, a mark or a reader set
-unfoldable pub targetFits : Bool → Bool → Bool → ℕ → ℕ → Bool
-targetFits index mark readers vars t = cond index (ltb t vars) (cond mark (leb t 3) (readers || eqb t 0))
 
 -- a cover: it reads its command, and the set of byte 5
 unfoldable pub coverFits : List ℕ → ℕ → Bool

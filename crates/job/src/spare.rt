@@ -13,23 +13,59 @@ use crate::rows::used;
 use rules::limits::COMMANDS;
 use rules::limits::RECORD_SIZE;
 ghost use mathlib.Core.Path.{_≡_};
+ghost use mathlib.Core.List.{map};
 ghost use Prim.Native.Nat.{_+_, _<_, _≤_};
 ghost use lib.ListN.{length};
 ghost use Rattle.rules.specs.Limits.{commandCount, recordSize};
 ghost use Rattle.rules.specs.Bytes.{byte, full, recordPlace};
-ghost use Rattle.rules.specs.Script.{rowOf};
+ghost use Rattle.rules.specs.Script.{rows, rowOf};
 ghost use Rattle.rules.specs.Check.{firstFault};
 ghost use Rattle.job.specs.Fields.{rowUsed};
-ghost use Rattle.job.specs.Fits.{limitsOf, operandFits, kindWord, rightFits, expressionFits, targetFits, bareFits, coverFits, recordFits};
+ghost use Rattle.job.specs.Fits.{limitsOf, targetLimit, operandFits, kindWord, rightFits, expressionFits, bareFits, coverFits, recordFits};
 
 // The kinds of an operand.
 const KINDS: usize = 4;
+
+// What a target is below that is a reader set, and one that is not read and so is 0.
+const ANY_SET: usize = 256;
+
+const UNREAD: usize = 1;
 
 // By its kind, what the number of an operand is below: any constant, a variable's index, and 0 where it is not read.
 fn limits_of(variables: usize) -> [u64; KINDS]
     ensures { λ r. ⌜ r ≡ limitsOf variables ⌝ }
 {
     [4294967296, variables as u64, 1, 1]
+}
+
+// By its command, what the target of a record is below, where records hold sets or do not: a variable's index, a mark, any reader set, and 0 where it is not read.
+fn target_limits(variables: usize, sets: bool) -> [usize; COMMANDS]
+    ensures { λ r. ⌜ r ≡ map (targetLimit sets variables) rows ⌝ }
+{
+    let readers = if sets { ANY_SET } else { UNREAD };
+    let mark = MAX_MARK + 1;
+    [
+        UNREAD, // 0
+        variables, // 1
+        UNREAD, // 2
+        UNREAD, // 3
+        UNREAD, // 4
+        UNREAD, // 5
+        readers, // 6
+        UNREAD, // 7
+        UNREAD, // 8
+        UNREAD, // 9
+        UNREAD, // 10
+        mark, // 11
+        mark, // 12
+        UNREAD, // 13
+        UNREAD, // 14
+        UNREAD, // 15
+        UNREAD, // 16
+        UNREAD, // 17
+        UNREAD, // 18
+        UNREAD, // 19
+    ]
 }
 
 // An operand of a kind whose number stands at a place.
@@ -96,20 +132,6 @@ fn expression_fits(
     right_fits(job, at, operator, sets, limits, variables)
 }
 
-fn target_fits(job: &[u8], at: usize, reads: Row, variables: usize) -> bool
-    requires { ⌜ at + recordSize ≤ length (now job) ⌝ }
-    ensures { λ r. ⌜ r ≡ targetFits (reads .target) (reads .mark) (reads .readers) variables (byte (now (job .entry)) (at + 1)) ⌝ }
-{
-    let target = byte_at(job, at + 1);
-    if reads.target {
-        return target < variables;
-    }
-    if reads.mark {
-        return target <= MAX_MARK;
-    }
-    reads.readers | (target == 0)
-}
-
 // A record that reads its command only: all other bytes are zero.
 fn bare_fits(job: &[u8], at: usize) -> bool
     requires { ⌜ at + recordSize ≤ length (now job) ⌝ }
@@ -132,20 +154,22 @@ fn cover_fits(job: &[u8], at: usize) -> bool
         & (double_at(job, at + 8) == 0)
 }
 
-// The fields of the record at a place, by the row of its command.
+// The fields of the record at a place, by the row of its command and what its target is below.
 fn fields_fit(
     job: &[u8],
     at: usize,
     reads: Row,
+    limit: usize,
     sets: bool,
     limits: &[u64; KINDS],
     variables: usize,
 ) -> bool
-    requires { ⌜ (at + recordSize ≤ length (now job)) × (byte (now job) at < commandCount) × (reads ≡ rowUsed sets (rowOf (byte (now job) at))) × (now limits ≡ limitsOf variables) ⌝ }
+    requires { ⌜ (at + recordSize ≤ length (now job)) × (byte (now job) at < commandCount) × (reads ≡ rowUsed sets (rowOf (byte (now job) at)))
+        × (limit ≡ targetLimit sets variables (rowOf (byte (now job) at))) × (now limits ≡ limitsOf variables) ⌝ }
     ensures { λ r. ⌜ r ≡ recordFits sets (now (job .entry)) variables at ⌝ }
 {
     if reads.expression {
-        if !target_fits(job, at, reads, variables) {
+        if limit <= byte_at(job, at + 1) {
             return false;
         }
         return expression_fits(job, at, reads.fifth, limits, variables);
@@ -162,6 +186,7 @@ pub fn first_unfit(job: &[u8], base: usize, count: usize, variables: usize, sets
     ensures { λ r. ⌜ r ≡ firstFault (λ i. recordFits sets (now (job .entry)) variables (recordPlace base i)) count 0 ⌝ }
 {
     let rows = used(sets);
+    let targets = target_limits(variables, sets);
     let limits = limits_of(variables);
     let mut i = 0;
     while i < count {
@@ -170,7 +195,9 @@ pub fn first_unfit(job: &[u8], base: usize, count: usize, variables: usize, sets
         if COMMANDS <= command {
             return i;
         }
-        if !fields_fit(job, at, rows[command], sets, &limits, variables) {
+        let reads = rows[command];
+        let limit = targets[command];
+        if !fields_fit(job, at, reads, limit, sets, &limits, variables) {
             return i;
         }
         i += 1;

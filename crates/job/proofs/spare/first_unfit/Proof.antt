@@ -1,10 +1,10 @@
 -- `first_unfit` meets its contract: each record passed fits, by the row of its command. Assumes nothing.
-use mathlib.Core.Path.{_≡_, refl, sym, _∙_, subst}
-use mathlib.Core.Bool.{Bool, true, false}
-use mathlib.Core.List.{List}
-use Prim.Native.Nat.{ℕ, _-_}
+use mathlib.Core.Path.{_≡_, refl, sym, ap, _∙_}
+use mathlib.Core.Bool.{Bool, false}
+use mathlib.Core.List.{List, [], _∷_, map}
+use Prim.Native.Nat.{ℕ, zero, suc, _-_, _<_}
 use native.Mathlib.Omega.{arith}
-use lib.ListN.{getD, List·getD-map}
+use lib.ListN.{length, getD}
 use borrow.Author.Tests.{not-true, not-false, le-ltb}
 use Rattle.rules.specs.Limits.{commandCount}
 use Rattle.rules.specs.Bytes.{recordPlace}
@@ -12,7 +12,7 @@ use Rattle.rules.specs.Script.{Row, rows, row, rowOf}
 use Rattle.rules.specs.Check.{recordRule}
 use Rattle.rules.proofs.Search.{Scan, scan-start, scan-next, scan-stop, scan-end}
 use Rattle.job.specs.Fields.{rowHeld, rowUsed}
-use Rattle.job.specs.Fits.{recordFits}
+use Rattle.job.specs.Fits.{targetLimit, recordFits}
 use borrow.Author.Needs.{needs}
 use Rattle.job.proofs.spare.first_unfit.Statement.{statement}
 use Rattle.job.proofs.spare.first_unfit.Tie as tie
@@ -21,18 +21,23 @@ abbrev rule : Bool → List ℕ → ℕ → ℕ → ℕ → Bool
 rule sets b base vars i = recordFits sets b vars (recordPlace base i)
 
 abbrev Inv-loop : tie.InvT-loop
-Inv-loop job base count variables sets rows limits i₀ i = Scan (rule sets job base variables) count i
+Inv-loop job base count variables sets rows targets limits i₀ i = Scan (rule sets job base variables) count i
 
 abbrev μ-loop : tie.MeasureT-loop
-μ-loop job base count variables sets rows limits i₀ i = count - i
+μ-loop job base count variables sets rows targets limits i₀ i = count - i
 
 abbrev nothing : Row
 nothing = row false false false false false false
 
-unused : (sets : Bool) → rowUsed sets nothing ≡ rowHeld nothing
-unfolding rowUsed rowHeld
-unused true = refl
-unused false = refl
+-- what is made of each row of the table, at a command
+made : {B : Type 0} (f : Row → B) {xs : List B} (k : ℕ) (e : B) → xs ≡ map f rows → k < commandCount → getD xs k e ≡ f (rowOf k)
+unfolding rows
+made f k e q h = ap (λ xs. getD xs k e) q ∙ at rows k h
+  where
+    at : (l : List Row) (k : ℕ) → k < length l → getD (map f l) k e ≡ f (getD l k nothing)
+    at [] k h = absurd (omega arith)
+    at (x ∷ l) zero h = refl
+    at (x ∷ l) (suc k) h = at l k (omega arith)
 
 loop-holds : tie.Need-loop-holds Inv-loop μ-loop
 loop-holds c = scan-start _ _
@@ -44,15 +49,14 @@ returns c = scan-stop _ _ (c .before .before .before .loop .inv) (search needs) 
 fields-fit-requires : tie.Need-fields-fit-requires Inv-loop μ-loop
 unfolding rowHeld
 fields-fit-requires c κs =
-    let t = c .before .before .before .before .before .before .before .used in
+    let a = c .before .before .before .before .before .before .before .before .before .before .args in
     let k = c .before .before .before .byte-at .result in
     let e = c .before .before .before .byte-at .ensures .0 in
-    let sets = c .before .before .before .before .before .before .before .before .before .args .sets in
-    let h : getD (t .result) k (rowUsed sets nothing) ≡ rowUsed sets (rowOf k) = rw (t .ensures) (List·getD-map (rowUsed sets) rows k nothing) in
-    let g = subst (λ d. getD (t .result) k d ≡ rowUsed sets (rowOf k)) (unused sets) h in (
-      omega (arith, c .before .before .before .before .before .before .before .before .before .pre),
-      rw (← e) (c .before .before .if1 .left),
-      rw (← e) g,
+    let l = c .before .before .if1 .left in (
+      omega (arith, c .before .before .before .before .before .before .before .before .before .before .pre),
+      rw (← e) l,
+      rw (← e) (made (rowUsed (a .sets)) k (rowHeld nothing) (c .before .before .before .before .before .before .before .before .used .ensures) l),
+      rw (← e) (made (targetLimit (a .sets) (a .variables)) k 0 (c .before .before .before .before .before .before .before .target-limits .ensures) l),
       c .before .before .before .before .before .before .limits-of .ensures,
     )
 
@@ -68,6 +72,6 @@ returns-3 c = scan-end _ _ (c .before .loop .inv) (c .loop-test .left)
 pub first-unfit-spec : {M : Type 1} → statement M
 first-unfit-spec =
     tie.close (tie.spec
-    Inv-loop μ-loop (λ c κs. search needs) (λ c κs. search needs) loop-holds (λ c. search needs) (λ c. search needs) (λ c κs. search needs) returns
-    (λ c. search needs) (λ c. search needs) fields-fit-requires returns-2 (λ c. search needs) (λ c. search needs)
+    Inv-loop μ-loop (λ c κs. search needs) (λ c κs. search needs) (λ c κs. search needs) loop-holds (λ c. search needs) (λ c. search needs) (λ c κs. search needs) returns
+    (λ c. search needs) (λ c. search needs) (λ c. search needs) (λ c. search needs) fields-fit-requires returns-2 (λ c. search needs) (λ c. search needs)
     loop-again returns-3)
