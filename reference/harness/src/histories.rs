@@ -468,6 +468,32 @@ fn played(player: Player, events: &[Event]) -> Told {
     Told { first: 0, parts }
 }
 
+/// The first lines of what was printed: a table and a board may have many.
+pub fn beginning(text: &str) -> String {
+    text.split_inclusive('\n').take(40).collect()
+}
+
+/// Whether a program answers a stream whose last event is cut as it must: what the
+/// events before it print, and that the rest is missing.
+pub fn cut_is_told(
+    program: &Replay,
+    events: &[Event],
+    told: impl Fn(&[Event]) -> Vec<String>,
+) -> bool {
+    let (last, before) = events.split_last().expect("an event");
+    let start = history::stream(before);
+    let end = history::stream(std::slice::from_ref(last));
+    let whole = told(before).concat() + frame::TRUNCATED;
+    let cuts = [1, 4, 15, 16, end.len() - 1];
+    cuts.into_iter().filter(|&cut| cut < end.len()).all(|cut| {
+        let printed = text(program.run([&start[..], &end[..cut]].concat()));
+        if printed != whole {
+            println!("a last event cut after {cut} bytes prints\n{printed}");
+        }
+        printed == whole
+    })
+}
+
 /// A history in a form to read.
 pub fn show(events: &[Event]) -> String {
     let mut text = String::new();

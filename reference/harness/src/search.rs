@@ -101,6 +101,25 @@ pub fn each_leak(
     each_found("leak", all)
 }
 
+/// Whether each planted mistake is found, by whatever `found_by` says of it.
+pub fn planted<F: Display>(
+    mistakes: impl IntoIterator<Item = Mistake>,
+    side: &str,
+    found_by: impl Fn(Mistake) -> Option<F>,
+) -> bool {
+    let mut all = true;
+    for mistake in mistakes {
+        match found_by(mistake) {
+            Some(place) => println!("{mistake:?}: {side} found by {place}"),
+            None => {
+                println!("{mistake:?}: {side} NOT FOUND");
+                all = false;
+            }
+        }
+    }
+    all
+}
+
 /// The last word of a search for what was planted.
 pub fn each_found(what: &str, all: bool) -> bool {
     match all {

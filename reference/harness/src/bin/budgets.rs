@@ -10,7 +10,7 @@ use harness::budgets::{through_history, through_portal, through_replay, through_
 use harness::histories;
 use harness::portal::Portal;
 use harness::replay::Replay;
-use harness::search::{each_found, Bounds};
+use harness::search::{each_found, planted, Bounds};
 use reference::mistake::Mistake;
 
 const USAGE: &str =
@@ -115,16 +115,11 @@ fn one(name: &str, bounds: &Bounds, most: u64, compared: &Compared) -> bool {
 /// Whether each planted mistake shows, in the reference as a portal.
 fn each_mistake(arguments: &Arguments) -> bool {
     let bounds = Bounds::read(arguments, "--jobs", MANY);
-    let mut all = true;
-    for mistake in Mistake::SPENDING {
+    let all = planted(Mistake::SPENDING, "the reference", |mistake| {
         let portal = Portal::Reference(mistake);
         let found = (bounds.seed..bounds.seed + bounds.most)
             .find(|&seed| through_portal(portal, seed, &mut Tally::default()).is_err());
-        match found {
-            Some(seed) => println!("{mistake:?}: found by seed {seed}"),
-            None => println!("{mistake:?}: NOT FOUND"),
-        }
-        all &= found.is_some();
-    }
+        found.map(|seed| format!("seed {seed}"))
+    });
     each_found("mistake", all)
 }

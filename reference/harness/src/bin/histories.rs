@@ -4,14 +4,13 @@
 //! Exit status: 0 no difference, 1 a difference, 2 bad usage.
 
 use harness::arguments::{fail, Arguments};
-use harness::frame;
-use harness::histories::{check, show, text, Player, Through, Told, Wrong};
+use harness::histories::{beginning, check, cut_is_told, show, Player, Through, Told, Wrong};
 use harness::progress::Progress;
 use harness::replay::Replay;
-use harness::search::{each_found, Bounds};
+use harness::search::{each_found, planted, Bounds};
 use reference::coverage::Coverage;
 use reference::generate;
-use reference::history::{stream, Event};
+use reference::history::Event;
 use reference::mistake::Mistake;
 use reference::shrink;
 
@@ -151,35 +150,15 @@ fn report(side: &Through, seed: u64, history: &[Event], wrong: &Wrong, mistake: 
     }
 }
 
-/// A table has many lines.
-fn beginning(text: &str) -> String {
-    text.split_inclusive('\n').take(40).collect()
-}
-
 /// Streams whose last event is cut.
 fn cuts(sides: &[Through], seed: u64) -> bool {
-    for side in sides {
-        let Through::Program(program) = side else {
-            continue;
-        };
-        let history = generate::history(seed + 3);
-        let (last, before) = history.split_last().expect("an event");
-        let start = stream(before);
-        let end = stream(std::slice::from_ref(last));
-        let whole = side.told_one(before).parts.concat();
-        for cut in [1, 4, 15, 16, end.len() - 1] {
-            if cut >= end.len() {
-                continue;
-            }
-            let input = [&start[..], &end[..cut]].concat();
-            let printed = text(program.run(input));
-            if printed != format!("{whole}{}", frame::TRUNCATED) {
-                println!("a last event cut after {cut} bytes prints\n{printed}");
-                return false;
-            }
+    let history = generate::history(seed + 3);
+    sides.iter().all(|side| match side {
+        Through::Program(program) => {
+            cut_is_told(program, &history, |before| side.told_one(before).parts)
         }
-    }
-    true
+        Through::Player(_) => true,
+    })
 }
 
 /// Whether each planted mistake shows in what each side prints.
@@ -190,17 +169,15 @@ fn each_mistake(sides: &[Through], arguments: &Arguments) -> bool {
     for side in sides {
         let batches = histories.chunks(BATCH as usize);
         let printed: Vec<Told> = batches.flat_map(|batch| told(side, batch)).collect();
-        for mistake in Mistake::FOLLOWING.into_iter().chain(Mistake::WRITING) {
-            let found = histories.iter().zip(&printed).position(|(history, told)| {
+        let mistakes = Mistake::FOLLOWING.into_iter().chain(Mistake::WRITING);
+        all &= planted(mistakes, &side.name(), |mistake| {
+            let mut pairs = histories.iter().zip(&printed);
+            let place = pairs.position(|(history, told)| {
                 let wrong = check(history, told, mistake, &mut Coverage::new());
                 matches!(wrong, Err(Wrong::Unlike(..)))
             });
-            match found {
-                Some(place) => println!("{mistake:?}: {} found by history {place}", side.name()),
-                None => println!("{mistake:?}: {} NOT FOUND", side.name()),
-            }
-            all &= found.is_some();
-        }
+            place.map(|place| format!("history {place}"))
+        });
     }
     each_found("mistake", all)
 }

@@ -5,15 +5,14 @@
 
 use harness::arguments::{fail, Arguments};
 use harness::differential::Unlike;
-use harness::frame;
-use harness::histories::text;
+use harness::histories::{beginning, cut_is_told};
 use harness::progress::Progress;
 use harness::replay::Replay;
 use harness::rounds::{check, show, Through, Told};
-use harness::search::{each_found, Bounds};
+use harness::search::{each_found, planted, Bounds};
 use reference::coverage::Coverage;
 use reference::generate;
-use reference::history::{stream, Event};
+use reference::history::Event;
 use reference::mistake::Mistake;
 use reference::shrink;
 
@@ -138,35 +137,17 @@ fn report(side: &Through, seed: u64, order: &[Event], wrong: (usize, Unlike), mi
     );
 }
 
-/// A board may have many lines.
-fn beginning(text: &str) -> String {
-    text.split_inclusive('\n').take(40).collect()
-}
-
 /// Streams whose last event is cut.
 fn cuts(sides: &[Through], seed: u64) -> bool {
-    for side in sides {
-        let Through::Program(program) = side else {
-            continue;
-        };
-        for order in (seed..seed + 5).map(generate::order) {
-            let (last, before) = order.split_last().expect("an event");
-            let start = stream(before);
-            let end = stream(std::slice::from_ref(last));
-            let whole = side.told_one(before).parts.concat();
-            for cut in [1, 4, 15, 16, end.len() - 1] {
-                if cut >= end.len() {
-                    continue;
-                }
-                let printed = text(program.run([&start[..], &end[..cut]].concat()));
-                if printed != format!("{whole}{}", frame::TRUNCATED) {
-                    println!("a last event cut after {cut} bytes prints\n{printed}");
-                    return false;
-                }
+    let mut orders = (seed..seed + 5).map(generate::order);
+    orders.all(|order| {
+        sides.iter().all(|side| match side {
+            Through::Program(program) => {
+                cut_is_told(program, &order, |before| side.told_one(before).parts)
             }
-        }
-    }
-    true
+            Through::Fast => true,
+        })
+    })
 }
 
 /// Whether each planted mistake shows in what each side prints.
@@ -177,16 +158,13 @@ fn each_mistake(sides: &[Through], arguments: &Arguments) -> bool {
     for side in sides {
         let batches = orders.chunks(BATCH as usize);
         let printed: Vec<Told> = batches.flat_map(|batch| told(side, batch)).collect();
-        for mistake in Mistake::TURNING {
-            let found = orders.iter().zip(&printed).position(|(order, told)| {
+        all &= planted(Mistake::TURNING, &side.name(), |mistake| {
+            let mut pairs = orders.iter().zip(&printed);
+            let place = pairs.position(|(order, told)| {
                 check(order, told, mistake, &mut Coverage::new()).is_err()
             });
-            match found {
-                Some(place) => println!("{mistake:?}: {} found by order {place}", side.name()),
-                None => println!("{mistake:?}: {} NOT FOUND", side.name()),
-            }
-            all &= found.is_some();
-        }
+            place.map(|place| format!("order {place}"))
+        });
     }
     each_found("mistake", all)
 }
