@@ -26,8 +26,8 @@ use Rattle.rules.proofs.Machine.{kept, widened}
 use Rattle.rules.proofs.Number.{fitting-in, fitting-fits, equal-fits, less-fits, mean-fits}
 use Rattle.table.specs.Cells.{cells}
 use Rattle.table.specs.Promises.{Whenever}
-use Rattle.job.specs.Fields.{expressionFrom}
-use Rattle.job.specs.declared.records.Fields.{Fields}
+use Rattle.fields.specs.Fields.{expressionFrom}
+use Rattle.fields.specs.declared.records.Fields.{Fields}
 use Rattle.actions.specs.declared.memory.Memory.{Memory}
 use Rattle.actions.specs.declared.evaluate.Valued.{Valued}
 use Rattle.actions.specs.declared.evaluate.Found.{Found}

@@ -10,7 +10,7 @@ use Rattle.rules.specs.Run as Run
 use Rattle.rules.specs.Run.{variableAt}
 use Rattle.table.specs.Cells.{cellSize, cells}
 use Rattle.table.specs.Holds.{Holds}
-use Rattle.job.specs.declared.records.Fields.{Fields}
+use Rattle.fields.specs.declared.records.Fields.{Fields}
 use Rattle.actions.specs.declared.memory.Memory.{Memory}
 use Rattle.actions.specs.Board.{spell}
 

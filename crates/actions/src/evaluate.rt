@@ -1,7 +1,7 @@
 // The value and the level E of an expression.
 use super::memory::Memory;
 use super::memory::level_of;
-use job::records::Fields;
+use fields::records::Fields;
 use rules::levels::PUBLIC;
 use rules::levels::join;
 use rules::numbers;
@@ -11,7 +11,7 @@ ghost use mathlib.Core.Path.{_≡_};
 ghost use Prim.Native.Nat.{_<_};
 ghost use Rattle.rules.specs.Number.{Fits};
 ghost use Rattle.rules.specs.Job.{operand};
-ghost use Rattle.job.specs.Fields.{expressionFrom};
+ghost use Rattle.fields.specs.Fields.{expressionFrom};
 ghost use Rattle.actions.specs.Shows.{Readable, Named, Reads};
 ghost use Rattle.actions.specs.Acts.{Operates, Applies, Evaluates};
 

@@ -17,7 +17,7 @@ use Rattle.rules.proofs.Accepted.{Right, right-by, parent-before}
 use Rattle.rules.proofs.SameReads.{Laid, laid}
 use Rattle.rules.proofs.Packed.{half-agree}
 use Rattle.rules.proofs.Arranged.{moved-byte, same-length, in-front, behind, inside}
-use Rattle.job.specs.Siblings.{Linked}
+use Rattle.fields.specs.Siblings.{Linked}
 use Rattle.arranger.specs.Arranger.{noMove, Moves, Met, Placed, Copied, Put, newParent, Ready}
 
 -- the nodes of an accepted job

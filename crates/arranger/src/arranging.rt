@@ -2,10 +2,10 @@
 use crate::copies::copy;
 use crate::places::places_of;
 use crate::weights::weights_of;
+use fields::nodes::parent_at;
 use job::Checked;
 use job::Edition;
 use job::check_by;
-use job::nodes::parent_at;
 use rules::limits::MAX_NODES;
 use rules::limits::NO_PARENT;
 use rules::limits::NODE_SIZE;

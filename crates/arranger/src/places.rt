@@ -1,8 +1,8 @@
 // Where each node record comes to stand, in one pass from the first record on.
-use job::nodes::parent_at;
+use fields::nodes::parent_at;
 use rules::limits::MAX_NODES;
 ghost use Prim.Native.Nat.{suc, _<_, _≤_};
-ghost use Rattle.job.specs.Siblings.{Linked};
+ghost use Rattle.fields.specs.Siblings.{Linked};
 ghost use Rattle.arranger.specs.Arranger.{Weighed, Placing, Placed};
 
 // Node i comes to stand where the next child of its parent does. Behind it stand its own children, and behind its subtree the next child of its parent.

@@ -1,8 +1,8 @@
 // How many nodes stand in the subtree of each node, with the node itself. A parent comes before its children, so one pass from the last record on adds them up.
-use job::nodes::parent_at;
+use fields::nodes::parent_at;
 use rules::limits::MAX_NODES;
 ghost use Prim.Native.Nat.{suc, _<_, _≤_};
-ghost use Rattle.job.specs.Siblings.{Linked};
+ghost use Rattle.fields.specs.Siblings.{Linked};
 ghost use Rattle.arranger.specs.Arranger.{Weighed};
 
 // The subtree of node i is part of its parent's.

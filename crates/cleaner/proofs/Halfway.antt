@@ -9,8 +9,8 @@ use Rattle.rules.specs.Clean.{cleanByte}
 use Rattle.rules.proofs.Accepted.{Right, right-by}
 use Rattle.rules.proofs.SameReads.{around, same-nodes-at, same-script-at, same-variable-count, same-node-count, same-record-count, same-right, same-read}
 use Rattle.rules.proofs.Cleaned.{Partly, partly-agreed, partly-next}
-use Rattle.job.specs.declared.sections.Layout.{Layout}
-use Rattle.job.specs.Layout.{layoutOf}
+use Rattle.fields.specs.declared.sections.Layout.{Layout}
+use Rattle.fields.specs.Layout.{layoutOf}
 use Rattle.cleaner.specs.Cleaner.{Laid}
 
 module _ (b : List ℕ) (l : Layout) (e : checkBytesBy first b ≡ accepted) (h : l ≡ layoutOf b) (n : ℕ) (c : List ℕ) (p : Partly b n c) where

@@ -10,8 +10,8 @@ use Rattle.rules.specs.Bytes.{byte, nodesAt, scriptAt, trailerAt, recordPlace}
 use Rattle.rules.specs.Check.{variableReads, nodeReads, recordReads}
 use Rattle.rules.specs.Clean.{spotIn, spotOf, readsAt, isRead, isDirty}
 use Rattle.rules.proofs.Checks.{Sections, sections, long-enough}
-use Rattle.job.specs.declared.sections.Layout.{Layout}
-use Rattle.job.specs.Layout.{layoutOf}
+use Rattle.fields.specs.declared.sections.Layout.{Layout}
+use Rattle.fields.specs.Layout.{layoutOf}
 use Rattle.cleaner.specs.Cleaner.{Laid}
 
 -- within a list it does not matter what would stand behind it

@@ -10,8 +10,8 @@ use Rattle.rules.specs.Check as Check
 use Rattle.rules.specs.Check.{lengthRule, offsetRule}
 use Rattle.rules.specs.Clean as Clean
 use Rattle.rules.specs.Clean.{Change, changeAt, isDirty}
-use Rattle.job.specs.declared.sections.Layout.{Layout}
-use Rattle.job.specs.Layout.{layoutOf}
+use Rattle.fields.specs.declared.sections.Layout.{Layout}
+use Rattle.fields.specs.Layout.{layoutOf}
 use Rattle.cleaner.specs.declared.spots.Spot.{Spot}
 use Rattle.cleaner.specs.declared.changes.Next.{Next}
 use Rattle.cleaner.specs.declared.changes.Next.the-variants.{Found, End}

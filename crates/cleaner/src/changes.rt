@@ -1,10 +1,10 @@
 // The report of the cleaner, one change at a time.
 use crate::spots::is_dirty;
 use crate::spots::spot_of;
-use job::sections::Layout;
-use job::sections::layout_of;
-use job::sections::length_ok;
-use job::sections::offsets_ok;
+use fields::sections::Layout;
+use fields::sections::layout_of;
+use fields::sections::length_ok;
+use fields::sections::offsets_ok;
 ghost use mathlib.Core.Path.{_≡_};
 ghost use Prim.Native.Nat.{suc, _<_};
 ghost use lib.ListN.{length};

@@ -1,15 +1,15 @@
 // The cleaning itself, in place.
 use crate::spots::clean_byte;
+use fields::sections::Layout;
 use job::Checked;
 use job::Edition;
 use job::check_by;
-use job::sections::Layout;
 ghost use mathlib.Core.Path.{_≡_};
 ghost use Prim.Native.Nat.{_<_};
 ghost use lib.ListN.{length, set};
 ghost use Rattle.rules.specs.Check.{accepted, first, checkBytesBy};
 ghost use Rattle.rules.specs.Clean.{cleanByte, cleaned, leftClean};
-ghost use Rattle.job.specs.Layout.{layoutOf};
+ghost use Rattle.fields.specs.Layout.{layoutOf};
 ghost use Rattle.cleaner.specs.Cleaner.{Laid, told};
 
 // A job that was cleaned, or the number with which the old rules turn it back, and the index.

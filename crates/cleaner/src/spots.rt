@@ -1,9 +1,9 @@
 // Where a byte of a job stands, and whether it is read: by its section, and in the script by the command's row, the operator and the kinds.
-use job::reads::byte_at;
-use job::records::ALONE;
-use job::rows::Row;
-use job::rows::row_of;
-use job::sections::Layout;
+use fields::reads::byte_at;
+use fields::records::ALONE;
+use fields::rows::Row;
+use fields::rows::row_of;
+use fields::sections::Layout;
 use rules::limits::COMMANDS;
 use rules::limits::NODE_SIZE;
 use rules::limits::RECORD_SIZE;
@@ -18,7 +18,7 @@ ghost use Rattle.rules.specs.Bytes.{byte, recordPlace};
 ghost use Rattle.rules.specs.Script.{rowOf};
 ghost use Rattle.rules.specs.Check.{hasNumber, readsRight, recordReads};
 ghost use Rattle.rules.specs.Clean.{spotIn, spotOf, isRead, cleanByte, isDirty};
-ghost use Rattle.job.specs.Fields.{rowHeld};
+ghost use Rattle.fields.specs.Fields.{rowHeld};
 ghost use Rattle.cleaner.specs.Cleaner.{spotHeld, Laid};
 
 // The sections, in file order.

@@ -4,9 +4,9 @@ use Rattle.walks.proofs.Walk.{SProp, ent, emp, Lft, Share, flft, Memory, Routin
 use Rattle.walks.proofs.Walk.{frame, done, Is, uint-makes, u32, usize, unit, RefT, MutSlice, ShrSlice, only, owned, nothing, Contract, tripleOf, says}
 use lib.Dec.{T as Holds}
 use denote.Enum.Laws as EL
-use Rattle.table.specs.declared.lent.Node.{Node}
+use Rattle.lent.specs.declared.node.Node.{Node}
 use Rattle.table.specs.Cells.{cellSize}
-use Rattle.table.proofs.lent.Node as N
+use Rattle.lent.proofs.node.Node as N
 use Rattle.monitor.specs.declared.entry.Outcome.{Outcome}
 use Rattle.monitor.proofs.entry.Outcome as O
 use Rattle.monitor.proofs.entry.Outcome.Laws as O′

@@ -1,9 +1,9 @@
 -- Over lent node records, too, each live node's record has the number of its children: after every call, and in all that stands. Assumes nothing.
 use native.Mathlib.Omega.{arith}
 use lib.ListN.{length}
-use Rattle.table.specs.Lent.{nodesTable}
-use Rattle.table.proofs.Children.{holds-counts, stands-counts, wrong-stands}
-use Rattle.table.proofs.Resuming.{stands-one}
+use Rattle.lent.specs.Lent.{nodesTable}
+use Rattle.lent.proofs.Children.{holds-counts, stands-counts, wrong-stands}
+use Rattle.lent.proofs.Resuming.{stands-one}
 use Rattle.monitor.specs.Children.{CountsKept}
 use Rattle.monitor.proofs.Children.{counts-kept-of}
 use Rattle.entry.specs.Promises.{Tree}

@@ -15,12 +15,12 @@ use Rattle.rules.specs.Outcome as Rules
 use Rattle.rules.specs.History as History
 use Rattle.rules.specs.History.{Store, after}
 use Rattle.rules.proofs.Tests.{Test, holds, fails, test}
-use Rattle.table.specs.declared.lent.Node.{Node}
+use Rattle.lent.specs.declared.node.Node.{Node}
 use Rattle.table.specs.Cells.{cellSize, cells, gone}
-use Rattle.table.specs.Lent.{nodesTable, loaded, stored}
-use Rattle.table.specs.Stands.{Stands, Decided, Marked}
-use Rattle.table.proofs.Copies.{length-stored, length-loaded, loaded-at}
-use Rattle.table.proofs.Resuming.{stands-same, decided-same, marked-same, holds-stands}
+use Rattle.lent.specs.Lent.{nodesTable, loaded, stored}
+use Rattle.lent.specs.Stands.{Stands, Decided, Marked}
+use Rattle.lent.proofs.Copies.{length-stored, length-loaded, loaded-at}
+use Rattle.lent.proofs.Resuming.{stands-same, decided-same, marked-same, holds-stands}
 use Rattle.monitor.specs.declared.entry.Outcome.{Outcome}
 use Rattle.monitor.specs.declared.entry.Outcome.the-variants.{Refused}
 use Rattle.monitor.specs.Promises as Words

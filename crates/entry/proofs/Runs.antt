@@ -10,10 +10,10 @@ use Rattle.rules.specs.Bytes.{variableCount}
 use Rattle.rules.specs.Run.{Ending, finished, stopped, Ended}
 use Rattle.rules.specs.Outcome as Rules
 use Rattle.rules.specs.Outcome.{runJob}
-use Rattle.table.specs.declared.lent.Node.{Node}
+use Rattle.lent.specs.declared.node.Node.{Node}
 use Rattle.table.specs.Cells.{cellSize}
-use Rattle.table.specs.Lent.{stored}
-use Rattle.table.proofs.Copies as Copies
+use Rattle.lent.specs.Lent.{stored}
+use Rattle.lent.proofs.Copies as Copies
 use Rattle.monitor.specs.declared.entry.Outcome.{Outcome}
 use Rattle.monitor.specs.Promises as Words
 use Rattle.monitor.specs.Promises.{told, toldBy, Lent, lent, lentBy, Ran, Leaves, Promises}

@@ -3,7 +3,7 @@
 use native.Mathlib.Omega.{arith}
 use lib.ListN.{length}
 use Rattle.rules.specs.Level.{Level}
-use Rattle.table.proofs.Resuming.{stands-one, held-one}
+use Rattle.lent.proofs.Resuming.{stands-one, held-one}
 use Rattle.table.proofs.Unique.{one-tree}
 use Rattle.monitor.specs.Histories.{SecretHistories, SecretJobHistories}
 use Rattle.monitor.specs.Secrecy.{SecretCalls}

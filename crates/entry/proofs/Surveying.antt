@@ -7,12 +7,12 @@ use native.Mathlib.Omega.{arith}
 use lib.Dec.{ltb}
 use lib.ListN.{length, getD, replicate, length-replicate}
 use Rattle.rules.specs.Limits.{maxNodes}
-use Rattle.table.specs.declared.lent.Node.{Node}
-use Rattle.table.specs.declared.standing.Spot.{Spot}
+use Rattle.lent.specs.declared.node.Node.{Node}
+use Rattle.lent.specs.declared.standing.Spot.{Spot}
 use Rattle.table.specs.Cells.{gone}
-use Rattle.table.specs.Lent.{cellOf, blank, nodesTable}
-use Rattle.table.specs.Stands.{Decided, Marked, start, Asked, Ready, Rooms, Turned}
-use Rattle.table.proofs.Walking.{Walking, turns, walk-start, walk-ready, walk-turn, walk-end}
+use Rattle.lent.specs.Lent.{cellOf, blank, nodesTable}
+use Rattle.lent.specs.Stands.{Decided, Marked, start, Asked, Ready, Rooms, Turned}
+use Rattle.lent.proofs.Walking.{Walking, turns, walk-start, walk-ready, walk-turn, walk-end}
 use Rattle.entry.specs.Records.{Unmarked, Surveys}
 
 -- where the walk is, over records of which n can be led to, with so many marks

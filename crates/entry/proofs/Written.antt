@@ -8,10 +8,10 @@ use lib.ListN.{length}
 use lib.IntN.{ℤ}
 use Rattle.rules.specs.Limits.{maxNodes}
 use Rattle.rules.specs.Tree.{Forest}
-use Rattle.table.specs.declared.lent.Node.{Node}
-use Rattle.table.specs.Lent.{nodesTable}
-use Rattle.table.specs.Stands.{Stands}
-use Rattle.table.proofs.Resuming.{stands-same}
+use Rattle.lent.specs.declared.node.Node.{Node}
+use Rattle.lent.specs.Lent.{nodesTable}
+use Rattle.lent.specs.Stands.{Stands}
+use Rattle.lent.proofs.Resuming.{stands-same}
 use Rattle.monitor.specs.Promises.{Lent, lent}
 use Rattle.monitor.specs.Follow.{StandsAmong}
 use Rattle.monitor.proofs.Followed.{Decides}

@@ -8,10 +8,10 @@ use mir.Syntax.{w32}
 use mir.Val.{SFits}
 use Rattle.rules.specs.Limits.{maxNodes}
 use Rattle.rules.specs.Tree.{Forest}
-use Rattle.table.specs.declared.lent.Node.{Node}
+use Rattle.lent.specs.declared.node.Node.{Node}
 use Rattle.table.specs.Cells.{gone}
-use Rattle.table.specs.Lent.{blank, nodesTable, loaded}
-use Rattle.table.specs.Stands.{Stands, Decided, Marked}
+use Rattle.lent.specs.Lent.{blank, nodesTable, loaded}
+use Rattle.lent.specs.Stands.{Stands, Decided, Marked}
 
 -- a tree stands in the records, in all that a link can lead to
 abbrev pub StandsIn : List Node → Forest → Type 0

@@ -3,10 +3,10 @@ ghost use mathlib.Core.Path.{_≡_};
 ghost use Prim.Native.Nat.{_*_, _≤_};
 ghost use lib.ListN.{length};
 ghost use Rattle.table.specs.Cells.{cellSize};
-ghost use Rattle.table.specs.Lent.{stored};
+ghost use Rattle.lent.specs.Lent.{stored};
 ghost use Rattle.entry.specs.Records.{Loads};
-use table::Node;
-use table::lent;
+use lent::Node;
+use lent::node;
 
 // Makes the first n records those of the first n places.
 pub fn store(table: &mut [Node], words: &[u32], n: usize)
@@ -15,7 +15,7 @@ pub fn store(table: &mut [Node], words: &[u32], n: usize)
 {
     let mut x = 0;
     while x < n {
-        table[x] = lent::node_of(words, x);
+        table[x] = node::node_of(words, x);
         x = x + 1;
     }
 }
@@ -27,7 +27,7 @@ pub fn load(table: &[Node], words: &mut [u32], n: usize)
 {
     let mut x = 0;
     while x < n {
-        lent::put(words, x, table[x]);
+        node::put(words, x, table[x]);
         x = x + 1;
     }
 }

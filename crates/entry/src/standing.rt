@@ -4,12 +4,12 @@ ghost use Prim.Native.Nat.{_≤_, min};
 ghost use lib.ListN.{length};
 ghost use Rattle.table.specs.Cells.{gone};
 ghost use Rattle.entry.specs.Records.{Unmarked, Surveys};
+use lent::Node;
+use lent::standing::ask;
+use lent::standing::start;
+use lent::standing::turn;
 use rules::limits::MAX_NODES;
 use table::NIL;
-use table::Node;
-use table::standing::ask;
-use table::standing::start;
-use table::standing::turn;
 
 // How many of so many places a link can lead to.
 fn reach(places: usize) -> usize

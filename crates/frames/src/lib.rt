@@ -3,9 +3,9 @@
 pub mod input;
 pub mod outcome;
 
+use fields::reads::full_at;
+use fields::reads::half_at;
 use input::Span;
-use job::reads::full_at;
-use job::reads::half_at;
 use print::Out;
 use print::SIZE;
 ghost use mathlib.Core.Path.{_≡_};

@@ -3,10 +3,10 @@ use super::variables::Variables;
 use frames::outcome;
 use frames::outcome::PLACES;
 use frames::outcome::WORDS;
+use lent::node;
 use print::Out;
 use print::SIZE;
 use rules::numbers::bits;
-use table::lent;
 ghost use Prim.Native.Nat.{_<_, _≤_};
 ghost use Rattle.history.specs.Room.{Room};
 
@@ -18,7 +18,7 @@ fn put_record(buf: &mut [u8; SIZE], out: Out, words: &[u32; WORDS], place: usize
     requires { ⌜ (out .used ≤ 65536) × (place < 513) ⌝ }
     ensures { λ r. ⌜ r .used ≤ 65536 ⌝ }
 {
-    let d = lent::node_of(words, place);
+    let d = node::node_of(words, place);
     let numbers = [
         place as u32,
         d.first,

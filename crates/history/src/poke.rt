@@ -1,13 +1,13 @@
 // Single numbers of what stands, set from outside: what is lent to a script may hold anything.
 use super::variables;
 use super::variables::Variables;
+use fields::reads::full_at;
+use fields::reads::half_at;
 use frames::outcome::PLACES;
 use frames::outcome::WORDS;
-use job::reads::full_at;
-use job::reads::half_at;
+use lent::Node;
+use lent::node;
 use rules::numbers::signed;
-use table::Node;
-use table::lent;
 ghost use Prim.Native.Nat.{_≤_};
 ghost use Rattle.history.specs.Room.{Room};
 
@@ -43,8 +43,8 @@ fn set_field(words: &mut [u32; WORDS], place: usize, field: usize, x: u32) {
     if place >= PLACES {
         return;
     }
-    let node = lent::node_of(words, place);
-    lent::put(words, place, with(node, field, x));
+    let node = node::node_of(words, place);
+    node::put(words, place, with(node, field, x));
 }
 
 fn set_variable(v: Variables, i: usize, what: usize, x: u32) -> Variables

@@ -1,12 +1,12 @@
 // The run of a job, which leaves its tree and variables to stand, and the run of a script over them.
 use super::variables::Variables;
-use entry::follow_own;
-use entry::run_own;
 use frames::Header;
 use frames::outcome;
 use frames::outcome::PLACES;
 use frames::outcome::WORDS;
 use monitor::Outcome;
+use own::follow_own;
+use own::run_own;
 use print::Out;
 use print::SIZE;
 use print::answer;

@@ -17,10 +17,10 @@ use Rattle.rules.proofs.Nests.{nest-tail}
 use Rattle.rules.proofs.SameNumbers.{nest-agree}
 use Rattle.rules.proofs.Checks.{long-enough, sections, counts}
 use Rattle.rules.proofs.Accepted.{Right, section-numbered, section-jumps}
-use Rattle.job.specs.declared.sections.Layout.{Layout}
+use Rattle.fields.specs.declared.sections.Layout.{Layout}
 use Rattle.job.specs.declared.checks.Checked.{Checked}
 use Rattle.job.specs.declared.checks.Checked.the-variants.{Accepted, Refused}
-use Rattle.job.specs.Layout.{layoutOf, Inside}
+use Rattle.fields.specs.Layout.{layoutOf, Inside}
 use Rattle.job.specs.declared.checks.Script.the-variants.{Sound, Faulty}
 use Rattle.job.specs.Plan.{entry, planCode, Partly, Whole, Plans}
 use Rattle.job.specs.Answer.{answer, told, JobTold, fromVariables}

@@ -2,10 +2,6 @@
 pub mod Stack
 pub mod Words
 pub mod Fill
-pub mod Siblings
-pub mod Ways
 pub mod Scans
-pub mod Fits
 pub mod Answers
 pub mod FollowOns
-pub mod Spell

@@ -21,10 +21,11 @@ use Rattle.job.specs.declared.checks.Edition as Named
 use Rattle.job.specs.declared.checks.Edition.the-variants.{First, Unordered, Today}
 use Rattle.job.specs.declared.checks.Scan.{Scan}
 use Rattle.job.specs.declared.checks.Scan.the-variants.{Faulty, Passed}
-use Rattle.job.specs.Fields.{knownRule}
-use Rattle.job.specs.Fits.{variableIn, labelIn, nodeIn, recordFits}
-use Rattle.job.specs.Hanging.{AllFit}
+use Rattle.fields.specs.Fields.{knownRule}
+use Rattle.fields.specs.Fits.{variableIn, labelIn, nodeIn, recordFits}
+use Rattle.fields.specs.Hanging.{AllFit}
 use Rattle.job.specs.Answer.{editionOf, highestOf, recordRules, asked, scanOf, scanned}
+use Rattle.fields.proofs.Fits.{same-tests}
 
 module _ (rules : Edition) (right clean : ℕ → Bool) (n : ℕ) where
   -- right and clean
@@ -94,12 +95,6 @@ module _ (number : ℕ) (on : Bool) (good : ℕ → Bool) (n : ℕ) (c : Checked
       by : Test on → requireIf on number good n c ≡ c
       by (holds t) = rw t (through number good n c (rw t at e) h)
       by (fails t) = rw t
-
--- tests that hold together are one
-pub same-tests : (x y : Bool) → (x ≡ true → y ≡ true) → (y ≡ true → x ≡ true) → x ≡ y
-same-tests true y f g = sym (f refl)
-same-tests false true f g = g refl
-same-tests false false f g = refl
 
 -- a level is no higher than the highest
 

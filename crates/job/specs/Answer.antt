@@ -11,7 +11,7 @@ use Rattle.rules.specs.Blocks.{blockRule}
 use Rattle.rules.specs.Check as Check
 use Rattle.rules.specs.Check.{variableRuleIn, parentRule, orderRule, nodeRuleIn, recordRuleIn, variableClean, nodeClean, recordClean, code, firstFault, requireEach, requireIf, first, unordered, today}
 use Rattle.rules.specs.Check.{checkScript, checkRecords, checkBytesBy}
-use Rattle.job.specs.declared.sections.Layout.{Layout}
+use Rattle.fields.specs.declared.sections.Layout.{Layout}
 use Rattle.job.specs.declared.checks.Checked.{Checked}
 use Rattle.job.specs.declared.checks.Checked.the-variants.{Accepted, Refused}
 use Rattle.job.specs.declared.checks.Script.{Script}
@@ -21,8 +21,8 @@ use Rattle.job.specs.declared.checks.Edition.the-variants.{First, Unorde
 use Rattle.job.specs.declared.checks.Scan.{Scan}
 use Rattle.job.specs.declared.checks.Scan.the-variants as Scan
 use Rattle.job.specs.declared.checks.Unclean.{Unclean}
-use Rattle.job.specs.Layout.{layoutOf, Inside}
-use Rattle.job.specs.Fits.{variableIn}
+use Rattle.fields.specs.Layout.{layoutOf, Inside}
+use Rattle.fields.specs.Fits.{variableIn}
 use Rattle.job.specs.Plan.{Plans}
 
 -- an edition by the program's name for it

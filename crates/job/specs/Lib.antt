@@ -1,9 +1,4 @@
 -- What the contracts of this crate cite besides the rules.
-pub mod Layout
-pub mod Siblings
-pub mod Fields
-pub mod Fits
-pub mod Hanging
 pub mod Parts
 pub mod Plan
 pub mod Answer

@@ -3,12 +3,12 @@
 // "innermost open block is no if" are one test.
 use crate::plan::END_BACK;
 use crate::plan::END_MARK;
-use crate::records::BACK;
-use crate::records::ELSE;
-use crate::records::END;
-use crate::records::IF;
-use crate::records::WHILE;
-use crate::records::code_at;
+use fields::records::BACK;
+use fields::records::ELSE;
+use fields::records::END;
+use fields::records::IF;
+use fields::records::WHILE;
+use fields::records::code_at;
 use rules::limits::MAX_DEPTH;
 ghost use mathlib.Core.Path.{_≡_};
 ghost use Prim.Native.Nat.{_+_, _-_, _≤_, _<_};

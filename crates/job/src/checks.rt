@@ -1,20 +1,20 @@
 // The checks of a job's bytes: 1 to 8 in order of number, with 13 between 5 and 6 and 12 between 7 and 8. An accepted job takes a pass for 4 with 12, for 5, for 13 with 6 and
 // 12, for 7 with 12, and for 8; where a pass finds a record that fails, its checks are made one by one.
 use crate::blocks;
-use crate::nodes;
-use crate::nodes::order_ok;
-use crate::nodes::parent_ok;
 use crate::plan::WORDS;
-use crate::preorder;
-use crate::records;
-use crate::sections::Layout;
-use crate::sections::counts_ok;
-use crate::sections::layout_of;
-use crate::sections::length_ok;
-use crate::sections::offsets_ok;
 use crate::spare;
-use crate::variables::variable_fits;
-use crate::variables::variable_ok;
+use fields::nodes;
+use fields::nodes::order_ok;
+use fields::nodes::parent_ok;
+use fields::preorder;
+use fields::records;
+use fields::sections::Layout;
+use fields::sections::counts_ok;
+use fields::sections::layout_of;
+use fields::sections::length_ok;
+use fields::sections::offsets_ok;
+use fields::variables::variable_fits;
+use fields::variables::variable_ok;
 use rules::levels::ALL;
 use rules::levels::SECRET;
 use rules::limits::BAD_BLOCK;
@@ -34,8 +34,8 @@ ghost use lib.ListN.{length};
 ghost use Rattle.rules.specs.Limits.{commandCount, maxRecords};
 ghost use Rattle.rules.specs.Bytes.{recordPlace};
 ghost use Rattle.rules.specs.Check.{variableRuleIn, orderRule, nodeRuleIn, variableClean, nodeClean, recordClean, firstFault, today, checkBytesBy, checkBytes};
-ghost use Rattle.job.specs.Layout.{layoutOf, Inside};
-ghost use Rattle.job.specs.Siblings.{Linked};
+ghost use Rattle.fields.specs.Layout.{layoutOf, Inside};
+ghost use Rattle.fields.specs.Siblings.{Linked};
 ghost use Rattle.job.specs.Answer.{answer, editionOf, highestOf, ruleOf, recordRules, asked, scanOf, scanned, uncleanOf, Passable, Scannable, Fitted, Fronted, fromBlocks, fromSpare, fromScript, fromNodes, fromVariables, ScriptTold, JobTold, Prepared};
 
 // An accepted job with its layout, or the number that turns a job back, with the index of the first faulty record.

@@ -3,7 +3,7 @@ use crate::checks::Edition;
 use crate::checks::Script;
 use crate::checks::check_script;
 use crate::plan::WORDS;
-use crate::sections::Layout;
+use fields::sections::Layout;
 use rules::limits::BAD_FOLLOW_ON;
 use rules::limits::MAX_RECORDS;
 use rules::limits::RECORD_SIZE;

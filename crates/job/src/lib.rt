@@ -1,16 +1,9 @@
-// A job's bytes: the checks 1 to 8, 12 and 13, the fields of an accepted job, and the plan of its script; and the checks of a follow-on script.
+// A job's bytes: the checks 1 to 8, 12 and 13 in their order, and the plan of its script; and the checks of a follow-on script.
 mod blocks;
 mod checks;
 mod follow_on;
-pub mod nodes;
 pub mod plan;
-mod preorder;
-pub mod reads;
-pub mod records;
-pub mod rows;
-pub mod sections;
 mod spare;
-pub mod variables;
 
 pub use checks::Checked;
 pub use checks::Edition;

@@ -1,15 +1,15 @@
 // Check 12 of the script's records, in one pass with check 7: a record fits where it is right and each byte that it does not read is zero. Which of the two a record fails
 // that does not fit is asked only then.
-use crate::reads::byte_at;
-use crate::reads::double_at;
-use crate::reads::full_at;
-use crate::reads::half_at;
-use crate::reads::wide64;
-use crate::records::ALONE;
-use crate::records::MAX_MARK;
-use crate::records::MAX_OPERATOR;
-use crate::rows::Row;
-use crate::rows::used;
+use fields::reads::byte_at;
+use fields::reads::double_at;
+use fields::reads::full_at;
+use fields::reads::half_at;
+use fields::reads::wide64;
+use fields::records::ALONE;
+use fields::records::MAX_MARK;
+use fields::records::MAX_OPERATOR;
+use fields::rows::Row;
+use fields::rows::used;
 use rules::limits::COMMANDS;
 use rules::limits::RECORD_SIZE;
 ghost use mathlib.Core.Path.{_≡_};
@@ -20,8 +20,8 @@ ghost use Rattle.rules.specs.Limits.{commandCount, recordSize};
 ghost use Rattle.rules.specs.Bytes.{byte, full, recordPlace};
 ghost use Rattle.rules.specs.Script.{rows, rowOf};
 ghost use Rattle.rules.specs.Check.{firstFault};
-ghost use Rattle.job.specs.Fields.{rowUsed};
-ghost use Rattle.job.specs.Fits.{limitsOf, targetLimit, operandFits, kindWord, rightFits, expressionFits, bareFits, coverFits, recordFits};
+ghost use Rattle.fields.specs.Fields.{rowUsed};
+ghost use Rattle.fields.specs.Fits.{limitsOf, targetLimit, operandFits, kindWord, rightFits, expressionFits, bareFits, coverFits, recordFits};
 
 // The kinds of an operand.
 const KINDS: usize = 4;

@@ -21,10 +21,10 @@ use Rattle.rules.proofs.Checks.{passed-one}
 use Rattle.rules.proofs.Noninterference as Rejected
 use Rattle.rules.proofs.Noninterference.{accepted-rest, bytes-accepted, runs}
 use Rattle.rules.proofs.Accepted.{right}
-use Rattle.job.specs.declared.sections.Layout.{Layout}
+use Rattle.fields.specs.declared.sections.Layout.{Layout}
 use Rattle.job.specs.declared.checks.Checked.{Checked}
 use Rattle.job.specs.declared.checks.Checked.the-variants.{Accepted, Refused}
-use Rattle.job.specs.Layout.{layoutOf}
+use Rattle.fields.specs.Layout.{layoutOf}
 use Rattle.job.specs.Plan.{Whole}
 use Rattle.job.specs.Answer.{answer}
 use Rattle.job.proofs.Answers.{is-accepted, is-refused, script-plan}

@@ -24,8 +24,8 @@ use Rattle.actions.specs.Stands.{Stands}
 use Rattle.actions.specs.Acts.{Kept}
 use Rattle.actions.proofs.Board.{no-lines, lines-many, as-written}
 use Rattle.actions.proofs.Stepping.{stop-below}
-use Rattle.monitor.specs.Steps as Steps
-use Rattle.monitor.specs.Steps.{Held, scriptIn, Startable, Lent, Runs, codeOf}
+use Rattle.interpreter.specs.Steps as Steps
+use Rattle.interpreter.specs.Steps.{Held, scriptIn, Startable, Lent, Runs, codeOf}
 use Rattle.monitor.specs.Promises.{told, toldBy, Tree, Ran}
 use Rattle.monitor.specs.Starting.{outcomeOf, asLent}
 use Rattle.monitor.specs.FromRoot.{rootOf, AtRoot, Rooted, FromRoot}

@@ -1,10 +1,7 @@
 -- Laws of the run.
-pub mod Commands
-pub mod Looped
 pub mod Started
 pub mod Answered
 pub mod Secret
-pub mod Passed
 pub mod Begins
 pub mod Followed
 pub mod Taken

@@ -20,16 +20,16 @@ use Rattle.rules.proofs.Accepted.{Right, right, blocks-right}
 use Rattle.rules.proofs.Checks.{sections, counts}
 use Rattle.rules.proofs.Decode.{listed-length, listed-from-zero}
 use Rattle.rules.proofs.Noninterference.{loads, begin-valid}
-use Rattle.job.specs.declared.sections.Layout.{Layout}
-use Rattle.job.specs.Layout.{layoutOf}
+use Rattle.fields.specs.declared.sections.Layout.{Layout}
+use Rattle.fields.specs.Layout.{layoutOf}
 use Rattle.table.specs.Cells.{cells, gone}
 use Rattle.table.specs.Holds.{Holds}
 use Rattle.table.specs.Promises.{Behind, Loadable, Loaded}
 use Rattle.actions.specs.Board.{capacity, written}
 use Rattle.actions.specs.Shows.{Slices, Variables}
-use Rattle.monitor.specs.declared.step.Frame.{Frame}
+use Rattle.interpreter.specs.declared.step.Frame.{Frame}
 use Rattle.monitor.specs.declared.entry.Outcome.{Outcome}
-use Rattle.monitor.specs.Steps.{held, Script, Lent}
+use Rattle.interpreter.specs.Steps.{held, Script, Lent}
 use Rattle.monitor.specs.Promises.{told, Tree, Ran}
 use Rattle.monitor.specs.Starting.{frameOf, Loading, VariablesLoaded, Room, JobLoaded, Begun, asLent, Left}
 use Rattle.monitor.specs.FromRoot.{Rooted, FromRoot}

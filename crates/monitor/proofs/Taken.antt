@@ -27,12 +27,12 @@ use Rattle.job.proofs.Answers.{section-plan}
 use Rattle.job.proofs.FollowOns.{section-few}
 use Rattle.table.specs.Cells.{Table, cellSize, cells, gone}
 use Rattle.table.specs.Holds.{Holds}
-use Rattle.table.specs.Stands.{Stands, Decided, Marked, Reclaimed}
-use Rattle.table.proofs.Resuming.{holds-stands}
+use Rattle.lent.specs.Stands.{Stands, Decided, Marked, Reclaimed}
+use Rattle.lent.proofs.Resuming.{holds-stands}
 use Rattle.actions.specs.Shows.{Slices, slices, Variables}
-use Rattle.monitor.specs.declared.step.Frame.{Frame}
+use Rattle.interpreter.specs.declared.step.Frame.{Frame}
 use Rattle.monitor.specs.declared.entry.Outcome.{Outcome}
-use Rattle.monitor.specs.Steps.{held, Script, Lent}
+use Rattle.interpreter.specs.Steps.{held, Script, Lent}
 use Rattle.monitor.specs.Promises as Promises
 use Rattle.monitor.specs.Promises.{answerOf, told, lent, lentBy, placesIn, Tree, Ran, Leaves}
 use Rattle.monitor.specs.Starting.{asLent}

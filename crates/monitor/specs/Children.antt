@@ -17,13 +17,13 @@ use Rattle.rules.specs.Outcome.{runJob}
 use Rattle.rules.specs.History.{Store, after}
 use Rattle.table.specs.Cells.{Table, cells}
 use Rattle.table.specs.Promises.{Loaded}
-use Rattle.table.specs.Children.{Counts, WrongCount}
+use Rattle.lent.specs.Children.{Counts, WrongCount}
 use Rattle.actions.specs.declared.memory.Memory.{Memory}
 use Rattle.actions.specs.declared.control.Running.{Running}
 use Rattle.actions.specs.Shows.{Slices, Shows}
 use Rattle.monitor.specs.declared.entry.Outcome.{Outcome}
 use Rattle.monitor.specs.declared.entry.Outcome.the-variants.{Refused}
-use Rattle.monitor.specs.Steps.{Held, Comes}
+use Rattle.interpreter.specs.Steps.{Held, Comes}
 use Rattle.monitor.specs.Promises.{Lent, lentBy, Promises}
 use Rattle.monitor.specs.Follow.{HoldsStore, followOn, Follows}
 

@@ -17,7 +17,7 @@ use Rattle.actions.specs.declared.control.Running.{Running}
 use Rattle.actions.specs.Guards.{Holds as Guarded}
 use Rattle.actions.specs.Shows.{Slices, Variables}
 use Rattle.monitor.specs.declared.entry.Outcome.{Outcome}
-use Rattle.monitor.specs.Steps.{Held, scriptIn, Script, Lent}
+use Rattle.interpreter.specs.Steps.{Held, scriptIn, Script, Lent}
 use Rattle.monitor.specs.Promises.{told, Tree, Ran}
 use Rattle.monitor.specs.Starting.{asLent}
 

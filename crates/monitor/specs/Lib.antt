@@ -1,5 +1,4 @@
--- What a step, a run, and the run over a job's bytes promise.
-pub mod Steps
+-- What the run over a job's bytes promises.
 pub mod Promises
 pub mod Starting
 pub mod Secrecy

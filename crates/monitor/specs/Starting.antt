@@ -15,22 +15,22 @@ use Rattle.rules.specs.Tree.{root}
 use Rattle.rules.specs.Run.{Buffers, run}
 use Rattle.rules.specs.Outcome as Rules
 use Rattle.rules.specs.Outcome.{checkJob, begin}
-use Rattle.job.specs.declared.sections.Layout.{Layout}
+use Rattle.fields.specs.declared.sections.Layout.{Layout}
 use Rattle.job.specs.declared.checks.Checked.{Checked}
-use Rattle.job.specs.Layout.{layoutOf}
+use Rattle.fields.specs.Layout.{layoutOf}
 use Rattle.job.specs.Plan.{Whole}
 use Rattle.job.specs.Answer.{answer}
 use Rattle.table.specs.Cells.{cellSize, cells, gone}
 use Rattle.table.specs.Holds.{Holds}
 use Rattle.table.specs.Promises.{Behind}
 use Rattle.actions.specs.declared.control.Stepped.{Stepped}
-use Rattle.monitor.specs.declared.step.Frame.{Frame}
+use Rattle.interpreter.specs.declared.step.Frame.{Frame}
 use Rattle.monitor.specs.declared.entry.Outcome.{Outcome}
 use Rattle.monitor.specs.declared.entry.Outcome.the-variants.{Finished, Stopped}
 use Rattle.actions.specs.Board.{capacity}
 use Rattle.actions.specs.Shows.{Slices, Variables}
 use Rattle.actions.specs.Stands.{ended}
-use Rattle.monitor.specs.Steps.{Planned}
+use Rattle.interpreter.specs.Steps.{Planned}
 use Rattle.monitor.specs.Promises.{told, Lent, lent, Tree, Ran}
 
 -- the outcome of a run with a budget that has ended

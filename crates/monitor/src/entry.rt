@@ -1,10 +1,10 @@
 // The run over a job's bytes: the checks 1 to 10, then the job is loaded and run.
 use super::start::from_root;
-use super::step::Frame;
+use fields::sections::Layout;
+use interpreter::Frame;
 use job::Checked;
 use job::plan::WORDS;
 use job::prepare;
-use job::sections::Layout;
 use rules::limits::BAD_BUDGET;
 use rules::limits::BAD_BUFFERS;
 use rules::limits::MAX_BUDGET;
@@ -46,8 +46,8 @@ fn load_variables(job: &[u8], vars: usize, levels: &mut [u8], values: &mut [i32]
 {
     let mut i = 0;
     while i < vars {
-        levels[i] = job::variables::level_at(job, i);
-        values[i] = job::variables::value_at(job, i);
+        levels[i] = fields::variables::level_at(job, i);
+        values[i] = fields::variables::value_at(job, i);
         i += 1;
     }
 }

@@ -1,9 +1,7 @@
 // The monitor: one script over one labelled tree, from a job's bytes to its outcome.
 mod entry;
 mod follow;
-mod run;
 mod start;
-mod step;
 
 pub use entry::Outcome;
 pub use entry::admit;
@@ -17,7 +15,5 @@ pub use follow::follow_places;
 pub use follow::follow_words;
 pub use follow::storable;
 pub use follow::survey;
-pub use run::run_from;
 pub use start::ended;
 pub use start::rooted;
-pub use step::Frame;

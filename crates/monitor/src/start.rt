@@ -1,19 +1,19 @@
 // A run from the root, over a table and variables that stand already.
 use super::entry::Outcome;
-use super::run::run_from;
-use super::step::Frame;
 use actions::control::FINISHED;
 use actions::control::Running;
 use actions::control::Stepped;
 use actions::guards;
 use actions::marks;
 use actions::memory::Memory;
+use interpreter::Frame;
+use interpreter::run_from;
 use job::plan::WORDS;
 ghost use mathlib.Core.Path.{_≡_};
 ghost use Prim.Native.Nat.{_≤_};
 ghost use Rattle.rules.specs.Limits.{maxBudget};
 ghost use Rattle.actions.specs.Shows.{slices};
-ghost use Rattle.monitor.specs.Steps.{held};
+ghost use Rattle.interpreter.specs.Steps.{held};
 ghost use Rattle.monitor.specs.Starting.{outcomeOf};
 ghost use Rattle.monitor.specs.FromRoot.{AtRoot, Rooted, FromRoot};
 

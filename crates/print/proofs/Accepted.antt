@@ -9,9 +9,9 @@ use Rattle.rules.specs.Job.{variables}
 use Rattle.rules.proofs.Accepted.{right}
 use Rattle.rules.proofs.Checks.{counts}
 use Rattle.rules.proofs.Decode.{listed-length}
-use Rattle.job.specs.declared.sections.Layout.{Layout}
+use Rattle.fields.specs.declared.sections.Layout.{Layout}
 use Rattle.job.specs.declared.checks.Checked.the-variants.{Accepted, Refused}
-use Rattle.job.specs.Layout.{layoutOf}
+use Rattle.fields.specs.Layout.{layoutOf}
 use Rattle.job.specs.Answer.{answer}
 use Rattle.job.proofs.Answers.{is-accepted, is-refused}
 use Rattle.print.specs.Answers.{counted, variablesIn}

@@ -7,8 +7,8 @@ ghost use mathlib.Core.Path.{_≡_};
 ghost use Prim.Native.Nat.{_+_, _/_, _<_, _≤_, min};
 ghost use lib.ListN.{length, set, take};
 ghost use Rattle.print.specs.Waiting.{push, pushes, Number, Signed, Shown, Lined, Listed, Row};
-use job::reads::byte_at;
-use job::reads::full_at;
+use fields::reads::byte_at;
+use fields::reads::full_at;
 
 // How many bytes the buffer has: as many as io::large_buffer gives.
 pub const SIZE: usize = 65536;

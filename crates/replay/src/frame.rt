@@ -1,9 +1,9 @@
 // One frame: its header, its job, and what became of it.
-use entry::run_own;
 use frames::Header;
 use frames::State;
 use frames::outcome;
 use frames::outcome::WORDS;
+use own::run_own;
 use print::Out;
 use print::SIZE;
 use print::runner::VARIABLES;

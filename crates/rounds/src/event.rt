@@ -1,10 +1,10 @@
 // One event: its header, its body, and what it does.
 use super::show;
 use actions::marks;
+use fields::reads::full_at;
 use frames::Header;
 use frames::State;
 use job::plan;
-use job::reads::full_at;
 use print::Out;
 use print::SIZE;
 use rules::limits::MAX_BYTES;

@@ -14,8 +14,8 @@ use Rattle.rules.specs.Summary.{carried, summary, SummaryInOrder}
 use Rattle.rules.proofs.Accepted.{right}
 use Rattle.rules.proofs.Decode.{listed-length, listed-from-zero}
 use Rattle.rules.proofs.Summary.{summary-in-order}
-use Rattle.job.specs.declared.sections.Layout.{Layout}
-use Rattle.job.specs.Layout.{layoutOf}
+use Rattle.fields.specs.declared.sections.Layout.{Layout}
+use Rattle.fields.specs.Layout.{layoutOf}
 use Rattle.job.proofs.Answers.{inside}
 use Rattle.print.specs.Waiting.{push, Number}
 use Rattle.summary.specs.Summed.{Summed, more}

@@ -1,8 +1,8 @@
 // The summary program: one job on standard input. For each node, in their order, how many parties' matters it carries goes to standard output, on a line of its own; of a job that
 // is turned back only its number and index go to standard error.
+use fields::nodes::levels_at;
+use fields::sections::Layout;
 use job::Checked;
-use job::nodes::levels_at;
-use job::sections::Layout;
 use libc::STDIN_FILENO;
 use print::Out;
 use print::SIZE;
@@ -17,7 +17,7 @@ ghost use Rattle.rules.specs.Bytes.{nodesAt, nodeCount, nodePlace};
 ghost use Rattle.rules.specs.Check.{accepted, checkBytes};
 ghost use Rattle.rules.specs.Job.{labelOf};
 ghost use Rattle.rules.specs.Summary.{carried, summary};
-ghost use Rattle.job.specs.Layout.{layoutOf};
+ghost use Rattle.fields.specs.Layout.{layoutOf};
 ghost use Rattle.summary.specs.Summed.{Summed};
 
 // How many parties' matters node i carries.

@@ -1,9 +1,6 @@
 -- What the node table's words spell, and what each function over them does to the tree that they hold.
 pub mod Cells
-pub mod Children
 pub mod Holds
-pub mod Lent
 pub mod Promises
 pub mod Since
-pub mod Stands
 pub mod Steps

@@ -1,17 +1,20 @@
 // The node table: the tree of a run in one lent slice of words, CELL to a place. A place is a number below `places`, the number of places
 // lent; a link to no node holds NIL, which is no place.
 mod cells;
-pub mod lent;
 mod levels;
 pub mod node;
 pub mod records;
 pub mod shape;
 pub mod since;
 mod space;
-pub mod standing;
 pub mod walk;
 
-pub use lent::Node;
+pub use cells::PARENT;
+pub use cells::index;
+pub use cells::store;
+pub use cells::word_of;
+pub use levels::low;
+pub use levels::wide;
 use rules::limits::MAX_NODES;
 
 // How many words a place takes.

@@ -1,7 +1,7 @@
 // Prints what a job comes to, on a line.
 use super::settings::at_most;
-use job::reads::byte_at;
-use job::reads::signed_at;
+use fields::reads::byte_at;
+use fields::reads::signed_at;
 use libc::STDOUT_FILENO;
 use monitor::Outcome;
 use print::answer;

@@ -26,16 +26,16 @@ use Rattle.rules.proofs.Checks.{counts}
 use Rattle.rules.proofs.Accepted.{right}
 use Rattle.rules.proofs.Noninterference.{bytes-accepted}
 use Rattle.rules.proofs.Rounds.{ends-in-turn}
-use Rattle.job.specs.declared.sections.Layout.{Layout}
+use Rattle.fields.specs.declared.sections.Layout.{Layout}
 use Rattle.job.specs.declared.checks.Checked.the-variants.{Accepted}
 use Rattle.job.specs.declared.checks.Checked.the-variants as Checked
-use Rattle.job.specs.Layout.{layoutOf}
+use Rattle.fields.specs.Layout.{layoutOf}
 use Rattle.job.proofs.Answers.{is-accepted, is-refused}
 use Rattle.actions.specs.declared.control.Running.{Running}
 use Rattle.actions.specs.Board.{capacity}
 use Rattle.actions.specs.Marks.{marksSize}
 use Rattle.actions.specs.Shows.{slices}
-use Rattle.monitor.specs.declared.step.Frame.{Frame}
+use Rattle.interpreter.specs.declared.step.Frame.{Frame}
 use Rattle.monitor.specs.declared.entry.Outcome.{Outcome}
 use Rattle.monitor.specs.declared.entry.Outcome.the-variants.{Refused}
 use Rattle.monitor.specs.Promises.{told, toldBy, Tree, Ran}

@@ -6,11 +6,11 @@ use mathlib.Core.List.{List}
 use lib.ListN.{length}
 use lib.IntN.{ℤ, pos}
 use Rattle.rules.specs.Limits.{maxBytes, maxVariables}
-use Rattle.job.specs.declared.sections.Layout.{Layout}
+use Rattle.fields.specs.declared.sections.Layout.{Layout}
 use Rattle.actions.specs.declared.control.Running.{Running}
 use Rattle.actions.specs.Marks.{marksSize}
 use Rattle.actions.specs.Shows.{slices}
-use Rattle.monitor.specs.Steps.{held, Startable}
+use Rattle.interpreter.specs.Steps.{held, Startable}
 use Rattle.monitor.specs.Starting.{Room}
 use Rattle.turns.specs.declared.pool.Place.{Place}
 use Rattle.turns.specs.declared.turn.Turned.{Turned}

@@ -23,8 +23,8 @@ use Rattle.rules.proofs.Tests.{both}
 use Rattle.rules.proofs.Invariants.{run-valid}
 use Rattle.rules.proofs.Noninterference.{loads, begin-valid}
 use Rattle.rules.proofs.Rounds.{turn-used}
-use Rattle.job.specs.declared.sections.Layout.{Layout}
-use Rattle.job.specs.Layout.{layoutOf}
+use Rattle.fields.specs.declared.sections.Layout.{Layout}
+use Rattle.fields.specs.Layout.{layoutOf}
 use Rattle.table.specs.Cells.{gone}
 use Rattle.table.specs.Since.{number}
 use Rattle.actions.specs.declared.control.Running.{Running}
@@ -33,13 +33,13 @@ use Rattle.actions.specs.Marks.{countAt, marksSize}
 use Rattle.actions.specs.Shows.{Slices, slices}
 use Rattle.actions.specs.Stands.{Stands}
 use Rattle.actions.specs.Acts.{Kept}
-use Rattle.monitor.specs.Steps.{Held, held, scriptIn, Safe, Startable, codeOf, Ran, Runs}
+use Rattle.interpreter.specs.Steps.{Held, held, scriptIn, Safe, Startable, codeOf, Ran, Runs}
 use Rattle.monitor.specs.FromRoot.{AtRoot}
 use Rattle.monitor.specs.declared.entry.Outcome.{Outcome}
 use Rattle.monitor.specs.Promises as Monitor
 use Rattle.monitor.specs.Promises.{told, Tree}
 use Rattle.monitor.specs.Starting.{frameOf, outcomeOf, JobLoaded, Begun, asLent}
-use Rattle.monitor.proofs.Looped.{kept-trans, closed}
+use Rattle.interpreter.proofs.Looped.{kept-trans, closed}
 use Rattle.monitor.proofs.Begins.{answered, leaves, startable, stands}
 use Rattle.monitor.proofs.Started.{rooted-at}
 use Rattle.turns.specs.declared.turn.Turned.the-variants.{GoesOn, Ends}

@@ -15,7 +15,7 @@ use Rattle.actions.specs.Marks.{marksSize}
 use Rattle.actions.specs.Shows.{Slices, slices}
 use Rattle.monitor.specs.declared.entry.Outcome.{Outcome}
 use Rattle.monitor.specs.declared.entry.Outcome.the-variants.{Refused, Finished, Stopped}
-use Rattle.monitor.specs.Steps.{Held, held, Startable}
+use Rattle.interpreter.specs.Steps.{Held, held, Startable}
 use Rattle.monitor.specs.Promises.{told, Tree, Ran}
 use Rattle.monitor.specs.Starting.{asLent}
 use Rattle.turns.specs.declared.pool.Place.{Place}

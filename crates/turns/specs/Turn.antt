@@ -10,13 +10,13 @@ use Rattle.rules.specs.Job as Job
 use Rattle.rules.specs.Outcome as Rules
 use Rattle.rules.specs.Rounds.{Newcomer, Active, fresh, turnOf, unended, later}
 use Rattle.rules.proofs.Control.{Valid}
-use Rattle.job.specs.declared.sections.Layout.{Layout}
+use Rattle.fields.specs.declared.sections.Layout.{Layout}
 use Rattle.actions.specs.declared.control.Running.{Running}
 use Rattle.actions.specs.Board.{capacity}
 use Rattle.actions.specs.Shows.{Slices, slices}
 use Rattle.actions.specs.Stands.{Stands}
 use Rattle.actions.specs.Acts.{Kept}
-use Rattle.monitor.specs.Steps.{Held, held, scriptIn, Lent, Startable}
+use Rattle.interpreter.specs.Steps.{Held, held, scriptIn, Lent, Startable}
 use Rattle.monitor.specs.Promises.{told, Tree, Ran}
 use Rattle.monitor.specs.Starting.{frameOf, Begun, asLent}
 use Rattle.turns.specs.declared.turn.Turned.{Turned}

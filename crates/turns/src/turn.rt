@@ -1,13 +1,13 @@
 // One run that takes turns, over its own buffers: before its first turn, and one turn of it.
 use actions::control::Running;
 use actions::marks;
-use job::sections::Layout;
-use monitor::Frame;
+use fields::sections::Layout;
+use interpreter::Frame;
+use interpreter::run_from;
 use monitor::Outcome;
 use monitor::ended;
 use monitor::load;
 use monitor::rooted;
-use monitor::run_from;
 use monitor::smaller;
 use rules::limits::SPENT;
 use rules::limits::TURN_STEPS;
@@ -17,7 +17,7 @@ ghost use lib.ListN.{length};
 ghost use Rattle.rules.specs.Limits.{maxBudget};
 ghost use Rattle.actions.specs.Marks.{marksSize};
 ghost use Rattle.actions.specs.Shows.{slices};
-ghost use Rattle.monitor.specs.Steps.{held, Startable};
+ghost use Rattle.interpreter.specs.Steps.{held, Startable};
 ghost use Rattle.monitor.specs.Starting.{Room};
 ghost use Rattle.turns.specs.Turn.{withLeft, Freshens, TakesTurn};
 

@@ -19,8 +19,8 @@ use types.Kit.{group}
 use denote.Builtin.{u64, bool}
 use denote.Plain.{uint-copy, bool-lawful, bool-makes}
 use Rattle.rules.specs.Limits.{maxNodes}
-use Rattle.table.specs.declared.lent.Node.{Node}
-use Rattle.table.specs.Lent.{stored}
+use Rattle.lent.specs.declared.node.Node.{Node}
+use Rattle.lent.specs.Lent.{stored}
 use Rattle.monitor.specs.declared.entry.Outcome.{Outcome}
 use Rattle.monitor.specs.Promises.{lent}
 use Rattle.monitor.specs.Follow.{Follows, Surveyed, FollowsOver}
@@ -34,7 +34,7 @@ use Rattle.walks.proofs.Slots.{gather, repeats}
 use Rattle.walks.proofs.Calls.{under, lends-mut, lends-shr, ends-mut, ends-shr, shares-on, comes-home, answers}
 use Rattle.walks.proofs.Big.{big}
 use denote.Enum.Laws as EL
-use Rattle.table.proofs.lent.Node as N
+use Rattle.lent.proofs.node.Node as N
 use Rattle.monitor.proofs.entry.Outcome as O
 use Rattle.monitor.proofs.entry.Outcome.Laws as O′
 use Rattle.entry.proofs.standing.held as he

@@ -14,9 +14,9 @@ use mathlib.Core.List.{_++_}
 use types.Kit.{group}
 use denote.Builtin.{u64}
 use denote.Plain.{uint-copy}
-use Rattle.table.specs.declared.lent.Node.{Node}
+use Rattle.lent.specs.declared.node.Node.{Node}
 use Rattle.table.specs.Cells.{cells}
-use Rattle.table.specs.Lent.{stored}
+use Rattle.lent.specs.Lent.{stored}
 use Rattle.table.specs.Promises.{Behind}
 use Rattle.monitor.specs.declared.entry.Outcome.{Outcome}
 use Rattle.monitor.specs.Promises.{lent, placesFor, Promises}
@@ -30,7 +30,7 @@ use Rattle.walks.proofs.Slots.{gather, repeats}
 use Rattle.walks.proofs.Calls.{under, lends-mut, lends-shr, ends-mut, ends-shr, answers}
 use Rattle.walks.proofs.Big.{big}
 use denote.Enum.Laws as EL
-use Rattle.table.proofs.lent.Node as N
+use Rattle.lent.proofs.node.Node as N
 use Rattle.monitor.specs.Promises as Words
 use Rattle.monitor.proofs.entry.Outcome as O
 use Rattle.monitor.proofs.entry.Outcome.Laws as O′

@@ -19,7 +19,7 @@ use types.Kit.{group}
 use denote.Builtin.{bool}
 use denote.Plain.{uint-copy, bool-lawful, bool-makes}
 use Rattle.rules.specs.Limits.{maxNodes}
-use Rattle.table.specs.declared.lent.Node.{Node}
+use Rattle.lent.specs.declared.node.Node.{Node}
 use Rattle.monitor.specs.Promises.{lent}
 use Rattle.monitor.specs.Follow.{Surveyed}
 use Rattle.writer.specs.Writes.{WritesBack, WritesOver}
@@ -32,7 +32,7 @@ use Rattle.walks.proofs.Locals.{sized, var, sets, result, valued, frees-all}
 use Rattle.walks.proofs.Slots.{gather, repeats}
 use Rattle.walks.proofs.Calls.{under, lends-mut, lends-shr, ends-mut, ends-shr, answers}
 use Rattle.walks.proofs.Big.{big}
-use Rattle.table.proofs.lent.Node as N
+use Rattle.lent.proofs.node.Node as N
 use Rattle.entry.proofs.standing.held as he
 use Rattle.entry.proofs.standing.held.Symbol as he-def
 use Rattle.entry.proofs.standing.held.Symbol.{name as #held}

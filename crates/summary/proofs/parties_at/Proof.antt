@@ -1,7 +1,7 @@
 -- `parties_at` meets its contract: it is the definition. Assumes nothing.
 use Rattle.rules.specs.Job.{labelOf}
 use Rattle.rules.specs.Summary.{carried}
-use Rattle.job.specs.Fields.{levelsOf}
+use Rattle.fields.specs.Fields.{levelsOf}
 use borrow.Author.Needs.{needs}
 use Rattle.summary.proofs.parties_at.Statement.{statement}
 use Rattle.summary.proofs.parties_at.Tie as tie

@@ -1,8 +1,8 @@
 -- `arrange` meets its contract: by what the rules so far say. Assumes nothing.
 use mathlib.Core.Path.{_≡_, sym, ap, _∙_}
 use Rattle.rules.specs.Arrange.{leftArranged}
-use Rattle.job.specs.declared.sections.Layout.{Layout}
-use Rattle.job.specs.Layout.{layoutOf}
+use Rattle.fields.specs.declared.sections.Layout.{Layout}
+use Rattle.fields.specs.Layout.{layoutOf}
 use Rattle.job.specs.Answer.{editionOf}
 use Rattle.job.proofs.Answers.{is-accepted, is-refused}
 use Rattle.arranger.specs.Arranger.{told}

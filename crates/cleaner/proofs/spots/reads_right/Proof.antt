@@ -1,6 +1,6 @@
 -- `reads_right` meets its contract: it is the definition. Assumes nothing.
 use Rattle.rules.specs.Check.{readsRight}
-use Rattle.job.specs.Fields.{rowHeld}
+use Rattle.fields.specs.Fields.{rowHeld}
 use borrow.Author.Needs.{needs}
 use Rattle.cleaner.proofs.spots.reads_right.Statement.{statement}
 use Rattle.cleaner.proofs.spots.reads_right.Tie as tie

@@ -5,7 +5,7 @@ use Prim.Native.Nat.{ℕ}
 use Rattle.rules.specs.Bytes.{byte}
 use Rattle.rules.specs.Script.{rowOf}
 use Rattle.rules.specs.Check.{readsTarget, recordReads, fieldReads}
-use Rattle.job.specs.Fields.{rowHeld}
+use Rattle.fields.specs.Fields.{rowHeld}
 use borrow.Author.Needs.{needs}
 use Rattle.cleaner.proofs.spots.record_reads.Statement.{statement}
 use Rattle.cleaner.proofs.spots.record_reads.Tie as tie

@@ -3,7 +3,7 @@ use mathlib.Core.Path.{sym, ap}
 use mathlib.Core.Bool.{false}
 use lib.ListN.{List·getD-eq-default}
 use Rattle.rules.specs.Script.{rows, row}
-use Rattle.job.specs.Fields.{rowHeld}
+use Rattle.fields.specs.Fields.{rowHeld}
 use borrow.Author.Needs.{needs}
 use Rattle.cleaner.proofs.spots.row_at.Statement.{statement}
 use Rattle.cleaner.proofs.spots.row_at.Tie as tie

@@ -21,20 +21,20 @@ use mir.Val.{SFits}
 use lib.Dec.{T as Holds}
 use lib.WfN.{Nat·lt-wfRel}
 use denote.Struct.Laws as LL
-use Rattle.table.specs.declared.lent.Node.{Node}
+use Rattle.lent.specs.declared.node.Node.{Node}
 use Rattle.table.specs.Cells.{cellSize}
-use Rattle.table.specs.Lent.{blank, putNode, loaded}
+use Rattle.lent.specs.Lent.{blank, putNode, loaded}
 use Rattle.walks.proofs.While.{tests, whiles}
 use Rattle.walks.proofs.Locals.{sized, var, sets, result}
 use Rattle.walks.proofs.Slots.{lends-row, row-back}
-use Rattle.table.proofs.Copies.{length-loaded}
+use Rattle.lent.proofs.Copies.{length-loaded}
 use Rattle.entry.proofs.Numbers.{recordBytes, start-fits, next-fits, fits-below, nearer, within, cell-in, one-more}
-use Rattle.table.proofs.lent.Node as T
-use Rattle.table.proofs.lent.Node.Laws as T′
-use Rattle.table.proofs.lent.put as put
-use Rattle.table.proofs.lent.put.Symbol as put-def
-use Rattle.table.proofs.lent.put.Symbol.{name as #put}
-use Rattle.table.proofs.lent.put.Met as put-thm
+use Rattle.lent.proofs.node.Node as T
+use Rattle.lent.proofs.node.Node.Laws as T′
+use Rattle.lent.proofs.node.put as put
+use Rattle.lent.proofs.node.put.Symbol as put-def
+use Rattle.lent.proofs.node.put.Symbol.{name as #put}
+use Rattle.lent.proofs.node.put.Met as put-thm
 use Rattle.entry.proofs.copies.load.Key.{name as #load}
 use Rattle.entry.proofs.copies.load as load′
 use Rattle.entry.proofs.copies.load.Statement as stated
@@ -277,4 +277,4 @@ load-spec 𝓤 H 𝓜 𝓖 𝓡 =
     entered 𝓤 H (tripleOf 𝓤 H (𝓖 .A) load′.signature (load′.spec 𝓤 H (𝓖 .A) (𝓜 .mem) (𝓡 .run)))
     (tables 𝓤 H 𝓜 𝓡 code.env .C) (tables 𝓤 H 𝓜 𝓡 code.env .Λ) #load code.function (code.unfolded 𝓤 H 𝓜 𝓡)
     (load-meets 𝓤 H (𝓖 .A) (givenOf 𝓤 H 𝓜 𝓖) (𝓜 .mem) (𝓡 .run) (tablesOf 𝓤 H 𝓜 (tables 𝓤 H 𝓜 𝓡 code.env))
-    (cited 𝓤 H (Put 𝓤 H (𝓖 .A) (𝓜 .mem) (𝓡 .run)) 𝓜 𝓡 code.env #put put-def.routine code.calls-table·lent·put (put-thm.met 𝓤 H 𝓜 𝓖 𝓡)))
+    (cited 𝓤 H (Put 𝓤 H (𝓖 .A) (𝓜 .mem) (𝓡 .run)) 𝓜 𝓡 code.env #put put-def.routine code.calls-lent·node·put (put-thm.met 𝓤 H 𝓜 𝓖 𝓡)))

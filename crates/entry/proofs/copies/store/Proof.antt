@@ -15,19 +15,19 @@ use Rattle.walks.proofs.Walk.{elem-put, opens-slice, closes-slice, owned, peeks
 use Rattle.walks.proofs.Walk.{tripleOf, entered, cited, says, needs, Stays, stay-none-slice, stay-slice, walkOf, goes-none-slice, goes-slice, Walks}
 use Rattle.walks.proofs.Walk.{ends-at, walked, walk-meets, ensured, lasts, yes}
 use denote.Struct.Laws as LL
-use Rattle.table.specs.declared.lent.Node.{Node}
+use Rattle.lent.specs.declared.node.Node.{Node}
 use Rattle.table.specs.Cells.{cellSize, cells}
-use Rattle.table.specs.Lent.{blank, nodeOf, stored}
+use Rattle.lent.specs.Lent.{blank, nodeOf, stored}
 use Rattle.walks.proofs.While.{Upto, Nearer, nearer-wf, tests, whiles}
-use Rattle.table.proofs.Copies.{length-stored}
+use Rattle.lent.proofs.Copies.{length-stored}
 use Rattle.walks.proofs.Locals.{sized, var, sets, result}
 use Rattle.entry.proofs.Numbers.{recordBytes, start-fits, next-fits, fits-below, nearer, within, cell-in, one-more}
-use Rattle.table.proofs.lent.Node as T
-use Rattle.table.proofs.lent.Node.Laws as T′
-use Rattle.table.proofs.lent.node_of as of′
-use Rattle.table.proofs.lent.node_of.Symbol as of-def
-use Rattle.table.proofs.lent.node_of.Symbol.{name as #node-of}
-use Rattle.table.proofs.lent.node_of.Met as of-thm
+use Rattle.lent.proofs.node.Node as T
+use Rattle.lent.proofs.node.Node.Laws as T′
+use Rattle.lent.proofs.node.node_of as of′
+use Rattle.lent.proofs.node.node_of.Symbol as of-def
+use Rattle.lent.proofs.node.node_of.Symbol.{name as #node-of}
+use Rattle.lent.proofs.node.node_of.Met as of-thm
 use Rattle.entry.proofs.copies.store.Key.{name as #store}
 use Rattle.entry.proofs.copies.store as store′
 use Rattle.entry.proofs.copies.store.Statement as stated
@@ -221,4 +221,4 @@ store-spec 𝓤 H 𝓜 𝓖 𝓡 =
     entered 𝓤 H (tripleOf 𝓤 H (𝓖 .A) store′.signature (store′.spec 𝓤 H (𝓖 .A) (𝓜 .mem) (𝓡 .run)))
     (tables 𝓤 H 𝓜 𝓡 code.env .C) (tables 𝓤 H 𝓜 𝓡 code.env .Λ) #store code.function (code.unfolded 𝓤 H 𝓜 𝓡)
     (store-meets 𝓤 H (𝓖 .A) (givenOf 𝓤 H 𝓜 𝓖) (𝓜 .mem) (𝓡 .run) (tablesOf 𝓤 H 𝓜 (tables 𝓤 H 𝓜 𝓡 code.env))
-    (cited 𝓤 H (Of 𝓤 H (𝓖 .A) (𝓜 .mem) (𝓡 .run)) 𝓜 𝓡 code.env #node-of of-def.routine code.calls-table·lent·node-of (of-thm.met 𝓤 H 𝓜 𝓖 𝓡)))
+    (cited 𝓤 H (Of 𝓤 H (𝓖 .A) (𝓜 .mem) (𝓡 .run)) 𝓜 𝓡 code.env #node-of of-def.routine code.calls-lent·node·node-of (of-thm.met 𝓤 H 𝓜 𝓖 𝓡)))

@@ -22,12 +22,12 @@ use mir.Val.{vbool}
 use types.Kit.{group}
 use denote.Plain.{uint-copy}
 use Rattle.rules.specs.Limits.{maxNodes}
-use Rattle.table.specs.declared.lent.Node.{Node}
-use Rattle.table.specs.declared.standing.Spot.{Spot}
+use Rattle.lent.specs.declared.node.Node.{Node}
+use Rattle.lent.specs.declared.standing.Spot.{Spot}
 use Rattle.table.specs.Cells.{gone}
-use Rattle.table.specs.Lent.{blank}
-use Rattle.table.specs.Stands.{start, Asked, Ready, Rooms, Turned}
-use Rattle.table.proofs.Walking.{turns}
+use Rattle.lent.specs.Lent.{blank}
+use Rattle.lent.specs.Stands.{start, Asked, Ready, Rooms, Turned}
+use Rattle.lent.proofs.Walking.{turns}
 use Rattle.entry.specs.Records.{Unmarked}
 use Rattle.entry.proofs.Numbers.{recordBytes, start-fits, span}
 use Rattle.entry.proofs.Surveying.{Point, is-record, first, ready, next, nearer-end, last}
@@ -37,26 +37,26 @@ use Rattle.walks.proofs.Calls.{under, lends-mut, ends-mut, answers}
 use Rattle.walks.proofs.While.{tests, whiles}
 use lib.Dec.{T as Holds}
 use denote.Struct.Laws as LL
-use Rattle.table.proofs.lent.Node as T
-use Rattle.table.proofs.lent.Node.Laws as T′
-use Rattle.table.proofs.standing.Spot as S
-use Rattle.table.proofs.standing.Spot.Laws as S′
+use Rattle.lent.proofs.node.Node as T
+use Rattle.lent.proofs.node.Node.Laws as T′
+use Rattle.lent.proofs.standing.Spot as S
+use Rattle.lent.proofs.standing.Spot.Laws as S′
 use Rattle.entry.proofs.standing.reach as re
 use Rattle.entry.proofs.standing.reach.Symbol as re-def
 use Rattle.entry.proofs.standing.reach.Symbol.{name as #reach}
 use Rattle.entry.proofs.standing.reach.Met as re-thm
-use Rattle.table.proofs.standing.start as sr
-use Rattle.table.proofs.standing.start.Symbol as sr-def
-use Rattle.table.proofs.standing.start.Symbol.{name as #start}
-use Rattle.table.proofs.standing.start.Met as sr-thm
-use Rattle.table.proofs.standing.ask as ak
-use Rattle.table.proofs.standing.ask.Symbol as ak-def
-use Rattle.table.proofs.standing.ask.Symbol.{name as #ask}
-use Rattle.table.proofs.standing.ask.Met as ak-thm
-use Rattle.table.proofs.standing.turn as tu
-use Rattle.table.proofs.standing.turn.Symbol as tu-def
-use Rattle.table.proofs.standing.turn.Symbol.{name as #turn}
-use Rattle.table.proofs.standing.turn.Met as tu-thm
+use Rattle.lent.proofs.standing.start as sr
+use Rattle.lent.proofs.standing.start.Symbol as sr-def
+use Rattle.lent.proofs.standing.start.Symbol.{name as #start}
+use Rattle.lent.proofs.standing.start.Met as sr-thm
+use Rattle.lent.proofs.standing.ask as ak
+use Rattle.lent.proofs.standing.ask.Symbol as ak-def
+use Rattle.lent.proofs.standing.ask.Symbol.{name as #ask}
+use Rattle.lent.proofs.standing.ask.Met as ak-thm
+use Rattle.lent.proofs.standing.turn as tu
+use Rattle.lent.proofs.standing.turn.Symbol as tu-def
+use Rattle.lent.proofs.standing.turn.Symbol.{name as #turn}
+use Rattle.lent.proofs.standing.turn.Met as tu-thm
 use Rattle.entry.proofs.standing.held.Key.{name as #held}
 use Rattle.entry.proofs.standing.held as held′
 use Rattle.entry.proofs.standing.held.Statement as stated
@@ -364,6 +364,6 @@ held-spec 𝓤 H 𝓜 𝓖 𝓡 =
     (tables 𝓤 H 𝓜 𝓡 code.env .C) (tables 𝓤 H 𝓜 𝓡 code.env .Λ) #held code.function (code.unfolded 𝓤 H 𝓜 𝓡)
     (meets 𝓤 H (𝓖 .A) (givenOf 𝓤 H 𝓜 𝓖) (𝓜 .mem) (𝓡 .run) (tablesOf 𝓤 H 𝓜 (tables 𝓤 H 𝓜 𝓡 code.env))
     (cited 𝓤 H (Reach 𝓤 H (𝓖 .A) (𝓜 .mem) (𝓡 .run)) 𝓜 𝓡 code.env #reach re-def.routine code.calls-entry·standing·reach (re-thm.met 𝓤 H 𝓜 𝓖 𝓡))
-    (cited 𝓤 H (Start 𝓤 H (𝓖 .A) (𝓜 .mem) (𝓡 .run)) 𝓜 𝓡 code.env #start sr-def.routine code.calls-table·standing·start (sr-thm.met 𝓤 H 𝓜 𝓖 𝓡))
-    (cited 𝓤 H (Ask 𝓤 H (𝓖 .A) (𝓜 .mem) (𝓡 .run)) 𝓜 𝓡 code.env #ask ak-def.routine code.calls-table·standing·ask (ak-thm.met 𝓤 H 𝓜 𝓖 𝓡))
-    (cited 𝓤 H (Turn 𝓤 H (𝓖 .A) (𝓜 .mem) (𝓡 .run)) 𝓜 𝓡 code.env #turn tu-def.routine code.calls-table·standing·turn (tu-thm.met 𝓤 H 𝓜 𝓖 𝓡)))
+    (cited 𝓤 H (Start 𝓤 H (𝓖 .A) (𝓜 .mem) (𝓡 .run)) 𝓜 𝓡 code.env #start sr-def.routine code.calls-lent·standing·start (sr-thm.met 𝓤 H 𝓜 𝓖 𝓡))
+    (cited 𝓤 H (Ask 𝓤 H (𝓖 .A) (𝓜 .mem) (𝓡 .run)) 𝓜 𝓡 code.env #ask ak-def.routine code.calls-lent·standing·ask (ak-thm.met 𝓤 H 𝓜 𝓖 𝓡))
+    (cited 𝓤 H (Turn 𝓤 H (𝓖 .A) (𝓜 .mem) (𝓡 .run)) 𝓜 𝓡 code.env #turn tu-def.routine code.calls-lent·standing·turn (tu-thm.met 𝓤 H 𝓜 𝓖 𝓡)))

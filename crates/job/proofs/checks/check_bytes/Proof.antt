@@ -10,8 +10,8 @@ use Rattle.rules.specs.Limits.{badLength, badOffsets, badCount}
 use Rattle.rules.specs.Bytes.{nodesAt, scriptAt, variableCount, nodeCount, recordCount}
 use Rattle.rules.specs.Check.{Checked, require, lengthRule, offsetRule, countRule, Edition, checkRecords, checkBytesBy}
 use Rattle.rules.proofs.Checks.{turned, met, long-enough, sections}
-use Rattle.job.specs.declared.sections.Layout.{Layout}
-use Rattle.job.specs.Layout.{layoutOf, Inside}
+use Rattle.fields.specs.declared.sections.Layout.{Layout}
+use Rattle.fields.specs.Layout.{layoutOf, Inside}
 use Rattle.job.specs.Answer.{answer, editionOf}
 use Rattle.job.proofs.Answers.{inside, plans-not, plans-along, told-along}
 use borrow.Author.Needs.{needs}

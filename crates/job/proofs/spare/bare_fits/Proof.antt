@@ -2,7 +2,7 @@
 use mathlib.Core.Path.{sym}
 use native.Mathlib.Omega.{arith}
 use borrow.Author.Tests.{lt-ltb, le-ltb}
-use Rattle.job.specs.Fits.{bareFits}
+use Rattle.fields.specs.Fits.{bareFits}
 use borrow.Author.Needs.{needs}
 use Rattle.job.proofs.spare.bare_fits.Statement.{statement}
 use Rattle.job.proofs.spare.bare_fits.Tie as tie

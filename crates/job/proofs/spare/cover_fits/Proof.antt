@@ -1,5 +1,5 @@
 -- `cover_fits` meets its contract: it is the definition. Assumes nothing.
-use Rattle.job.specs.Fits.{coverFits}
+use Rattle.fields.specs.Fits.{coverFits}
 use borrow.Author.Needs.{needs}
 use Rattle.job.proofs.spare.cover_fits.Statement.{statement}
 use Rattle.job.proofs.spare.cover_fits.Tie as tie

@@ -1,7 +1,7 @@
 -- `expression_fits` meets its contract: the tests in order. Assumes nothing.
 use mathlib.Core.Path.{sym, _∙_}
 use borrow.Author.Tests.{le-leb, lt-leb, not-true, not-false}
-use Rattle.job.specs.Fits.{expressionFits}
+use Rattle.fields.specs.Fits.{expressionFits}
 use borrow.Author.Needs.{needs}
 use Rattle.job.proofs.spare.expression_fits.Statement.{statement}
 use Rattle.job.proofs.spare.expression_fits.Tie as tie

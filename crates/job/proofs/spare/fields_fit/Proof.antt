@@ -4,8 +4,8 @@ use mathlib.Core.Bool.{_&&_}
 use native.Mathlib.Omega.{arith}
 use lib.Dec.{ltb}
 use borrow.Author.Tests.{lt-ltb, le-ltb}
-use Rattle.job.specs.Fits.{expressionFits, recordFits}
-use Rattle.job.proofs.Fits.{held-bare, held-cover, held-expression}
+use Rattle.fields.specs.Fits.{expressionFits, recordFits}
+use Rattle.fields.proofs.Fits.{held-bare, held-cover, held-expression}
 use borrow.Author.Needs.{needs}
 use Rattle.job.proofs.spare.fields_fit.Statement.{statement}
 use Rattle.job.proofs.spare.fields_fit.Tie as tie

@@ -11,8 +11,8 @@ use Rattle.rules.specs.Bytes.{recordPlace}
 use Rattle.rules.specs.Script.{Row, rows, row, rowOf}
 use Rattle.rules.specs.Check.{recordRule}
 use Rattle.rules.proofs.Search.{Scan, scan-start, scan-next, scan-stop, scan-end}
-use Rattle.job.specs.Fields.{rowHeld, rowUsed}
-use Rattle.job.specs.Fits.{targetLimit, recordFits}
+use Rattle.fields.specs.Fields.{rowHeld, rowUsed}
+use Rattle.fields.specs.Fits.{targetLimit, recordFits}
 use borrow.Author.Needs.{needs}
 use Rattle.job.proofs.spare.first_unfit.Statement.{statement}
 use Rattle.job.proofs.spare.first_unfit.Tie as tie

@@ -1,6 +1,6 @@
 -- `kind_word` meets its contract: it is the definition. Assumes nothing.
 use native.Mathlib.Omega.{arith}
-use Rattle.job.specs.Fits.{kindWord}
+use Rattle.fields.specs.Fits.{kindWord}
 use borrow.Author.Needs.{needs}
 use Rattle.job.proofs.spare.kind_word.Statement.{statement}
 use Rattle.job.proofs.spare.kind_word.Tie as tie

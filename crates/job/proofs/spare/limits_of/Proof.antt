@@ -1,6 +1,6 @@
 -- `limits_of` meets its contract: it is the definition. Assumes nothing.
 use mathlib.Core.Path.{refl}
-use Rattle.job.specs.Fits.{limitsOf}
+use Rattle.fields.specs.Fits.{limitsOf}
 use Rattle.job.proofs.spare.limits_of.Statement.{statement}
 use Rattle.job.proofs.spare.limits_of.Tie as tie
 

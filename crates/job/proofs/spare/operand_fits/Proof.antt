@@ -1,6 +1,6 @@
 -- `operand_fits` meets its contract: by the limit of the kind. Assumes nothing.
 use mathlib.Core.Path.{sym, _∙_}
-use Rattle.job.proofs.Fits.{limited, unlimited}
+use Rattle.fields.proofs.Fits.{limited, unlimited}
 use borrow.Author.Needs.{needs}
 use Rattle.job.proofs.spare.operand_fits.Statement.{statement}
 use Rattle.job.proofs.spare.operand_fits.Tie as tie

@@ -1,7 +1,7 @@
 -- `right_fits` meets its contract: the tests in order. Assumes nothing.
 use mathlib.Core.Path.{sym}
 use borrow.Author.Tests.{eq-eqb, ne-eqb}
-use Rattle.job.specs.Fits.{rightFits}
+use Rattle.fields.specs.Fits.{rightFits}
 use borrow.Author.Needs.{needs}
 use Rattle.job.proofs.spare.right_fits.Statement.{statement}
 use Rattle.job.proofs.spare.right_fits.Tie as tie

@@ -2,7 +2,7 @@
 use mathlib.Core.Path.{refl}
 use mathlib.Core.Logic.{⊎-elim}
 use Rattle.rules.specs.Script.{rows}
-use Rattle.job.specs.Fits.{targetLimit}
+use Rattle.fields.specs.Fits.{targetLimit}
 use borrow.Author.Needs.{needs}
 use Rattle.job.proofs.spare.target_limits.Statement.{statement}
 use Rattle.job.proofs.spare.target_limits.Tie as tie

@@ -1,0 +1,2 @@
+-- What a step and a run promise.
+pub mod Steps
