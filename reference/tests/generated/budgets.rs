@@ -10,7 +10,7 @@ use reference::mistake::Mistake;
 use reference::rounds::{Reply, Roof};
 use reference::run::{self, Limits, Outcome};
 
-const SEEDS: u64 = 4_000;
+const SEEDS: u64 = 2_000;
 
 /// The outcomes of a seed's case under its two budgets.
 fn outcomes(seed: u64, mistake: Mistake) -> [Outcome; 2] {

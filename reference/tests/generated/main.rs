@@ -14,14 +14,17 @@ use reference::generate::{self, Case, Pair};
 
 const SEEDS: u64 = 20_000;
 
+/// Pairs are dear to make, and each way to leak shows in the first few thousand.
+const PAIRS: u64 = 8_000;
+
 /// The cases of all seeds, made once.
 fn cases() -> &'static [Case] {
     static CASES: OnceLock<Vec<Case>> = OnceLock::new();
     CASES.get_or_init(|| (0..SEEDS).map(generate::case).collect())
 }
 
-/// The pairs of all seeds, made once.
+/// The pairs, made once.
 fn pairs() -> &'static [Pair] {
-    static PAIRS: OnceLock<Vec<Pair>> = OnceLock::new();
-    PAIRS.get_or_init(|| (0..SEEDS).map(generate::pair).collect())
+    static MADE: OnceLock<Vec<Pair>> = OnceLock::new();
+    MADE.get_or_init(|| (0..PAIRS).map(generate::pair).collect())
 }

@@ -6,7 +6,7 @@ use reference::print;
 use reference::public::{self, Leak};
 use reference::run::{self, Outcome};
 
-use super::{pairs, SEEDS};
+use super::{pairs, PAIRS};
 
 #[test]
 fn pairs_are_accepted_alike_and_agreeing() {
@@ -58,10 +58,10 @@ fn pairs_are_not_idle() {
         finished +=
             (left_run.ending == right_run.ending && left_run.ending == Ending::Finished) as u64;
     }
-    println!("of {SEEDS} pairs: other hidden nodes {nodes}, other hidden values {values}");
+    println!("of {PAIRS} pairs: other hidden nodes {nodes}, other hidden values {values}");
     println!("lines in both {lines}, other endings {endings}, both finished {finished}");
     for count in [nodes, values, lines, endings, finished] {
-        assert!(count > SEEDS / 10);
+        assert!(count > PAIRS / 10);
     }
 }
 
@@ -125,6 +125,6 @@ fn readers_come_up() {
         &|reader| reader.count_ones() > 1,
     ];
     for wanted in kinds {
-        assert!(count(wanted) > SEEDS / 50);
+        assert!(count(wanted) > PAIRS / 50);
     }
 }
