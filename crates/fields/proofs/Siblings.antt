@@ -11,12 +11,13 @@ use lib.ListN.{length, getD, set, length-set, getD-replicate, replicate}
 use lib.Seq.{getD-set-same, getD-set-other}
 use borrow.Author.Tests.{eqb-true, eqb-false, eq-eqb, ne-eqb, lt-ltb, le-ltb, ltb-false}
 use Rattle.rules.specs.Limits.{maxNodes, noParent}
-use Rattle.rules.specs.Level.{notAbove}
+use Rattle.rules.specs.Level.{public, notAbove}
 use Rattle.rules.specs.Check.{parent, existence, structure, parentRule, nearest, leftRule, childRule}
 use Rattle.rules.proofs.Tests.{Test, holds, fails, test}
 use Rattle.rules.proofs.Nearest.{near-below}
 use Rattle.rules.proofs.Accepted.{parent-before}
-use Rattle.fields.specs.Siblings.{Rooted, Lasts, child, behind, left, beside}
+use Rattle.fields.specs.Fits.{labelIn, nodeIn}
+use Rattle.fields.specs.Siblings.{Rooted, Lasts, child, behind, left, beside, ownRule}
 
 module _ (b : List ℕ) (base p : ℕ) where
   other : p < maxNodes → (k : ℕ) → k ≤ p → parentRule b base k ≡ true → parent b base k ≡ p → ⊥
@@ -137,3 +138,14 @@ module _ (b : List ℕ) (base i : ℕ) where
       go : (w : Option ℕ) → (bounded && leftRule b base i w) ≡ (bounded && notAbove (existence b base (Option·getD w (parent b base i))) (existence b base i))
       go none = again (notAbove (existence b base (parent b base i)) (existence b base i)) (notAbove (existence b base i) (structure b base (parent b base i)))
       go (some j) = refl
+
+-- check 6 by what it asks of a node alone and by its parent and left sibling
+parts : (l e r c : Bool) → (l && cond e r c) ≡ ((l && cond e r true) && cond e true c)
+parts false e r c = refl
+parts true true true c = refl
+parts true true false c = refl
+parts true false r c = refl
+
+pub rule-parts : (top : ℕ) (b : List ℕ) (base i : ℕ) → nodeIn top b base i ≡ (ownRule top b base i && cond (eqb i 0) true (childRule b base i))
+unfolding nodeIn ownRule
+rule-parts top b base i = parts (labelIn top b base i) (eqb i 0) (notAbove (existence b base i) public) (childRule b base i)

@@ -3,4 +3,3 @@ pub mod Layout
 pub mod Siblings
 pub mod Fields
 pub mod Fits
-pub mod Hanging

@@ -1,6 +1,5 @@
 // What a job's bytes hold: its sections, the fields of variables, nodes and script records, and the check of each.
 pub mod nodes;
-pub mod preorder;
 pub mod reads;
 pub mod records;
 pub mod rows;

@@ -2,6 +2,7 @@
 pub mod Stack
 pub mod Words
 pub mod Fill
+pub mod Ways
 pub mod Scans
 pub mod Answers
 pub mod FollowOns

@@ -23,7 +23,7 @@ use Rattle.job.specs.declared.checks.Scan.{Scan}
 use Rattle.job.specs.declared.checks.Scan.the-variants.{Faulty, Passed}
 use Rattle.fields.specs.Fields.{knownRule}
 use Rattle.fields.specs.Fits.{variableIn, labelIn, nodeIn, recordFits}
-use Rattle.fields.specs.Hanging.{AllFit}
+use Rattle.job.specs.Hanging.{AllFit}
 use Rattle.job.specs.Answer.{editionOf, highestOf, recordRules, asked, scanOf, scanned}
 use Rattle.fields.proofs.Fits.{same-tests}
 

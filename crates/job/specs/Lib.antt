@@ -1,4 +1,5 @@
 -- What the contracts of this crate cite besides the rules.
+pub mod Hanging
 pub mod Parts
 pub mod Plan
 pub mod Answer

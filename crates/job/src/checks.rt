@@ -2,11 +2,11 @@
 // 12, for 7 with 12, and for 8; where a pass finds a record that fails, its checks are made one by one.
 use crate::blocks;
 use crate::plan::WORDS;
+use crate::preorder;
 use crate::spare;
 use fields::nodes;
 use fields::nodes::order_ok;
 use fields::nodes::parent_ok;
-use fields::preorder;
 use fields::records;
 use fields::sections::Layout;
 use fields::sections::counts_ok;

@@ -3,6 +3,7 @@ mod blocks;
 mod checks;
 mod follow_on;
 pub mod plan;
+mod preorder;
 mod spare;
 
 pub use checks::Checked;

@@ -13,7 +13,7 @@ use Rattle.rules.specs.Rounds
 use Rattle.rules.specs.Rounds.{Newcomer, Event, arrives, turn, Reply, joins, goesOn, idle, replyAt}
 use Rattle.rules.specs.Budget.{Raised, AllRaised}
 use Rattle.rules.proofs.Computed.{computed}
-use Rattle.rules.proofs.Traps.{Seen, seen}
+use Rattle.rules.proofs.Pairs.{Seen, seen}
 
 -- print value, print 4, print 5
 pub three : List ℕ

@@ -11,7 +11,7 @@ use Rattle.rules.specs.Run.{noVariable}
 use Rattle.rules.specs.Trials.{usual, one, bare, number, v, value, children, guarded, withPlaces, labelled, leaf, over, same}
 use Rattle.rules.specs.History.{Store, FollowOn, follow, history, afterAll, afterJob, SameScripts}
 use Rattle.rules.proofs.Computed.{computed}
-use Rattle.rules.proofs.Traps.{Seen, seen}
+use Rattle.rules.proofs.Pairs.{Seen, seen}
 use Rattle.rules.proofs.Witness
 
 -- ending, index and lines

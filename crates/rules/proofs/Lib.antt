@@ -1,7 +1,10 @@
 -- Laws of the definitions, the trials, and the secrecy theorem.
 pub mod Computed
 pub mod Trials
+pub mod Pairs
 pub mod Traps
+pub mod BackTraps
+pub mod PartyTraps
 pub mod Overflow
 pub mod Tests
 pub mod Number

@@ -1,7 +1,7 @@
 -- `node_ok` meets its contract: what is asked of the node alone, then of it by its parent and left sibling. Assumes nothing.
 use mathlib.Core.Path.{sym, _∙_}
 use borrow.Author.Tests.{eq-eqb, ne-eqb, not-true, not-false}
-use Rattle.fields.proofs.Ways.{rule-parts}
+use Rattle.fields.proofs.Siblings.{rule-parts}
 use borrow.Author.Needs.{needs}
 use Rattle.fields.proofs.nodes.node_ok.Statement.{statement}
 use Rattle.fields.proofs.nodes.node_ok.Tie as tie

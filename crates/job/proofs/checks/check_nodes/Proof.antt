@@ -7,7 +7,7 @@ use Rattle.rules.specs.Check.{requireEach, requireIf, orderRule, nodeRuleIn}
 use Rattle.rules.proofs.Search.{all-pass}
 use Rattle.rules.proofs.Checks.{stopped, through}
 use Rattle.fields.specs.Siblings.{Linked}
-use Rattle.fields.specs.Hanging.{AllFit}
+use Rattle.job.specs.Hanging.{AllFit}
 use Rattle.job.specs.Answer.{answer, editionOf, highestOf, ruleOf, countOf, scanned, fromScript, fromNodes}
 use Rattle.job.proofs.Answers.{plans-not, plans-along}
 use Rattle.job.proofs.Scans.{was-faulty, was-passed, asked-stopped, asked-through, fit-clean, fit-through}

@@ -6,12 +6,12 @@ use Prim.Native.Nat.{ℕ, suc, _-_, _≤_, _<_}
 use native.Mathlib.Omega.{arith}
 use Rattle.rules.specs.Check.{parent}
 use Rattle.rules.proofs.Accepted.{parent-before}
 use Rattle.fields.specs.Siblings.{Rooted}
 use Rattle.fields.proofs.Siblings.{beside-is}
-use Rattle.fields.proofs.Ways.{On, on-start, on-up, on-order, on-left, on-first}
+use Rattle.job.proofs.Ways.{On, on-start, on-up, on-order, on-left, on-first}
 use borrow.Author.Needs.{needs}
-use Rattle.fields.proofs.preorder.left_of.Statement.{statement}
-use Rattle.fields.proofs.preorder.left_of.Tie as tie
+use Rattle.job.proofs.preorder.left_of.Statement.{statement}
+use Rattle.job.proofs.preorder.left_of.Tie as tie
 
 abbrev Inv-loop : tie.InvT-loop
 Inv-loop job base i p k₀ k = (p ≤ k) × (k < i) × (k ≡ p → suc p ≡ i) × On job base (i - 1) k

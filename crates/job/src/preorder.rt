@@ -1,13 +1,13 @@
 // The checks 13, 6 and 12 of the nodes in one pass, as most jobs pass them: on the way up from the record before a node stands its parent, and right below that its left
 // sibling. A job that does not pass is put to the checks one by one.
-use crate::nodes::child_ok;
-use crate::nodes::clean_ok;
-use crate::nodes::own_ok;
-use crate::nodes::parent_at;
+use fields::nodes::child_ok;
+use fields::nodes::clean_ok;
+use fields::nodes::own_ok;
+use fields::nodes::parent_at;
 ghost use mathlib.Core.Path.{_≡_};
 ghost use mathlib.Core.Bool.{true};
 ghost use Rattle.fields.specs.Siblings.{Linked, Rooted};
-ghost use Rattle.fields.specs.Hanging.{Hangs, Ordered, Fit, AllFit};
+ghost use Rattle.job.specs.Hanging.{Hangs, Ordered, Fit, AllFit};
 
 // A node in order, with its left sibling, or with its parent where it has none; or one that is not in order.
 pub enum Hung {

@@ -3,13 +3,13 @@ use mathlib.Core.Path.{refl, sym, subst, _∙_}
 use borrow.Author.Tests.{eq-eqb, ne-eqb, not-false}
 use Rattle.rules.specs.Check.{orderRule}
 use Rattle.rules.proofs.Tests.{clash}
-use Rattle.fields.specs.declared.preorder.Hung.{Hung}
-use Rattle.fields.specs.declared.preorder.Hung.the-variants.{InOrder}
-use Rattle.fields.specs.Hanging.{Hangs}
-use Rattle.fields.proofs.Ways.{rule-parts}
+use Rattle.job.specs.declared.preorder.Hung.{Hung}
+use Rattle.job.specs.declared.preorder.Hung.the-variants.{InOrder}
+use Rattle.job.specs.Hanging.{Hangs}
+use Rattle.fields.proofs.Siblings.{rule-parts}
 use borrow.Author.Needs.{needs}
-use Rattle.fields.proofs.preorder.node_fits.Statement.{statement}
-use Rattle.fields.proofs.preorder.node_fits.Tie as tie
+use Rattle.job.proofs.preorder.node_fits.Statement.{statement}
+use Rattle.job.proofs.preorder.node_fits.Tie as tie
 
 hangs : (c : tie.After-found) → let a = c .before .before .before .before .before .before .before .before .before .args in Hangs (a .job .now) (a .base) (a .i) (InOrder (c .found .given .0 .0))
 hangs c =

@@ -5,11 +5,11 @@ use native.Mathlib.Omega.{arith}
 use native.Mathlib.Numerals.{add-one}
 use borrow.Author.Tests.{not-false}
 use Rattle.rules.proofs.Tests.{clash}
-use Rattle.fields.specs.Hanging.{AllFit}
-use Rattle.fields.proofs.Ways.{fit-next}
+use Rattle.job.specs.Hanging.{AllFit}
+use Rattle.job.proofs.Ways.{fit-next}
 use borrow.Author.Needs.{needs}
-use Rattle.fields.proofs.preorder.all_fit.Statement.{statement}
-use Rattle.fields.proofs.preorder.all_fit.Tie as tie
+use Rattle.job.proofs.preorder.all_fit.Statement.{statement}
+use Rattle.job.proofs.preorder.all_fit.Tie as tie
 
 abbrev Inv-loop : tie.InvT-loop
 Inv-loop job base count top i₀ i = AllFit top job base i

@@ -4,10 +4,10 @@ use mathlib.Core.Bool.{true}
 use mathlib.Core.List.{List}
 use Prim.Native.Nat.{ℕ, _<_}
 use Rattle.rules.specs.Check.{orderRule, nodeClean}
-use Rattle.fields.specs.declared.preorder.Hung.{Hung}
-use Rattle.fields.specs.declared.preorder.Hung.the-variants.{InOrder, Astray}
+use Rattle.job.specs.declared.preorder.Hung.{Hung}
+use Rattle.job.specs.declared.preorder.Hung.the-variants.{InOrder, Astray}
 use Rattle.fields.specs.Fits.{nodeIn}
 use Rattle.fields.specs.Siblings.{beside}
 
 -- what is known of node i; of one that is out of order nothing
 abbrev pub Hangs : List ℕ → ℕ → ℕ → Hung → Type 0

@@ -9,14 +9,12 @@ use native.Mathlib.Omega.{arith}
 use native.Mathlib.Decide.{ℕ-discrete}
 use lib.Dec.{eqb}
 use borrow.Author.Tests.{eq-eqb, ne-eqb}
-use Rattle.rules.specs.Level.{public, notAbove}
 use Rattle.rules.specs.Check.{parent, existence, parentRule, nearest, childRule, orderRule}
 use Rattle.rules.proofs.Accepted.{parent-before}
 use Rattle.rules.proofs.Ordered.{Up, here, above, up-up, up-path, path-is-up}
-use Rattle.fields.specs.Fits.{labelIn, nodeIn}
-use Rattle.fields.specs.Siblings.{Rooted, ownRule}
-use Rattle.fields.specs.Hanging.{Ordered, Fit, AllFit}
+use Rattle.fields.specs.Siblings.{Rooted}
+use Rattle.job.specs.Hanging.{Ordered, Fit, AllFit}
 use Rattle.fields.proofs.Siblings.{none-before, near-here, near-past}
 
 module _ (b : List ℕ) (base : ℕ) where
   -- a is record j or an ancestor of it
@@ -90,14 +88,3 @@ fit-next top b base i f g = record { each = λ k l. pick k l (ℕ-discrete k i) 
     pick : (k : ℕ) → k < suc i → Dec (k ≡ i) → Fit top b base k
     pick k l (yes e) = rw e g
     pick k l (no e) = f .each k (omega arith)
-
--- check 6 by what it asks of a node alone and by its parent and left sibling
-parts : (l e r c : Bool) → (l && cond e r c) ≡ ((l && cond e r true) && cond e true c)
-parts false e r c = refl
-parts true true true c = refl
-parts true true false c = refl
-parts true false r c = refl
-
-pub rule-parts : (top : ℕ) (b : List ℕ) (base i : ℕ) → nodeIn top b base i ≡ (ownRule top b base i && cond (eqb i 0) true (childRule b base i))
-unfolding nodeIn ownRule
-rule-parts top b base i = parts (labelIn top b base i) (eqb i 0) (notAbove (existence b base i) public) (childRule b base i)
