@@ -1,4 +1,4 @@
--- The same of an if that comes back, of left sibling and of last child. Assumes nothing.
+-- Six ways to leak more: of an if that comes back, of left sibling and of last child. By computation. Assumes nothing.
 use mathlib.Core.Path.{_≡_, refl}
 use mathlib.Core.List.{List, [], _∷_, _++_, map}
 use lib.IntN.{pos}

@@ -1,4 +1,4 @@
--- The same with sets of parties. Assumes nothing.
+-- Pairs of jobs with sets of parties: who must not see a line, and who may. By computation. Assumes nothing.
 use mathlib.Core.Path.{_≡_, refl}
 use Prim.Native.Nat.{ℕ}
 use mathlib.Core.List.{List, [], _∷_, _++_, map}

@@ -1,4 +1,4 @@
--- Thirteen ways to leak, each as two jobs that differ in what the house owns, with what the rules give. By computation. Where a rule is loosened,
+-- Twelve ways to leak, each as two jobs that differ in what the house owns, with what the rules give. By computation. Where a rule is loosened,
 -- both runs of its pair finish and their boards differ. Then a pair that counts under cover and finishes. Assumes nothing.
 use mathlib.Core.Path.{_≡_, refl}
 use Prim.Native.Nat.{ℕ}

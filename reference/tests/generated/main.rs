@@ -14,7 +14,7 @@ use reference::generate::{self, Case, Pair};
 
 const SEEDS: u64 = 20_000;
 
-/// Pairs are dear to make, and each way to leak shows in the first few thousand.
+/// Pairs are dear to make, and each way to leak shows among these.
 const PAIRS: u64 = 8_000;
 
 /// The cases of all seeds, made once.
