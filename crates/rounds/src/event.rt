@@ -19,7 +19,8 @@ ghost use lib.ListN.{length};
 ghost use Rattle.rules.specs.Limits.{maxBytes, maxVariables, maxRuns};
 ghost use Rattle.actions.specs.Marks.{marksSize};
 ghost use Rattle.frames.specs.Bounds.{Fits};
-ghost use Rattle.turns.specs.Pool.{planSize, tableSize, areaSize, parts, Open, Housed};
+ghost use Rattle.places.specs.Pieces.{planSize};
+ghost use Rattle.turns.specs.Pool.{tableSize, areaSize, parts, Open, Housed};
 
 // The slices of eight parts that the runs are lent.
 pub const JOBS: usize = MAX_BYTES * MAX_RUNS;

@@ -42,18 +42,18 @@ use Rattle.monitor.specs.Promises.{told, toldBy, Tree, Ran}
 use Rattle.monitor.specs.Starting.{AdmitsJob, Begun, asLent}
 use Rattle.monitor.specs.Starting.{frameOf, Room}
 use Rattle.monitor.proofs.Answered.{begun}
-use Rattle.turns.specs.declared.queue.Queue.{Queue}
+use Rattle.places.specs.declared.queue.Queue.{Queue}
 use Rattle.turns.specs.declared.pool.Place.{Place}
 use Rattle.turns.specs.declared.pool.Pool.{Pool}
 use Rattle.turns.specs.declared.pool.After.{After}
 use Rattle.turns.specs.declared.pool.Reply.the-variants.{Idle, Joins, Answers, GoesOn}
 use Rattle.turns.specs.declared.turn.Turned.the-variants as Turned
-use Rattle.turns.specs.Pieces.{piece, Beside, Filled}
-use Rattle.turns.specs.Queue.{Whole, ordered, front, firstFree, atBack, takenOff, movedBack}
+use Rattle.places.specs.Pieces.{planSize, piece, Beside, Filled}
+use Rattle.places.specs.Queue.{Whole, ordered, front, firstFree, atBack, takenOff, movedBack}
 use Rattle.turns.specs.Turn.{Shown, Freshens, TakesTurn}
-use Rattle.turns.specs.Pool.{planSize, tableSize, areaSize, Parts, parts, Long, Elsewhere, heldAt, slicesAt, marksAt, Sized, Ready, Has, InOrder, blank, placeAt, Houses, Housed, withRunning, stepsOf, toldReply, Joined, Passed, Left, comer, Arrives, Ended as Leaves, TakesTurns, Open, Shows}
-use Rattle.turns.proofs.Orders.{ordered-length, ordered-front, rest-apart, free-apart, ordered-within, rest-within, moved-cons}
-use Rattle.turns.proofs.Cuts.{piece-length, beside-same}
+use Rattle.turns.specs.Pool.{tableSize, areaSize, Parts, parts, Long, Elsewhere, heldAt, slicesAt, marksAt, Sized, Ready, Has, InOrder, blank, placeAt, Houses, Housed, withRunning, stepsOf, toldReply, Joined, Passed, Left, comer, Arrives, Ended as Leaves, TakesTurns, Open, Shows}
+use Rattle.places.proofs.Orders.{ordered-length, ordered-front, rest-apart, free-apart, ordered-within, rest-within, moved-cons}
+use Rattle.places.proofs.Cuts.{piece-length, beside-same}
 
 -- places in order
 

@@ -14,10 +14,10 @@ use Rattle.interpreter.specs.Steps.{held, Startable}
 use Rattle.monitor.specs.Starting.{Room}
 use Rattle.turns.specs.declared.pool.Place.{Place}
 use Rattle.turns.specs.declared.turn.Turned.{Turned}
-use Rattle.turns.specs.Pieces.{piece, Beside}
+use Rattle.places.specs.Pieces.{planSize, piece, Beside}
 use Rattle.turns.specs.Turn.{Freshens, TakesTurn}
-use Rattle.turns.specs.Pool.{planSize, tableSize, areaSize, Parts, parts, Elsewhere, heldAt, slicesAt, marksAt, Ready}
-use Rattle.turns.proofs.Cuts.{Cut, mid, put, mid-is, piece-put, beside, beside-same}
+use Rattle.turns.specs.Pool.{tableSize, areaSize, Parts, parts, Elsewhere, heldAt, slicesAt, marksAt, Ready}
+use Rattle.places.proofs.Cuts.{Cut, mid, put, mid-is, piece-put, beside, beside-same}
 
 -- a turn
 module _ (i : ℕ) (r : Place) (jobs plans levels words : List ℕ) (values : List ℤ) (lines marks : List ℕ) (j₀ j₁ p₀ p₁ v₀ v₁ w₀ w₁ b₀ b₁ m₀ m₁ : ℕ)

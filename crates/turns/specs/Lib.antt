@@ -1,5 +1,3 @@
--- What a turn of one run, the queue, and newcomers and turns over eight places promise.
-pub mod Queue
+-- What a turn of one run, and newcomers and turns over eight places promise.
 pub mod Turn
-pub mod Pieces
 pub mod Pool

@@ -23,14 +23,11 @@ use Rattle.turns.specs.declared.pool.Pool.{Pool}
 use Rattle.turns.specs.declared.pool.After.{After}
 use Rattle.turns.specs.declared.pool.Reply.{Reply}
 use Rattle.turns.specs.declared.pool.Reply.the-variants.{Idle, Joins, Answers, GoesOn}
-use Rattle.turns.specs.Pieces.{piece, Beside}
-use Rattle.turns.specs.Queue.{Whole, ordered, front, firstFree, atBack, takenOff, movedBack}
+use Rattle.places.specs.Pieces.{planSize, piece, Beside}
+use Rattle.places.specs.Queue.{Whole, ordered, front, firstFree, atBack, takenOff, movedBack}
 use Rattle.turns.specs.Turn.{Shown}
 
--- the words of a plan, of the largest table, and the bytes of 65,535 lines
-abbrev pub planSize : ℕ
-planSize = 1025
-
+-- the words of the largest table, and the bytes of 65,535 lines
 abbrev pub tableSize : ℕ
 tableSize = 5120
 

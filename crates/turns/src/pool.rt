@@ -1,7 +1,5 @@
 // Eight places, each with room for one run, in slices of eight parts: newcomers and turns. What is in the parts of a place is written only where a
 // newcomer takes the place, or its run has its turn.
-use super::queue;
-use super::queue::Queue;
 use super::turn::Turned;
 use super::turn::fresh;
 use super::turn::turn_of;
@@ -16,6 +14,9 @@ use job::plan;
 use monitor::Outcome;
 use monitor::admit;
 use monitor::frame_of;
+use places::parts::keep;
+use places::queue;
+use places::queue::Queue;
 use rules::limits::MAX_BYTES;
 use rules::limits::MAX_RUNS;
 use rules::limits::MAX_VARIABLES;
@@ -29,10 +30,10 @@ ghost use Rattle.rules.specs.Limits.{maxBytes, maxVariables};
 ghost use Rattle.rules.specs.Limits.{maxRuns};
 ghost use Rattle.actions.specs.Marks.{marksSize};
 ghost use Rattle.monitor.specs.Starting.{Room};
-ghost use Rattle.turns.specs.Pieces.{piece, Beside, Filled};
-ghost use Rattle.turns.specs.Queue.{Whole, firstFree};
+ghost use Rattle.places.specs.Pieces.{piece, Beside};
+ghost use Rattle.places.specs.Queue.{Whole, firstFree};
 ghost use Rattle.turns.specs.Turn.{Freshens, TakesTurn};
-ghost use Rattle.turns.specs.Pool.{planSize, tableSize, areaSize, parts, Parts, Long, Elsewhere, heldAt, slicesAt, Sized, Ready, Houses, Housed, Open, withRunning, stepsOf, refused, Joined, Passed, Left, comer, Arrives, TakesTurns};
+ghost use Rattle.turns.specs.Pool.{tableSize, areaSize, parts, Parts, Long, Elsewhere, heldAt, slicesAt, Sized, Ready, Houses, Housed, Open, withRunning, stepsOf, refused, Joined, Passed, Left, comer, Arrives, TakesTurns};
 
 // What is kept of a run beside its parts: the name that it came with, how many bytes its job has and how many lines it was lent, its budget, and where it
 // stands.
@@ -114,44 +115,7 @@ pub fn empty() -> Pool
     }
 }
 
-// Copies one slice to another of the same length.
-fn copy_bytes(from: &[u8], to: &mut [u8])
-    requires { ⌜ length (now from) ≡ length (now to) ⌝ }
-    ensures { λ _. ⌜ now (to .exit) ≡ now (from .entry) ⌝ }
-{
-    let mut i = 0;
-    while i < from.len() {
-        to[i] = from[i];
-        i += 1;
-    }
-}
-
-fn copy_words(from: &[u32], to: &mut [u32])
-    requires { ⌜ length (now from) ≡ length (now to) ⌝ }
-    ensures { λ _. ⌜ now (to .exit) ≡ now (from .entry) ⌝ }
-{
-    let mut i = 0;
-    while i < from.len() {
-        to[i] = from[i];
-        i += 1;
-    }
-}
-
-// A newcomer's job and its plan, into the parts of a place.
-fn keep(i: usize, job: &[u8], script: &[u32; plan::WORDS], jobs: &mut [u8], plans: &mut [u32])
-    requires { ⌜ (i < maxRuns) × (length (now job) ≤ maxBytes) × (length (now jobs) ≡ maxBytes * maxRuns) × (length (now plans) ≡ planSize * maxRuns) ⌝ }
-    ensures { λ _. ⌜ Filled maxBytes i (now (job .entry)) (now (jobs .entry)) (now (jobs .exit))
-        × Filled planSize i (now (script .entry)) (now (plans .entry)) (now (plans .exit)) × (length (now (script .entry)) ≡ planSize) ⌝ }
-{
-    let a = MAX_BYTES * i;
-    let e = a + job.len();
-    copy_bytes(job, &mut jobs[a..e]);
-    let s = plan::WORDS * i;
-    let t = s + plan::WORDS;
-    copy_words(script, &mut plans[s..t]);
-}
-
-// Its variables and its tree.
+// A newcomer's variables and its tree, in the parts of a place.
 fn fresh_at(
     i: usize,
     job: &[u8],

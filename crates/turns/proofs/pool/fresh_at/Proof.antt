@@ -7,7 +7,7 @@ use borrow.Rule.Slice.PartMut.{mid-len}
 use Rattle.rules.specs.Limits.{maxVariables}
 use Rattle.actions.specs.Marks.{marksSize}
 use Rattle.turns.specs.Pool.{tableSize}
-use Rattle.turns.proofs.Cuts.{Cut}
+use Rattle.places.proofs.Cuts.{Cut, inside}
 use lib.ListN.{length}
 use Rattle.turns.proofs.Places.{room-there, fresh-there}
 use borrow.Author.Needs.{needs}
@@ -26,7 +26,7 @@ fresh-requires c κs =
     let v = p .2 in
     let y = p .3 in
     let m = p .4 in
-    let im : marksSize * i + marksSize ≤ length (c .before .before .before .before .before .before .before .before .args .marks .now) = omega (arith, l, m) in
+    let im : marksSize * i + marksSize ≤ length (c .before .before .before .before .before .before .before .before .args .marks .now) = inside marksSize i marksSize _ l (le-refl _) m in
     let w = mid-len (marksSize * i) (marksSize * i + marksSize) (c .before .before .before .before .before .before .before .before .args .marks .now) im in
     (room-there i _ _ _ (c .before .before .before .before .before .before .before .before .args .marks .now) _ _ _ _ _ _ cv cw cm _ _ (p .5), omega (arith, w))
 
@@ -42,12 +42,12 @@ returns c =
     let v = p .2 in
     let y = p .3 in
     let m = p .4 in
-    let iw : tableSize * i + tableSize ≤ length (c .before .before .before .before .before .before .before .before .before .before .before .before .before .before .before .before .args .words .now) = omega (arith, l, x) in
-    let il : maxVariables * i + maxVariables ≤ length (c .before .before .before .before .before .before .before .before .before .before .before .before .before .before .before .before .args .levels .now) = omega (arith, l, v) in
-    let iv : maxVariables * i + maxVariables ≤ length (c .before .before .before .before .before .before .before .before .before .before .before .before .before .before .before .before .args .values .now) = omega (arith, l, y) in
-    let im : marksSize * i + marksSize ≤ length (c .before .before .before .before .before .before .before .before .before .before .before .before .before .before .before .before .args .marks .now) = omega (arith, l, m) in
+    let iw : tableSize * i + tableSize ≤ length (c .before .before .before .before .before .before .before .before .before .before .before .before .before .before .before .before .args .words .now) = inside tableSize i tableSize _ l (le-refl _) x in
+    let il : maxVariables * i + maxVariables ≤ length (c .before .before .before .before .before .before .before .before .before .before .before .before .before .before .before .before .args .levels .now) = inside maxVariables i maxVariables _ l (le-refl _) v in
+    let iv : maxVariables * i + maxVariables ≤ length (c .before .before .before .before .before .before .before .before .before .before .before .before .before .before .before .before .args .values .now) = inside maxVariables i maxVariables _ l (le-refl _) y in
+    let im : marksSize * i + marksSize ≤ length (c .before .before .before .before .before .before .before .before .before .before .before .before .before .before .before .before .args .marks .now) = inside marksSize i marksSize _ l (le-refl _) m in
     fresh-there i _ _ _ _ _ _ _ _ _ _ cv cw cm _ _ _ _ _ _ _ _ (c .before .before .before .before .before .before .before .fresh .ensures) iw il iv im (c .before .before .before .before .before .before .words .given .0 ∙ mid-len _ _ _ iw)
     (c .before .before .before .before .levels .given .0 ∙ mid-len _ _ _ il) (c .before .before .values .given .0 ∙ mid-len _ _ _ iv) (c .before .marks .given .0 ∙ mid-len _ _ _ im)
 
 pub fresh-at-spec : {M : Type 1} → statement M
-fresh-at-spec = tie.close (tie.spec (λ c. search needs) (λ c. search needs) (λ c. search needs) (λ c. search needs) (λ c. search needs) (λ c. search needs) (λ c. search needs) (λ c. search needs) (λ c. search needs) (λ c. search needs) (λ c. search needs) (λ c. search needs) (λ c. search needs) (λ c. search needs) (λ c. search needs) (λ c. search needs) (λ c. search needs) (λ c. search needs) (λ c. search needs) (λ c. search needs) (λ c. search needs) fresh-requires (λ c. search needs) (λ c. search needs) (λ c. search needs) (λ c. search needs) returns)
+fresh-at-spec = tie.close (tie.spec (λ c. search needs) (λ c. search needs) (λ c. search needs) (λ c. search needs) (λ c. search needs) (λ c. search needs) (λ c. search needs) (λ c. search needs) (λ c. search needs) (λ c. inside tableSize _ tableSize _ (c .before .before .before .before .pre .0) (le-refl _) (c .before .before .before .before .pre .1)) (λ c. search needs) (λ c. search needs) (λ c. inside maxVariables _ maxVariables _ (c .before .before .before .before .before .pre .0) (le-refl _) (c .before .before .before .before .before .pre .2)) (λ c. search needs) (λ c. search needs) (λ c. search needs) (λ c. inside maxVariables _ maxVariables _ (c .before .before .before .before .before .before .pre .0) (le-refl _) (c .before .before .before .before .before .before .pre .3)) (λ c. search needs) (λ c. search needs) (λ c. search needs) (λ c. inside marksSize _ marksSize _ (c .before .before .before .before .before .before .before .pre .0) (le-refl _) (c .before .before .before .before .before .before .before .pre .4)) fresh-requires (λ c. returns c .1 .long) (λ c. returns c .2 .long) (λ c. returns c .3 .long) (λ c. returns c .4 .long) returns)

@@ -6,8 +6,9 @@ use native.Mathlib.Nat.{le-refl}
 use borrow.Rule.Slice.PartMut.{mid-len}
 use Rattle.rules.specs.Limits.{maxBytes, maxVariables}
 use Rattle.actions.specs.Marks.{marksSize}
-use Rattle.turns.specs.Pool.{planSize, tableSize, areaSize}
-use Rattle.turns.proofs.Cuts.{Cut}
+use Rattle.places.specs.Pieces.{planSize}
+use Rattle.turns.specs.Pool.{tableSize, areaSize}
+use Rattle.places.proofs.Cuts.{Cut, inside}
 use Rattle.turns.proofs.Places.{startable-there, turn-there}
 use lib.ListN.{length}
 use borrow.Author.Needs.{needs}
@@ -47,12 +48,12 @@ returns c =
     let x = s .words in
     let y = s .values in
     let m = s .marks in
-    let iw : tableSize * i + tableSize ≤ length (c .before .before .before .before .before .before .before .before .before .before .before .before .before .before .before .before .before .before .before .before .before .before .before .args .words .now) = omega (arith, l, x) in
-    let iv : maxVariables * i + maxVariables ≤ length (c .before .before .before .before .before .before .before .before .before .before .before .before .before .before .before .before .before .before .before .before .before .before .before .args .values .now) = omega (arith, l, y) in
-    let ib : areaSize * i + 5 * r .capacity ≤ length (c .before .before .before .before .before .before .before .before .before .before .before .before .before .before .before .before .before .before .before .before .before .before .before .args .lines .now) = omega (arith, l, e, few) in
-    let im : marksSize * i + marksSize ≤ length (c .before .before .before .before .before .before .before .before .before .before .before .before .before .before .before .before .before .before .before .before .before .before .before .args .marks .now) = omega (arith, l, m) in
+    let iw : tableSize * i + tableSize ≤ length (c .before .before .before .before .before .before .before .before .before .before .before .before .before .before .before .before .before .before .before .before .before .before .before .args .words .now) = inside tableSize i tableSize _ l (le-refl _) x in
+    let iv : maxVariables * i + maxVariables ≤ length (c .before .before .before .before .before .before .before .before .before .before .before .before .before .before .before .before .before .before .before .before .before .before .before .args .values .now) = inside maxVariables i maxVariables _ l (le-refl _) y in
+    let ib : areaSize * i + 5 * r .capacity ≤ length (c .before .before .before .before .before .before .before .before .before .before .before .before .before .before .before .before .before .before .before .before .before .before .before .args .lines .now) = inside areaSize i (5 * r .capacity) _ l (omega (arith, few)) e in
+    let im : marksSize * i + marksSize ≤ length (c .before .before .before .before .before .before .before .before .before .before .before .before .before .before .before .before .before .before .before .before .before .before .before .args .marks .now) = inside marksSize i marksSize _ l (le-refl _) m in
     turn-there i r _ _ _ _ _ _ _ _ _ _ _ _ _ _ _ _ _ _ _ cj cp cv cw cb cm _ _ _ _ _ iw iv ib im (c .before .before .before .before .before .before .words .given .0 ∙ mid-len _ _ _ iw)
     (c .before .before .before .before .values .given .0 ∙ mid-len _ _ _ iv) (c .before .before .before .lines .given .0 ∙ mid-len _ _ _ ib) (c .before .marks .given .0 ∙ mid-len _ _ _ im) (c .before .before .before .before .before .before .before .turn-of .ensures)
 
 pub turn-at-spec : {M : Type 1} → statement M
-turn-at-spec = tie.close (tie.spec (λ c. search needs) (λ c. search needs) (λ c. search needs) (λ c. search needs) (λ c. search needs) (λ c. search needs) (λ c. search needs) (λ c. search needs) (λ c. search needs) (λ c. search needs) (λ c. search needs) (λ c. search needs) (λ c. search needs) (λ c. search needs) (λ c. search needs) (λ c. search needs) (λ c. search needs) (λ c. search needs) (λ c. search needs) (λ c. search needs) (λ c. search needs) (λ c. search needs) (λ c. search needs) (λ c. search needs) (λ c. search needs) (λ c. search needs) (λ c. search needs) (λ c. search needs) (λ c. search needs) (λ c. search needs) (λ c. search needs) (λ c. search needs) (λ c. search needs) (λ c. search needs) (λ c. search needs) (λ c. search needs) (λ c. search needs) (λ c. search needs) turn-of-requires (λ c. search needs) (λ c. search needs) (λ c. search needs) (λ c. search needs) returns)
+turn-at-spec = tie.close (tie.spec (λ c. search needs) (λ c. search needs) (λ c. search needs) (λ c. search needs) (λ c. search needs) (λ c. search needs) (λ c. search needs) (λ c. search needs) (λ c. search needs) (λ c. search needs) (λ c. search needs) (λ c. search needs) (λ c. search needs) (λ c. search needs) (λ c. search needs) (λ c. inside maxBytes _ _ _ (c .before .before .before .before .before .before .before .before .pre .0) (c .before .before .before .before .before .before .before .before .pre .1 .bytes) (c .before .before .before .before .before .before .before .before .pre .2 .jobs)) (λ c. search needs) (λ c. search needs) (λ c. search needs) (λ c. inside planSize _ _ _ (c .before .before .before .before .before .before .before .before .before .pre .0) (le-refl _) (c .before .before .before .before .before .before .before .before .before .pre .2 .plans)) (λ c. search needs) (λ c. search needs) (λ c. inside maxVariables _ _ _ (c .before .before .before .before .before .before .before .before .before .before .pre .0) (le-refl _) (c .before .before .before .before .before .before .before .before .before .before .pre .2 .levels)) (λ c. search needs) (λ c. search needs) (λ c. search needs) (λ c. inside tableSize _ _ _ (c .before .before .before .before .before .before .before .before .before .before .before .pre .0) (le-refl _) (c .before .before .before .before .before .before .before .before .before .before .before .pre .2 .words)) (λ c. search needs) (λ c. search needs) (λ c. search needs) (λ c. inside maxVariables _ _ _ (c .before .before .before .before .before .before .before .before .before .before .before .before .pre .0) (le-refl _) (c .before .before .before .before .before .before .before .before .before .before .before .before .pre .2 .values)) (λ c. search needs) (λ c. search needs) (λ c. let few = c .before .before .before .before .before .before .before .before .before .before .before .before .before .pre .1 .lines in inside areaSize _ _ _ (c .before .before .before .before .before .before .before .before .before .before .before .before .before .pre .0) (omega (arith, few)) (c .before .before .before .before .before .before .before .before .before .before .before .before .before .pre .3)) (λ c. search needs) (λ c. search needs) (λ c. search needs) (λ c. inside marksSize _ _ _ (c .before .before .before .before .before .before .before .before .before .before .before .before .before .before .pre .0) (le-refl _) (c .before .before .before .before .before .before .before .before .before .before .before .before .before .before .pre .2 .marks)) turn-of-requires (λ c. returns c .1 .words .long) (λ c. returns c .1 .values .long) (λ c. returns c .1 .lines .long) (λ c. returns c .1 .marks .long) returns)

@@ -1,0 +1,3 @@
+-- The queue of places, and slices of eight parts.
+pub mod Queue
+pub mod Pieces
