@@ -78,12 +78,12 @@ fn follow(
     budget: u64,
     places: usize,
     n: usize,
-    words: &mut [u32],
+    words: &mut [u32; WORDS],
     levels: &mut [u8],
     values: &mut [i32],
     lines: &mut [u8],
 ) -> Outcome
-    requires { ⌜ (5130 ≤ length (now words)) × (n ≤ length (now levels)) × (n ≤ length (now values)) ⌝ }
+    requires { ⌜ (n ≤ length (now levels)) × (n ≤ length (now values)) ⌝ }
 {
     follow_own(
         section,

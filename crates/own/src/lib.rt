@@ -16,6 +16,9 @@ use monitor::Outcome;
 // One record more than a table may have places, so that check 10 can be seen to fail.
 const OWN: usize = 513;
 
+// The words that they are copied into.
+pub const WORDS: usize = table::CELL * OWN;
+
 // How many of its own records a run with so many places lends.
 fn lending(places: usize) -> usize
     ensures { λ r. ⌜ r ≡ min places ownPlaces ⌝ }
@@ -69,9 +72,8 @@ pub fn run_own(
     levels: &mut [u8],
     values: &mut [i32],
     lines: &mut [u8],
-    words: &mut [u32],
+    words: &mut [u32; WORDS],
 ) -> Outcome
-    requires { ⌜ cellSize * ownPlaces ≤ length (now words) ⌝ }
     ensures { λ r. ⌜ Owned false (now (job .entry)) budget (min places ownPlaces)
         (lent (now (words .entry)) (now (levels .entry)) (now (values .entry)) (now (lines .entry)))
         (lent (now (words .exit)) (now (levels .exit)) (now (values .exit)) (now (lines .exit))) r ⌝ }
@@ -87,9 +89,8 @@ pub fn follow_own(
     levels: &mut [u8],
     values: &mut [i32],
     lines: &mut [u8],
-    words: &mut [u32],
+    words: &mut [u32; WORDS],
 ) -> Outcome
-    requires { ⌜ cellSize * ownPlaces ≤ length (now words) ⌝ }
     ensures { λ r. ⌜ Owned true (now (section .entry)) budget (min places ownPlaces)
         (lent (now (words .entry)) (now (levels .entry)) (now (values .entry)) (now (lines .entry)))
         (lent (now (words .exit)) (now (levels .exit)) (now (values .exit)) (now (lines .exit))) r ⌝ }

@@ -14,5 +14,5 @@ slice-aggregate-follow-own-2 c = sym (length-take-le _ _ (search needs))
 pub follow-spec : {M : Type 1} → statement M
 follow-spec =
     tie.close (tie.spec
-    (λ c. search needs) slice-aggregate-follow-own (λ c. search needs) slice-aggregate-follow-own-2 (λ c κs. search needs) (λ c. search needs)
+    (λ c. search needs) slice-aggregate-follow-own (λ c. search needs) slice-aggregate-follow-own-2 (λ c κs. search needs)
     (λ c. search needs) (λ c. search needs) (λ c. search needs) (λ c. search needs))
