@@ -45,7 +45,7 @@ pub fn halt(r: Running, stop: u8) -> Stepped
 }
 
 // The same run with another memory.
-pub fn with_memory(r: Running, m: Memory) -> Running
+pub(crate) fn with_memory(r: Running, m: Memory) -> Running
     ensures { λ n. ⌜ n ≡ withMemory r m ⌝ }
 {
     let mut next = r;

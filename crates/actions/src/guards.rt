@@ -31,7 +31,7 @@ pub fn top(g: Guards) -> u8
 }
 
 // One block more, with a context in it.
-pub fn push(g: Guards, inner: u8) -> Guards
+pub(crate) fn push(g: Guards, inner: u8) -> Guards
     ensures { λ r. ⌜ ((b : Block) (bs : List Block) → Holds g bs → length bs < maxDepth → inner ≡ context (b ∷ bs) → Holds r (b ∷ bs)) ⌝ }
 {
     Guards {
@@ -41,7 +41,7 @@ pub fn push(g: Guards, inner: u8) -> Guards
 }
 
 // One block less.
-pub fn pop(g: Guards) -> Guards
+pub(crate) fn pop(g: Guards) -> Guards
     ensures { λ r. ⌜ ((bs : List Block) → Holds g bs → Holds r (tail bs)) ⌝ }
 {
     Guards {

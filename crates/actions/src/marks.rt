@@ -35,7 +35,7 @@ pub fn clear(marks: &mut [u16])
 }
 
 // Whether any block remembers a node.
-pub fn any(marks: &[u16]) -> bool
+pub(crate) fn any(marks: &[u16]) -> bool
     requires { ⌜ marksSize ≤ length (now marks) ⌝ }
     ensures { λ r. ⌜ r ≡ ltb 0 (number (now (marks .entry)) countAt) ⌝ }
 {
@@ -43,7 +43,7 @@ pub fn any(marks: &[u16]) -> bool
 }
 
 // One block more, which remembers a place and a level.
-pub fn save(marks: &mut [u16], place: usize, level: u8)
+pub(crate) fn save(marks: &mut [u16], place: usize, level: u8)
     requires { ⌜ (marksSize ≤ length (now marks)) × (place < maxNodes) ⌝ }
     ensures { λ _. ⌜ now (marks .exit) ≡ saving (now (marks .entry)) place level ⌝ }
 {
@@ -85,7 +85,7 @@ fn one_less(x: u16) -> u16
 }
 
 // What the innermost block that comes back remembers.
-pub fn recall(marks: &[u16], places: usize) -> Saved
+pub(crate) fn recall(marks: &[u16], places: usize) -> Saved
     requires { ⌜ (marksSize ≤ length (now marks)) × (places ≤ maxNodes) ⌝ }
     ensures { λ r. ⌜ Recalls (now (marks .entry)) places (r .place) (r .level) ⌝ }
 {
@@ -109,7 +109,7 @@ pub fn recall(marks: &[u16], places: usize) -> Saved
 }
 
 // The innermost block that comes back has ended.
-pub fn drop(marks: &mut [u16])
+pub(crate) fn drop(marks: &mut [u16])
     requires { ⌜ marksSize ≤ length (now marks) ⌝ }
     ensures { λ _. ⌜ now (marks .exit) ≡ dropping (now (marks .entry)) ⌝ }
 {

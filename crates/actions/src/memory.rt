@@ -16,28 +16,28 @@ pub struct Memory {
 }
 
 // The cursor's level, from its word.
-pub fn level_of(m: Memory) -> u8
+pub(crate) fn level_of(m: Memory) -> u8
     ensures { λ r. ⌜ r ≡ levelIn m ⌝ }
 {
     (m.level % 256) as u8
 }
 
 // A level as a word.
-pub fn wide(level: u8) -> u64
+pub(crate) fn wide(level: u8) -> u64
     ensures { λ r. ⌜ (r ≡ level) × (r < 256) ⌝ }
 {
     level as u64
 }
 
 // Whether a script may touch a node is decided by C, "context joined with cursor level".
-pub fn position(pc: u8, m: Memory) -> u8
+pub(crate) fn position(pc: u8, m: Memory) -> u8
     ensures { λ r. ⌜ r ≡ Level.join pc (levelIn m) ⌝ }
 {
     join(pc, level_of(m))
 }
 
 // L, "E joined with C".
-pub fn flow(e: u8, pc: u8, m: Memory) -> u8
+pub(crate) fn flow(e: u8, pc: u8, m: Memory) -> u8
     ensures { λ r. ⌜ r ≡ Level.join e (Level.join pc (levelIn m)) ⌝ }
 {
     join(e, position(pc, m))

@@ -1,7 +1,6 @@
 // The nodes, 12 bytes each from `base` on: the checks 5, 13, 6 and 12, and the fields.
 use crate::reads::half_at;
 use crate::reads::rest_at;
-use crate::reads::signed_at;
 use rules::levels::PUBLIC;
 use rules::levels::not_above;
 use rules::limits::MAX_NODES;
@@ -13,7 +12,6 @@ ghost use lib.ListN.{length, getD};
 ghost use Rattle.rules.specs.Limits.{nodeSize};
 ghost use Rattle.rules.specs.Bytes.{nodePlace};
 ghost use Rattle.rules.specs.Check.{parent, parentRule, orderRule, childRule, nodeClean, firstFault};
-ghost use Rattle.rules.specs.Job.{labelOf};
 ghost use Rattle.fields.specs.Fields.{levelsOf};
 ghost use Rattle.fields.specs.Fits.{labelIn, nodeIn};
 ghost use Rattle.fields.specs.Siblings.{Linked, Rooted, Lasts, ownRule, behind, left, leftOf, beside};
@@ -42,13 +40,6 @@ pub fn levels_at(job: &[u8], base: usize, i: usize) -> Levels
         content: job[at + 3],
         structure: job[at + 4],
     }
-}
-
-pub fn value_at(job: &[u8], base: usize, i: usize) -> i32
-    requires { ⌜ nodePlace base i + nodeSize ≤ length (now job) ⌝ }
-    ensures { λ r. ⌜ r ≡ labelOf (now (job .entry)) base i .value ⌝ }
-{
-    signed_at(job, base + NODE_SIZE * i + 8)
 }
 
 // Check 5, of node i.

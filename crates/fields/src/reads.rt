@@ -50,7 +50,7 @@ pub fn full_at(job: &[u8], at: usize) -> u32
 }
 
 // The three bytes behind the one at a place.
-pub fn rest_at(job: &[u8], at: usize) -> u32
+pub(crate) fn rest_at(job: &[u8], at: usize) -> u32
     requires { ⌜ at + 4 ≤ length (now job) ⌝ }
     ensures { λ r. ⌜ r ≡ rest (now (job .entry)) at ⌝ }
 {

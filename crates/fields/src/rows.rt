@@ -135,7 +135,7 @@ pub fn used(sets: bool) -> [Row; COMMANDS]
 }
 
 // The whole table, for a scan: a constant is built anew at each use.
-pub fn table() -> [Row; COMMANDS]
+pub(crate) fn table() -> [Row; COMMANDS]
     ensures { λ r. ⌜ r ≡ map rowHeld rows ⌝ }
 {
     ROWS

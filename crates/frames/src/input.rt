@@ -26,7 +26,7 @@ fn refill(block: &mut [u8]) -> usize
 }
 
 // The span, or where it is empty that of the next block, which is empty where the input has ended.
-pub fn ready(block: &mut [u8; SIZE], span: Span) -> Span
+pub(crate) fn ready(block: &mut [u8; SIZE], span: Span) -> Span
     requires { ⌜ Inside span ⌝ }
     ensures { λ r. ⌜ Inside r ⌝ }
 {
@@ -38,7 +38,7 @@ pub fn ready(block: &mut [u8; SIZE], span: Span) -> Span
 }
 
 // Puts the next bytes of the input into `to`, as far as it has so many.
-pub fn take(block: &mut [u8; SIZE], span: Span, to: &mut [u8]) -> Taken
+pub(crate) fn take(block: &mut [u8; SIZE], span: Span, to: &mut [u8]) -> Taken
     requires { ⌜ Inside span ⌝ }
     ensures { λ r. ⌜ Inside (r .span) ⌝ }
 {
@@ -62,7 +62,7 @@ pub fn take(block: &mut [u8; SIZE], span: Span, to: &mut [u8]) -> Taken
 }
 
 // Drops the next n bytes of the input, as far as it has so many.
-pub fn skip(block: &mut [u8; SIZE], span: Span, n: usize) -> Taken
+pub(crate) fn skip(block: &mut [u8; SIZE], span: Span, n: usize) -> Taken
     requires { ⌜ Inside span ⌝ }
     ensures { λ r. ⌜ Inside (r .span) ⌝ }
 {

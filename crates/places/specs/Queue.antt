@@ -1,6 +1,6 @@
 -- The queue of places: which have an unended run, front first. Assumes nothing.
 use mathlib.Core.Path.{_≡_}
-use Prim.Native.Nat.{ℕ, _+_, _<_, _≤_}
+use Prim.Native.Nat.{ℕ, _+_, _-_, _<_, _≤_}
 use mathlib.Core.Bool.{cond}
 use mathlib.Core.List.{List, [], _∷_, _++_, map}
 use lib.ListN.{length, getD, take}
@@ -48,3 +48,19 @@ source n k = cond (ltb (k + 1) n) (k + 1) (cond (eqb (k + 1) n) 0 k)
 -- eight entries after that
 unfoldable pub rotated : ℕ → List ℕ → List ℕ
 rotated n xs = map (λ k. getD xs (source n k) 0) (0 ∷ 1 ∷ 2 ∷ 3 ∷ 4 ∷ 5 ∷ 6 ∷ 7 ∷ [])
+
+-- every place is free
+abbrev pub allFree : Queue
+allFree = record { order = 0 ∷ 1 ∷ 2 ∷ 3 ∷ 4 ∷ 5 ∷ 6 ∷ 7 ∷ []; count = 0 }
+
+-- the first free place is taken
+abbrev pub afterJoin : Queue → Queue
+afterJoin q = record { order = q .order; count = q .count + 1 }
+
+-- the front has gone behind the others
+abbrev pub afterPass : Queue → Queue
+afterPass q = record { order = rotated (q .count) (q .order); count = q .count }
+
+-- and is free
+abbrev pub afterLeave : Queue → Queue
+afterLeave q = record { order = rotated (q .count) (q .order); count = q .count - 1 }

@@ -4,7 +4,7 @@ ghost use mathlib.Core.Path.{_≡_};
 ghost use Prim.Native.Nat.{_<_};
 ghost use lib.ListN.{getD};
 ghost use Rattle.rules.specs.Limits.{maxRuns};
-ghost use Rattle.places.specs.Queue.{Whole, ordered, firstFree, front, source, rotated, atBack, takenOff, movedBack};
+ghost use Rattle.places.specs.Queue.{Whole, ordered, firstFree, front, source, rotated, atBack, takenOff, movedBack, allFree, afterJoin, afterPass, afterLeave};
 
 pub struct Queue {
     pub order: [u8; MAX_RUNS],
@@ -13,7 +13,7 @@ pub struct Queue {
 
 // Every place is free.
 pub fn none() -> Queue
-    ensures { λ q. ⌜ Whole q × (q .count ≡ 0) ⌝ }
+    ensures { λ q. ⌜ Whole q × (q .count ≡ 0) × (q ≡ allFree) ⌝ }
 {
     Queue {
         order: [0, 1, 2, 3, 4, 5, 6, 7],
@@ -47,7 +47,7 @@ pub fn free(q: Queue) -> usize
 // It joins at the back.
 pub fn join(q: Queue) -> Queue
     requires { ⌜ Whole q × (q .count < maxRuns) ⌝ }
-    ensures { λ r. ⌜ Whole r × (ordered r ≡ atBack q) ⌝ }
+    ensures { λ r. ⌜ Whole r × (ordered r ≡ atBack q) × (r ≡ afterJoin q) ⌝ }
 {
     let order = q.order;
     Queue {
@@ -97,7 +97,7 @@ fn turned(q: Queue) -> [u8; MAX_RUNS]
 // The front has had its turn and goes to the back.
 pub fn pass(q: Queue) -> Queue
     requires { ⌜ Whole q × (0 < q .count) ⌝ }
-    ensures { λ r. ⌜ Whole r × (ordered r ≡ movedBack (ordered q)) ⌝ }
+    ensures { λ r. ⌜ Whole r × (ordered r ≡ movedBack (ordered q)) × (r ≡ afterPass q) ⌝ }
 {
     let order = turned(q);
     Queue {
@@ -109,7 +109,7 @@ pub fn pass(q: Queue) -> Queue
 // The front has ended: its place is the first free one.
 pub fn leave(q: Queue) -> Queue
     requires { ⌜ Whole q × (0 < q .count) ⌝ }
-    ensures { λ r. ⌜ Whole r × (ordered r ≡ takenOff (ordered q)) × (firstFree r ≡ front q) × (r .count < maxRuns) ⌝ }
+    ensures { λ r. ⌜ Whole r × (ordered r ≡ takenOff (ordered q)) × (firstFree r ≡ front q) × (r .count < maxRuns) × (r ≡ afterLeave q) ⌝ }
 {
     let order = turned(q);
     Queue {

@@ -53,7 +53,7 @@ fn clear(words: &mut [u32], places: usize, x: usize, since: &mut [u16])
 }
 
 // Clears the place x of a node that goes, and those of all below it.
-pub fn forget(words: &mut [u32], places: usize, x: usize, since: &mut [u16])
+pub(crate) fn forget(words: &mut [u32], places: usize, x: usize, since: &mut [u16])
     requires { ⌜ Within (now words) places x × (places ≤ length (now since)) ⌝ }
     ensures { λ _. ⌜ Clearing places (cells (now (words .entry))) (cells (now (words .exit))) x (now (since .entry)) (now (since .exit)) ⌝ }
 {

@@ -5,7 +5,7 @@ use Rattle.places.proofs.queue.none.Statement.{statement}
 use Rattle.places.proofs.queue.none.Tie as tie
 
 returns : tie.Need-returns
-returns c = (whole-none, refl)
+returns c = (whole-none, refl, refl)
 
 pub none-spec : {M : Type 1} → statement M
 none-spec = tie.close (tie.spec returns)
