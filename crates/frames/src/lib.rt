@@ -11,7 +11,7 @@ use print::SIZE;
 ghost use mathlib.Core.Path.{_≡_};
 ghost use Prim.Native.Nat.{_+_, _<_, _≤_};
 ghost use lib.ListN.{length};
-ghost use Rattle.frames.specs.Bounds.{Fits};
+ghost use Rattle.frames.specs.Bounds.{Fits, behind};
 ghost use Rattle.frames.specs.Header.{headerAt};
 
 // What is read and what is to be written, from one frame to the next, and whether the input has ended.
@@ -38,6 +38,19 @@ pub fn head(buf: &mut [u8; SIZE], out: Out, name: &[u8], k: u64) -> Out
 {
     let r = print::item(buf, out, name, k);
     print::byte(buf, r, b'\n')
+}
+
+// Behind an answer, which waits.
+pub fn answered(s: State, out: Out) -> State
+    requires { ⌜ Fits s × (out .used ≤ 65536) ⌝ }
+    ensures { λ r. ⌜ Fits r × (r ≡ behind s out) ⌝ }
+{
+    let span = s.span;
+    State {
+        span,
+        out,
+        over: false,
+    }
 }
 
 // The end of the input.
@@ -181,5 +194,26 @@ pub fn read_header(head: &[u8], at: usize) -> Header
         budget: full_at(head, at + 4) as u64,
         places: half_at(head, at + 8),
         lines: half_at(head, at + 10),
+    }
+}
+
+// What kind of event it is, its header, and what follows.
+pub struct Event {
+    pub kind: u32,
+    pub header: Header,
+    pub state: State,
+}
+
+// The next event: its kind in 4 bytes, and its header.
+pub fn next_event(block: &mut [u8; SIZE], buf: &mut [u8; SIZE], s: State) -> Event
+    requires { ⌜ Fits s ⌝ }
+    ensures { λ r. ⌜ Fits (r .state) × (r .header .lines < 65536) ⌝ }
+{
+    let mut bytes = [0u8; 16];
+    let state = next(block, &mut bytes, buf, s);
+    Event {
+        kind: full_at(&bytes, 0),
+        header: read_header(&bytes, 4),
+        state,
     }
 }

@@ -8,7 +8,7 @@ use print::preorder;
 use print::preorder::Visit;
 use rules::numbers::bits;
 use table::node;
-ghost use Prim.Native.Nat.{_≤_};
+ghost use Prim.Native.Nat.{_<_, _≤_};
 ghost use lib.ListN.{length};
 ghost use Rattle.table.specs.Cells.{Within};
 
@@ -144,4 +144,71 @@ pub fn put(
     ensures { λ r. ⌜ r .used ≤ 65536 ⌝ }
 {
     put_run(buf, out, o, n, places, words, levels, values, lines)
+}
+
+fn put_record(buf: &mut [u8; SIZE], out: Out, words: &[u32; WORDS], place: usize) -> Out
+    requires { ⌜ (out .used ≤ 65536) × (place < 513) ⌝ }
+    ensures { λ r. ⌜ r .used ≤ 65536 ⌝ }
+{
+    let d = lent::node::node_of(words, place);
+    let numbers = [
+        place as u32,
+        d.first,
+        d.right,
+        d.parent,
+        d.children,
+        bits(d.value),
+        wide(d.existence),
+        wide(d.content),
+        wide(d.structure),
+        d.left,
+        d.last,
+    ];
+    print::row(buf, out, b"record", &numbers, 5)
+}
+
+// The first records as they would be lent, as many as places are asked for and there are.
+pub fn put_records(buf: &mut [u8; SIZE], out: Out, words: &[u32; WORDS], places: usize) -> Out
+    requires { ⌜ out .used ≤ 65536 ⌝ }
+    ensures { λ r. ⌜ r .used ≤ 65536 ⌝ }
+{
+    let mut r = out;
+    let mut x = 0;
+    while x < PLACES {
+        if x >= places {
+            return r;
+        }
+        r = put_record(buf, r, words, x);
+        x += 1;
+    }
+    r
+}
+
+// A digit of hexadecimal.
+fn digit(n: u8) -> u8
+    requires { ⌜ n < 16 ⌝ }
+{
+    if n < 10 { b'0' + n } else { b'a' + (n - 10) }
+}
+
+fn put_byte(buf: &mut [u8; SIZE], out: Out, b: u8) -> Out
+    requires { ⌜ out .used ≤ 65536 ⌝ }
+    ensures { λ r. ⌜ r .used ≤ 65536 ⌝ }
+{
+    let r = print::byte(buf, out, digit(b / 16));
+    print::byte(buf, r, digit(b % 16))
+}
+
+// Bytes in hexadecimal.
+pub fn put_hex(buf: &mut [u8; SIZE], out: Out, bytes: &[u8]) -> Out
+    requires { ⌜ out .used ≤ 65536 ⌝ }
+    ensures { λ r. ⌜ r .used ≤ 65536 ⌝ }
+{
+    let mut r = out;
+    let mut i = 0;
+    while i < bytes.len() {
+        r = put_byte(buf, r, bytes[i]);
+        i += 1;
+    }
+    r
 }

@@ -1,12 +1,13 @@
 // One event: its header, its body, and what it does.
-use super::dump;
+use super::after::After;
+use super::after::leaves;
 use super::poke;
 use super::runs;
 use super::variables::Variables;
 use super::writing;
-use fields::reads::full_at;
 use frames::Header;
 use frames::State;
+use frames::outcome;
 use frames::outcome::WORDS;
 use print::SIZE;
 ghost use Prim.Native.Nat.{_<_, _≤_};
@@ -16,23 +17,12 @@ ghost use Rattle.history.specs.Room.{Room};
 // Five bytes for each of 65,535 lines.
 pub const AREA: usize = 327675;
 
-// The state after an event, and the variables that stand.
-pub struct After {
-    pub state: State,
-    pub variables: Variables,
-}
-
 // Puts the name and the number of an event.
 fn head(buf: &mut [u8; SIZE], s: State, name: &[u8], k: u64) -> State
     requires { ⌜ Fits s ⌝ }
     ensures { λ r. ⌜ Fits r ⌝ }
 {
-    let span = s.span;
-    State {
-        span,
-        out: frames::head(buf, s.out, name, k),
-        over: false,
-    }
+    frames::answered(s, frames::head(buf, s.out, name, k))
 }
 
 // The name of a job (kind 0) or of a script.
@@ -66,27 +56,12 @@ fn run(
 {
     let mut body = [0u8; BODY];
     let b = frames::read_body(block, &mut body, buf, s, h.size);
-    let read = b.state;
-    if read.over {
-        return After {
-            state: read,
-            variables: v,
-        };
+    if b.state.over {
+        return leaves(b.state, v);
     }
     let count = b.count;
-    let t = run_head(buf, read, kind, k);
-    let r = runs::run(kind, &body[..count], h, buf, t.out, words, lines, v);
-    let span = t.span;
-    let out = r.out;
-    let variables = r.variables;
-    After {
-        state: State {
-            span,
-            out,
-            over: false,
-        },
-        variables,
-    }
+    let t = run_head(buf, b.state, kind, k);
+    runs::run(kind, &body[..count], h, buf, t, words, lines, v)
 }
 
 // The entries of a poke, as they come.
@@ -108,18 +83,12 @@ fn set(
     while left >= 8 {
         t = frames::part(block, &mut entry, buf, t);
         if t.over {
-            return After {
-                state: t,
-                variables: u,
-            };
+            return leaves(t, u);
         }
         u = poke::set(words, u, &entry);
         left -= 8;
     }
-    After {
-        state: frames::pass(block, buf, t, left),
-        variables: u,
-    }
+    leaves(frames::pass(block, buf, t, left), u)
 }
 
 fn poke(
@@ -135,18 +104,10 @@ fn poke(
     ensures { λ r. ⌜ Fits (r .state) × Room (r .variables) ⌝ }
 {
     let e = set(block, buf, words, s, v, h.size);
-    let t = e.state;
-    let u = e.variables;
-    if t.over {
-        return After {
-            state: t,
-            variables: u,
-        };
+    if e.state.over {
+        return e;
     }
-    After {
-        state: head(buf, t, b"poke ", k),
-        variables: u,
-    }
+    leaves(head(buf, e.state, b"poke ", k), e.variables)
 }
 
 // What stands, written back (kind 4).
@@ -161,13 +122,27 @@ fn write(
     requires { ⌜ Fits s × Room v ⌝ }
     ensures { λ r. ⌜ Fits r ⌝ }
 {
-    let span = s.span;
     let size = h.budget as usize;
-    State {
-        span,
-        out: writing::put(buf, s.out, k, words, h.places, size, v),
-        over: false,
-    }
+    frames::answered(s, writing::put(buf, s.out, k, words, h.places, size, v))
+}
+
+// What stands, as it would be lent (kind 3): records and variables.
+fn table(
+    buf: &mut [u8; SIZE],
+    words: &[u32; WORDS],
+    s: State,
+    v: Variables,
+    places: usize,
+    k: u64,
+) -> State
+    requires { ⌜ Fits s × Room v ⌝ }
+    ensures { λ r. ⌜ Fits r ⌝ }
+{
+    let t = head(buf, s, b"table ", k);
+    let r = outcome::put_records(buf, t.out, words, places);
+    let levels = v.levels;
+    let values = v.values;
+    frames::answered(t, outcome::put_variables(buf, r, v.count, &levels, &values))
 }
 
 // A dump (kind 3), a job written (kind 4), or an event of no kind. Of its body nothing is read.
@@ -194,13 +169,7 @@ fn show(
     if kind != 3 {
         return head(buf, t, b"unknown ", k);
     }
-    let u = head(buf, t, b"table ", k);
-    let span = u.span;
-    State {
-        span,
-        out: dump::put(buf, u.out, words, h.places, v),
-        over: false,
-    }
+    table(buf, words, t, v, h.places, k)
 }
 
 // The next event, which is number k.
@@ -209,31 +178,34 @@ pub fn next(
     buf: &mut [u8; SIZE],
     words: &mut [u32; WORDS],
     lines: &mut [u8; AREA],
-    s: State,
-    v: Variables,
+    a: After,
     k: u64,
 ) -> After
-    requires { ⌜ Fits s × Room v ⌝ }
+    requires { ⌜ Fits (a .state) × Room (a .variables) ⌝ }
     ensures { λ r. ⌜ Fits (r .state) × Room (r .variables) ⌝ }
 {
-    let mut bytes = [0u8; 16];
-    let t = frames::next(block, &mut bytes, buf, s);
-    if t.over {
-        return After {
-            state: t,
-            variables: v,
-        };
+    let e = frames::next_event(block, buf, a.state);
+    if e.state.over {
+        return leaves(e.state, a.variables);
     }
-    let kind = full_at(&bytes, 0);
-    let h = frames::read_header(&bytes, 4);
-    if kind < 2 {
-        return run(block, buf, words, lines, t, v, kind, h, k);
+    if e.kind < 2 {
+        return run(
+            block,
+            buf,
+            words,
+            lines,
+            e.state,
+            a.variables,
+            e.kind,
+            e.header,
+            k,
+        );
     }
-    if kind == 2 {
-        return poke(block, buf, words, t, v, h, k);
+    if e.kind == 2 {
+        return poke(block, buf, words, e.state, a.variables, e.header, k);
     }
-    After {
-        state: show(block, buf, words, t, v, kind, h, k),
-        variables: v,
-    }
+    leaves(
+        show(block, buf, words, e.state, a.variables, e.kind, e.header, k),
+        a.variables,
+    )
 }

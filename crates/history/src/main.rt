@@ -1,7 +1,7 @@
 // Runs scripts over a tree that stays, for tests. Standard input is a sequence of events: the kind, the body's length and the budget in 4 bytes each, the
 // places and the line capacity in 2 bytes each, little-endian, then the body. For each, in order, what became of it goes to standard output; events are
 // counted from 0.
-mod dump;
+mod after;
 mod event;
 mod poke;
 mod runs;
@@ -19,14 +19,11 @@ fn history(
     words: &mut [u32; WORDS],
     lines: &mut [u8; AREA],
 ) {
-    let mut s = frames::start();
-    let mut v = variables::none();
+    let mut a = after::start();
     let mut k: u64 = 0;
     while k < u64::MAX {
-        let e = event::next(block, buf, words, lines, s, v, k);
-        s = e.state;
-        v = e.variables;
-        if s.over {
+        a = event::next(block, buf, words, lines, a, k);
+        if a.state.over {
             return;
         }
         k += 1;

@@ -1,18 +1,21 @@
 // The run of a job, which leaves its tree and variables to stand, and the run of a script over them.
+use super::after::After;
+use super::after::leaves;
 use super::variables::Variables;
 use frames::Header;
+use frames::State;
 use frames::outcome;
 use frames::outcome::PLACES;
 use frames::outcome::WORDS;
 use monitor::Outcome;
 use own::follow_own;
 use own::run_own;
-use print::Out;
 use print::SIZE;
 use print::answer;
 use print::runner::variables_of;
 ghost use Prim.Native.Nat.{_*_, _≤_};
 ghost use lib.ListN.{length};
+ghost use Rattle.frames.specs.Bounds.{Fits};
 ghost use Rattle.history.specs.Room.{Room};
 
 // How a run has ended, and the variables that stand now.
@@ -147,25 +150,19 @@ fn run_kind(
     script(body, h, words, lines, v)
 }
 
-// What waits to be written out, and the variables that stand now.
-pub struct Told {
-    pub out: Out,
-    pub variables: Variables,
-}
-
 // Runs a job or a script, and puts what became of it.
 fn run_lent(
     kind: u32,
     body: &[u8],
     h: Header,
     buf: &mut [u8; SIZE],
-    out: Out,
+    s: State,
     words: &mut [u32; WORDS],
     lines: &mut [u8],
     v: Variables,
-) -> Told
-    requires { ⌜ (out .used ≤ 65536) × Room v ⌝ }
-    ensures { λ r. ⌜ (r .out .used ≤ 65536) × Room (r .variables) ⌝ }
+) -> After
+    requires { ⌜ Fits s × Room v ⌝ }
+    ensures { λ r. ⌜ Fits (r .state) × Room (r .variables) ⌝ }
 {
     let r = run_kind(kind, body, h, words, lines, v);
     let o = r.outcome;
@@ -174,7 +171,7 @@ fn run_lent(
     let values = u.values;
     let put = outcome::put(
         buf,
-        out,
+        s.out,
         o,
         u.count,
         h.places,
@@ -183,10 +180,7 @@ fn run_lent(
         &values,
         lines,
     );
-    Told {
-        out: put,
-        variables: u,
-    }
+    leaves(frames::answered(s, put), u)
 }
 
 // The same, with as many lines as are asked for.
@@ -195,14 +189,14 @@ pub fn run(
     body: &[u8],
     h: Header,
     buf: &mut [u8; SIZE],
-    out: Out,
+    s: State,
     words: &mut [u32; WORDS],
     lines: &mut [u8],
     v: Variables,
-) -> Told
-    requires { ⌜ (out .used ≤ 65536) × Room v × (5 * h .lines ≤ length (now lines)) ⌝ }
-    ensures { λ r. ⌜ (r .out .used ≤ 65536) × Room (r .variables) ⌝ }
+) -> After
+    requires { ⌜ Fits s × Room v × (5 * h .lines ≤ length (now lines)) ⌝ }
+    ensures { λ r. ⌜ Fits (r .state) × Room (r .variables) ⌝ }
 {
     let area = 5 * h.lines;
-    run_lent(kind, body, h, buf, out, words, &mut lines[..area], v)
+    run_lent(kind, body, h, buf, s, words, &mut lines[..area], v)
 }

@@ -1,11 +1,12 @@
 // What stands, written back as a job into an area of its own.
 use super::variables::Variables;
+use frames::outcome;
 use frames::outcome::PLACES;
 use frames::outcome::WORDS;
 use print::Out;
 use print::SIZE;
 use writer::write_words;
-ghost use Prim.Native.Nat.{_*_, _<_, _≤_};
+ghost use Prim.Native.Nat.{_*_, _≤_};
 ghost use lib.ListN.{length};
 ghost use Rattle.history.specs.Room.{Room};
 
@@ -21,36 +22,6 @@ fn least(n: usize, most: usize) -> usize
     if n < most { n } else { most }
 }
 
-// A digit of hexadecimal.
-fn digit(n: u8) -> u8
-    requires { ⌜ n < 16 ⌝ }
-{
-    if n < 10 { b'0' + n } else { b'a' + (n - 10) }
-}
-
-// Puts a byte in hexadecimal.
-fn hex(buf: &mut [u8; SIZE], out: Out, b: u8) -> Out
-    requires { ⌜ out .used ≤ 65536 ⌝ }
-    ensures { λ r. ⌜ r .used ≤ 65536 ⌝ }
-{
-    let r = print::byte(buf, out, digit(b / 16));
-    print::byte(buf, r, digit(b % 16))
-}
-
-// Puts bytes in hexadecimal.
-fn put_hex(buf: &mut [u8; SIZE], out: Out, bytes: &[u8]) -> Out
-    requires { ⌜ out .used ≤ 65536 ⌝ }
-    ensures { λ r. ⌜ r .used ≤ 65536 ⌝ }
-{
-    let mut r = out;
-    let mut i = 0;
-    while i < bytes.len() {
-        r = hex(buf, r, bytes[i]);
-        i += 1;
-    }
-    r
-}
-
 // Puts the answer and the area.
 fn put_area(buf: &mut [u8; SIZE], out: Out, k: u64, answer: u64, area: &[u8]) -> Out
     requires { ⌜ out .used ≤ 65536 ⌝ }
@@ -59,7 +30,7 @@ fn put_area(buf: &mut [u8; SIZE], out: Out, k: u64, answer: u64, area: &[u8]) ->
     let mut r = print::item(buf, out, b"written ", k);
     r = print::item(buf, r, b" ", answer);
     r = print::text(buf, r, b"\narea ");
-    r = put_hex(buf, r, area);
+    r = outcome::put_hex(buf, r, area);
     print::byte(buf, r, b'\n')
 }
 

@@ -1,11 +1,9 @@
 // One event: its header, its body, and what it does.
 use super::show;
 use actions::marks;
-use fields::reads::full_at;
 use frames::Header;
 use frames::State;
 use job::plan;
-use print::Out;
 use print::SIZE;
 use rules::limits::MAX_BYTES;
 use rules::limits::MAX_RUNS;
@@ -20,7 +18,7 @@ ghost use Rattle.rules.specs.Limits.{maxBytes, maxVariables, maxRuns};
 ghost use Rattle.actions.specs.Marks.{marksSize};
 ghost use Rattle.frames.specs.Bounds.{Fits};
 ghost use Rattle.places.specs.Pieces.{planSize};
-ghost use Rattle.turns.specs.Pool.{tableSize, areaSize, parts, Open, Housed};
+ghost use Rattle.turns.specs.Pool.{tableSize, areaSize, parts, Parts, Open, Housed};
 
 // The slices of eight parts that the runs are lent.
 pub const JOBS: usize = MAX_BYTES * MAX_RUNS;
@@ -40,6 +38,12 @@ pub const MARKS: usize = marks::SIZE * MAX_RUNS;
 // One byte more than a job may have, so that a body that is too long is seen.
 const BODY: usize = 23049;
 
+// The state after an event, and the runs.
+pub struct After {
+    pub state: State,
+    pub pool: Pool,
+}
+
 // No run yet, in slices that are long enough.
 fn begin(
     jobs: &[u8],
@@ -58,8 +62,8 @@ fn begin(
     pool::empty()
 }
 
-// The same in arrays, whose lengths are known.
-pub fn none(
+// Before the first event: the same in arrays, whose lengths are known.
+pub fn start(
     jobs: &[u8; JOBS],
     plans: &[u32; PLANS],
     levels: &[u8; LEVELS],
@@ -67,22 +71,21 @@ pub fn none(
     values: &[i32; VALUES],
     lines: &[u8; LINES],
     marks: &[u16; MARKS],
-) -> Pool
-    ensures { λ p. ⌜ Housed p (parts (now (jobs .entry)) (now (plans .entry)) (now (levels .entry)) (now (words .entry)) (now (values .entry)) (now (lines .entry)) (now (marks .entry))) ⌝ }
+) -> After
+    ensures { λ r. ⌜ Fits (r .state) × Housed (r .pool) (parts (now (jobs .entry)) (now (plans .entry)) (now (levels .entry)) (now (words .entry)) (now (values .entry)) (now (lines .entry)) (now (marks .entry))) ⌝ }
 {
-    begin(jobs, plans, levels, words, values, lines, marks)
+    After {
+        state: frames::start(),
+        pool: begin(jobs, plans, levels, words, values, lines, marks),
+    }
 }
 
-// The state after an event, and the runs.
-pub struct After {
-    pub state: State,
-    pub pool: Pool,
-}
-
-// What waits for standard output after an event, and the runs.
-struct Told {
-    out: Out,
-    pool: Pool,
+// What an event leaves.
+fn leaves(state: State, pool: Pool) -> After
+    requires { ⌜ Fits state ⌝ }
+    ensures { λ r. ⌜ Fits (r .state) × ((s : Parts) → Housed pool s → Housed (r .pool) s) ⌝ }
+{
+    After { state, pool }
 }
 
 // A newcomer.
@@ -91,7 +94,7 @@ fn newcomer(
     h: Header,
     k: u64,
     buf: &mut [u8; SIZE],
-    out: Out,
+    s: State,
     p: Pool,
     jobs: &mut [u8; JOBS],
     plans: &mut [u32; PLANS],
@@ -99,13 +102,13 @@ fn newcomer(
     words: &mut [u32; WORDS],
     values: &mut [i32; VALUES],
     marks: &mut [u16; MARKS],
-) -> Told
-    requires { ⌜ (out .used ≤ 65536) × (h .lines < 65536) × Open p (parts (now jobs) (now plans) (now levels) (now words) (now values) [] (now marks)) ⌝ }
-    ensures { λ r. ⌜ (r .out .used ≤ 65536)
+) -> After
+    requires { ⌜ Fits s × (h .lines < 65536) × Open p (parts (now jobs) (now plans) (now levels) (now words) (now values) [] (now marks)) ⌝ }
+    ensures { λ r. ⌜ Fits (r .state)
         × ((lines : List ℕ) → Housed p (parts (now (jobs .entry)) (now (plans .entry)) (now (levels .entry)) (now (words .entry)) (now (values .entry)) lines (now (marks .entry)))
         → Housed (r .pool) (parts (now (jobs .exit)) (now (plans .exit)) (now (levels .exit)) (now (words .exit)) (now (values .exit)) lines (now (marks .exit)))) ⌝ }
 {
-    let r = frames::head(buf, out, b"newcomer ", k);
+    let r = frames::head(buf, s.out, b"newcomer ", k);
     let a = pool::arrive(
         p,
         k,
@@ -120,19 +123,16 @@ fn newcomer(
         values,
         marks,
     );
-    let pool = a.pool;
     let reply = a.reply;
-    Told {
-        out: show::put_admission(buf, r, reply),
-        pool,
-    }
+    let told = show::put_admission(buf, r, reply);
+    leaves(frames::answered(s, told), a.pool)
 }
 
 // The turn of the next run in the circle.
 fn turn(
     k: u64,
     buf: &mut [u8; SIZE],
-    out: Out,
+    s: State,
     p: Pool,
     jobs: &[u8; JOBS],
     plans: &[u32; PLANS],
@@ -141,30 +141,25 @@ fn turn(
     values: &mut [i32; VALUES],
     lines: &mut [u8; LINES],
     marks: &mut [u16; MARKS],
-) -> Told
-    requires { ⌜ (out .used ≤ 65536) × Housed p (parts (now jobs) (now plans) (now levels) (now words) (now values) (now lines) (now marks)) ⌝ }
-    ensures { λ r. ⌜ (r .out .used ≤ 65536)
+) -> After
+    requires { ⌜ Fits s × Housed p (parts (now jobs) (now plans) (now levels) (now words) (now values) (now lines) (now marks)) ⌝ }
+    ensures { λ r. ⌜ Fits (r .state)
         × Housed (r .pool) (parts (now (jobs .entry)) (now (plans .entry)) (now (levels .entry)) (now (words .exit)) (now (values .exit)) (now (lines .exit)) (now (marks .exit))) ⌝ }
 {
-    let r = frames::head(buf, out, b"turn ", k);
+    let r = frames::head(buf, s.out, b"turn ", k);
     let a = pool::turn(p, jobs, plans, levels, words, values, lines, marks);
-    let pool = a.pool;
     let reply = a.reply;
-    Told {
-        out: show::put_turn(buf, r, reply, pool, words, levels, values, lines),
-        pool,
-    }
+    let told = show::put_turn(buf, r, reply, a.pool, words, levels, values, lines);
+    leaves(frames::answered(s, told), a.pool)
 }
 
 // An event of no kind.
-fn unknown(k: u64, buf: &mut [u8; SIZE], out: Out, p: Pool) -> Told
-    requires { ⌜ out .used ≤ 65536 ⌝ }
-    ensures { λ r. ⌜ (r .out .used ≤ 65536) × (r .pool ≡ p) ⌝ }
+fn unknown(k: u64, buf: &mut [u8; SIZE], s: State, p: Pool) -> After
+    requires { ⌜ Fits s ⌝ }
+    ensures { λ r. ⌜ Fits (r .state) × ((s : Parts) → Housed p s → Housed (r .pool) s) ⌝ }
 {
-    Told {
-        out: frames::head(buf, out, b"unknown ", k),
-        pool: p,
-    }
+    let told = frames::head(buf, s.out, b"unknown ", k);
+    leaves(frames::answered(s, told), p)
 }
 
 // A newcomer's body is read, and the newcomer comes.
@@ -191,18 +186,15 @@ fn admit(
     let b = frames::read_body(block, &mut body, buf, s, h.size);
     let read = b.state;
     if read.over {
-        return After {
-            state: read,
-            pool: p,
-        };
+        return leaves(read, p);
     }
     let count = b.count;
-    let told = newcomer(
+    newcomer(
         &body[..count],
         h,
         k,
         buf,
-        read.out,
+        read,
         p,
         jobs,
         plans,
@@ -210,27 +202,18 @@ fn admit(
         words,
         values,
         marks,
-    );
-    let span = read.span;
-    let out = told.out;
-    let pool = told.pool;
-    After {
-        state: State {
-            span,
-            out,
-            over: false,
-        },
-        pool,
-    }
+    )
 }
 
-// A turn, or an event of no kind.
+// A turn, or an event of no kind. Of its body nothing is read.
 fn act(
-    kind: u32,
-    k: u64,
+    block: &mut [u8; SIZE],
     buf: &mut [u8; SIZE],
-    out: Out,
+    s: State,
     p: Pool,
+    kind: u32,
+    size: usize,
+    k: u64,
     jobs: &[u8; JOBS],
     plans: &[u32; PLANS],
     levels: &[u8; LEVELS],
@@ -238,15 +221,19 @@ fn act(
     values: &mut [i32; VALUES],
     lines: &mut [u8; LINES],
     marks: &mut [u16; MARKS],
-) -> Told
-    requires { ⌜ (out .used ≤ 65536) × Housed p (parts (now jobs) (now plans) (now levels) (now words) (now values) (now lines) (now marks)) ⌝ }
-    ensures { λ r. ⌜ (r .out .used ≤ 65536) × Housed (r .pool) (parts (now (jobs .entry)) (now (plans .entry)) (now (levels .entry)) (now (words .exit)) (now (values .exit)) (now (lines .exit)) (now (marks .exit))) ⌝ }
+) -> After
+    requires { ⌜ Fits s × Housed p (parts (now jobs) (now plans) (now levels) (now words) (now values) (now lines) (now marks)) ⌝ }
+    ensures { λ r. ⌜ Fits (r .state) × Housed (r .pool) (parts (now (jobs .entry)) (now (plans .entry)) (now (levels .entry)) (now (words .exit)) (now (values .exit)) (now (lines .exit)) (now (marks .exit))) ⌝ }
 {
+    let passed = frames::pass(block, buf, s, size);
+    if passed.over {
+        return leaves(passed, p);
+    }
     if kind == 1 {
         return turn(
             k,
             buf,
-            out,
+            passed,
             p,
             jobs,
             plans,
@@ -257,15 +244,14 @@ fn act(
             marks,
         );
     }
-    unknown(k, buf, out, p)
+    unknown(k, buf, passed, p)
 }
 
-// The next event, which is number k. Only a newcomer's body is read.
+// The next event, which is number k.
 pub fn next(
     block: &mut [u8; SIZE],
     buf: &mut [u8; SIZE],
-    s: State,
-    p: Pool,
+    a: After,
     k: u64,
     jobs: &mut [u8; JOBS],
     plans: &mut [u32; PLANS],
@@ -275,23 +261,20 @@ pub fn next(
     lines: &mut [u8; LINES],
     marks: &mut [u16; MARKS],
 ) -> After
-    requires { ⌜ Fits s × Housed p (parts (now jobs) (now plans) (now levels) (now words) (now values) (now lines) (now marks)) ⌝ }
+    requires { ⌜ Fits (a .state) × Housed (a .pool) (parts (now jobs) (now plans) (now levels) (now words) (now values) (now lines) (now marks)) ⌝ }
     ensures { λ r. ⌜ Fits (r .state) × Housed (r .pool) (parts (now (jobs .exit)) (now (plans .exit)) (now (levels .exit)) (now (words .exit)) (now (values .exit)) (now (lines .exit)) (now (marks .exit))) ⌝ }
 {
-    let mut bytes = [0u8; 16];
-    let t = frames::next(block, &mut bytes, buf, s);
-    if t.over {
-        return After { state: t, pool: p };
+    let e = frames::next_event(block, buf, a.state);
+    if e.state.over {
+        return leaves(e.state, a.pool);
     }
-    let kind = full_at(&bytes, 0);
-    let h = frames::read_header(&bytes, 4);
-    if kind == 0 {
+    if e.kind == 0 {
         return admit(
             block,
             buf,
-            t,
-            p,
-            h,
+            e.state,
+            a.pool,
+            e.header,
             k,
             jobs,
             plans,
@@ -301,19 +284,14 @@ pub fn next(
             marks,
         );
     }
-    let passed = frames::pass(block, buf, t, h.size);
-    if passed.over {
-        return After {
-            state: passed,
-            pool: p,
-        };
-    }
-    let told = act(
-        kind,
-        k,
+    act(
+        block,
         buf,
-        passed.out,
-        p,
+        e.state,
+        a.pool,
+        e.kind,
+        e.header.size,
+        k,
         jobs,
         plans,
         levels,
@@ -321,16 +299,5 @@ pub fn next(
         values,
         lines,
         marks,
-    );
-    let span = passed.span;
-    let out = told.out;
-    let pool = told.pool;
-    After {
-        state: State {
-            span,
-            out,
-            over: false,
-        },
-        pool,
-    }
+    )
 }

@@ -24,15 +24,13 @@ fn rounds(
     lines: &mut [u8; LINES],
     marks: &mut [u16; MARKS],
 ) {
-    let mut s = frames::start();
-    let mut p = event::none(jobs, plans, levels, words, values, lines, marks);
+    let mut a = event::start(jobs, plans, levels, words, values, lines, marks);
     let mut k: u64 = 0;
     while k < u64::MAX {
-        let e = event::next(
+        a = event::next(
             block,
             buf,
-            s,
-            p,
+            a,
             k,
             jobs,
             plans,
@@ -42,9 +40,7 @@ fn rounds(
             lines,
             marks,
         );
-        s = e.state;
-        p = e.pool;
-        if s.over {
+        if a.state.over {
             return;
         }
         k += 1;

@@ -7,13 +7,12 @@ use Rattle.history.proofs.history.Statement.{statement}
 use Rattle.history.proofs.history.Tie as tie
 
 abbrev Inv-loop : tie.InvT-loop
-Inv-loop block₀ buf₀ words₀ lines₀ s₀ v₀ k₀ block buf words lines s v k = Fits s × Room v
+Inv-loop block₀ buf₀ words₀ lines₀ a₀ k₀ block buf words lines a k = Fits (a .state) × Room (a .variables)
 
 abbrev μ-loop : tie.MeasureT-loop
-μ-loop block₀ buf₀ words₀ lines₀ s₀ v₀ k₀ block buf words lines s v k = 18446744073709551615 - k
+μ-loop block₀ buf₀ words₀ lines₀ a₀ k₀ block buf words lines a k = 18446744073709551615 - k
 
 pub history-spec : {M : Type 1} → statement M
 history-spec =
     tie.close (tie.spec
-    Inv-loop μ-loop (λ c κs. search needs) (λ c κs. search needs) (λ c. search needs) (λ c κs. search needs) (λ c. search needs)
-    (λ c. search needs) (λ c. search needs) (λ c. search needs) (λ c. search needs))
+    Inv-loop μ-loop (λ c κs. search needs) (λ c. search needs) (λ c κs. search needs) (λ c. search needs) (λ c. search needs) (λ c. search needs) (λ c. search needs) (λ c. search needs))

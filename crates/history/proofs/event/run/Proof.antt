@@ -11,5 +11,4 @@ slice-aggregate-run c = sym (length-take-le _ _ (search needs))
 pub run-spec : {M : Type 1} → statement M
 run-spec =
     tie.close (tie.spec
-    (λ c. search needs) (λ c κs. search needs) (λ c. search needs) (λ c κs. search needs) (λ c. search needs) slice-aggregate-run
-    (λ c κs. search needs) (λ c. search needs))
+    (λ c. search needs) (λ c κs. search needs) (λ c κs. search needs) (λ c. search needs) (λ c κs. search needs) (λ c. search needs) slice-aggregate-run (λ c κs. search needs) (λ c. search needs))

@@ -2,8 +2,8 @@
 use Prim.Native.Nat.{_≤_, _-_}
 use lib.ListN.{length}
 use borrow.Author.Needs.{needs}
-use Rattle.history.proofs.writing.put_hex.Statement.{statement}
-use Rattle.history.proofs.writing.put_hex.Tie as tie
+use Rattle.frames.proofs.outcome.put_hex.Statement.{statement}
+use Rattle.frames.proofs.outcome.put_hex.Tie as tie
 
 abbrev Inv-loop : tie.InvT-loop
 Inv-loop buf₀ bytes r₀ i₀ buf r i = (r .used ≤ 65536) × (i ≤ length bytes)

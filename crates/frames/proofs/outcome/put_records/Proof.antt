@@ -1,8 +1,8 @@
 -- `put_records` meets its contract: each turn goes on to the next record. Assumes nothing.
 use Prim.Native.Nat.{_≤_, _-_}
 use borrow.Author.Needs.{needs}
-use Rattle.history.proofs.dump.put_records.Statement.{statement}
-use Rattle.history.proofs.dump.put_records.Tie as tie
+use Rattle.frames.proofs.outcome.put_records.Statement.{statement}
+use Rattle.frames.proofs.outcome.put_records.Tie as tie
 
 abbrev Inv-loop : tie.InvT-loop
 Inv-loop buf₀ words places r₀ x₀ buf r x = (r .used ≤ 65536) × (x ≤ 513)
