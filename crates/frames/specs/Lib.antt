@@ -1,2 +1,5 @@
+pub mod Answers
 pub mod Bounds
 pub mod Header
+pub mod Input
+pub mod Pieces

@@ -1,9 +1,11 @@
 // Standard input, read in blocks and handed out in parts of any length.
 use libc::STDIN_FILENO;
 use print::SIZE;
+ghost use mathlib.Core.List.{[]};
 ghost use Prim.Native.Nat.{_≤_};
 ghost use lib.ListN.{length};
 ghost use Rattle.frames.specs.Bounds.{Inside};
+ghost use Rattle.frames.specs.Input.{Ready, Takes};
 
 // The bytes of the block that are read and not yet handed out.
 pub struct Span {
@@ -29,6 +31,7 @@ fn refill(block: &mut [u8]) -> usize
 pub(crate) fn ready(block: &mut [u8; SIZE], span: Span) -> Span
     requires { ⌜ Inside span ⌝ }
     ensures { λ r. ⌜ Inside r ⌝ }
+    ensures { λ r. ⌜ Ready (now (block .entry)) span (now (block .exit)) r ⌝ }
 {
     if span.from < span.end {
         return span;
@@ -41,6 +44,7 @@ pub(crate) fn ready(block: &mut [u8; SIZE], span: Span) -> Span
 pub(crate) fn take(block: &mut [u8; SIZE], span: Span, to: &mut [u8]) -> Taken
     requires { ⌜ Inside span ⌝ }
     ensures { λ r. ⌜ Inside (r .span) ⌝ }
+    ensures { λ r. ⌜ Takes (now (block .entry)) span (length (now (to .entry))) (now (to .entry)) (now (to .exit)) (now (block .exit)) r ⌝ }
 {
     let mut s = span;
     let mut count = 0;
@@ -61,10 +65,11 @@ pub(crate) fn take(block: &mut [u8; SIZE], span: Span, to: &mut [u8]) -> Taken
     Taken { count, span: s }
 }
 
-// Drops the next n bytes of the input, as far as it has so many.
+// Drops the next n bytes of the input, as far as it has so many: they are put nowhere.
 pub(crate) fn skip(block: &mut [u8; SIZE], span: Span, n: usize) -> Taken
     requires { ⌜ Inside span ⌝ }
     ensures { λ r. ⌜ Inside (r .span) ⌝ }
+    ensures { λ r. ⌜ Takes (now (block .entry)) span n [] [] (now (block .exit)) r ⌝ }
 {
     let mut s = span;
     let mut count = 0;

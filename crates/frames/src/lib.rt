@@ -8,11 +8,14 @@ use fields::reads::half_at;
 use input::Span;
 use print::Out;
 use print::SIZE;
+ghost use mathlib.Core.List.{_∷_, []};
 ghost use mathlib.Core.Path.{_≡_};
-ghost use Prim.Native.Nat.{_+_, _<_, _≤_};
+ghost use Prim.Native.Nat.{_+_, _<_, _≤_, min};
 ghost use lib.ListN.{length};
 ghost use Rattle.frames.specs.Bounds.{Fits, behind};
 ghost use Rattle.frames.specs.Header.{headerAt};
+ghost use Rattle.frames.specs.Input.{settled, started, finished, Reads, Keeps, Comprises};
+ghost use Rattle.frames.specs.Pieces.{Writes, item, text};
 
 // What is read and what is to be written, from one frame to the next, and whether the input has ended.
 pub struct State {
@@ -23,6 +26,7 @@ pub struct State {
 
 pub fn start() -> State
     ensures { λ r. ⌜ Fits r ⌝ }
+    ensures { λ r. ⌜ r ≡ started ⌝ }
 {
     State {
         span: Span { from: 0, end: 0 },
@@ -35,6 +39,7 @@ pub fn start() -> State
 pub fn head(buf: &mut [u8; SIZE], out: Out, name: &[u8], k: u64) -> Out
     requires { ⌜ out .used ≤ 65536 ⌝ }
     ensures { λ r. ⌜ r .used ≤ 65536 ⌝ }
+    ensures { λ r. ⌜ Writes (item (now (name .entry)) k ∷ text (10 ∷ []) ∷ []) out (now (buf .entry)) r (now (buf .exit)) ⌝ }
 {
     let r = print::item(buf, out, name, k);
     print::byte(buf, r, b'\n')
@@ -57,6 +62,7 @@ pub fn answered(s: State, out: Out) -> State
 fn finish(buf: &[u8; SIZE], out: Out) -> State
     requires { ⌜ out .used ≤ 65536 ⌝ }
     ensures { λ r. ⌜ Fits r ⌝ }
+    ensures { λ r. ⌜ r ≡ finished (out .fd) ⌝ }
 {
     State {
         span: Span { from: 0, end: 0 },
@@ -69,6 +75,7 @@ fn finish(buf: &[u8; SIZE], out: Out) -> State
 fn truncated(buf: &mut [u8; SIZE], out: Out) -> State
     requires { ⌜ out .used ≤ 65536 ⌝ }
     ensures { λ r. ⌜ Fits r ⌝ }
+    ensures { λ r. ⌜ r ≡ finished (out .fd) ⌝ }
 {
     let r = print::text(buf, out, b"truncated\n");
     finish(buf, r)
@@ -78,6 +85,7 @@ fn truncated(buf: &mut [u8; SIZE], out: Out) -> State
 fn settle(buf: &[u8; SIZE], s: State, n: usize) -> Out
     requires { ⌜ Fits s ⌝ }
     ensures { λ r. ⌜ r .used ≤ 65536 ⌝ }
+    ensures { λ r. ⌜ r ≡ settled s n ⌝ }
 {
     if s.span.end - s.span.from < n {
         return print::flush(buf, s.out);
@@ -89,6 +97,8 @@ fn settle(buf: &[u8; SIZE], s: State, n: usize) -> Out
 pub fn part(block: &mut [u8; SIZE], to: &mut [u8], buf: &mut [u8; SIZE], s: State) -> State
     requires { ⌜ Fits s ⌝ }
     ensures { λ r. ⌜ Fits r ⌝ }
+    ensures { λ r. ⌜ Reads (now (block .entry)) s (length (now (to .entry))) (now (to .entry)) (now (to .exit)) (now (block .exit)) r ⌝ }
+    ensures { λ r. ⌜ Keeps (now (buf .entry)) (now (buf .exit)) r ⌝ }
 {
     let out = settle(buf, s, to.len());
     let t = input::take(block, s.span, to);
@@ -103,10 +113,12 @@ pub fn part(block: &mut [u8; SIZE], to: &mut [u8], buf: &mut [u8; SIZE], s: Stat
     }
 }
 
-// Passes over n bytes of a frame.
+// Passes over n bytes of a frame: they are put nowhere.
 pub fn pass(block: &mut [u8; SIZE], buf: &mut [u8; SIZE], s: State, n: usize) -> State
     requires { ⌜ Fits s ⌝ }
     ensures { λ r. ⌜ Fits r ⌝ }
+    ensures { λ r. ⌜ Reads (now (block .entry)) s n [] [] (now (block .exit)) r ⌝ }
+    ensures { λ r. ⌜ Keeps (now (buf .entry)) (now (buf .exit)) r ⌝ }
 {
     let out = settle(buf, s, n);
     let t = input::skip(block, s.span, n);
@@ -121,10 +133,12 @@ pub fn pass(block: &mut [u8; SIZE], buf: &mut [u8; SIZE], s: State, n: usize) ->
     }
 }
 
-// The header of the next frame; the end, where the input has ended before it.
+// The header of the next frame, which has a byte at least; the end, where the input has ended before it.
 pub fn next(block: &mut [u8; SIZE], head: &mut [u8], buf: &mut [u8; SIZE], s: State) -> State
     requires { ⌜ Fits s ⌝ }
     ensures { λ r. ⌜ Fits r ⌝ }
+    ensures { λ r. ⌜ (0 < length (now (head .entry)) → Reads (now (block .entry)) s (length (now (head .entry))) (now (head .entry)) (now (head .exit)) (now (block .exit)) r) ⌝ }
+    ensures { λ r. ⌜ Keeps (now (buf .entry)) (now (buf .exit)) r ⌝ }
 {
     let out = settle(buf, s, 1);
     let span = input::ready(block, s.span);
@@ -140,7 +154,7 @@ pub fn next(block: &mut [u8; SIZE], head: &mut [u8], buf: &mut [u8; SIZE], s: St
 }
 
 fn at_most(n: usize, most: usize) -> usize
-    ensures { λ r. ⌜ (r ≤ n) × (r ≤ most) ⌝ }
+    ensures { λ r. ⌜ r ≡ min n most ⌝ }
 {
     if n < most { n } else { most }
 }
@@ -161,6 +175,9 @@ pub fn read_body(
 ) -> Body
     requires { ⌜ Fits s ⌝ }
     ensures { λ r. ⌜ Fits (r .state) × (r .count ≤ length (now (to .exit))) ⌝ }
+    ensures { λ r. ⌜ r .count ≡ min size (length (now (to .entry))) ⌝ }
+    ensures { λ r. ⌜ Reads (now (block .entry)) s size (now (to .entry)) (now (to .exit)) (now (block .exit)) (r .state) ⌝ }
+    ensures { λ r. ⌜ Keeps (now (buf .entry)) (now (buf .exit)) (r .state) ⌝ }
 {
     let count = at_most(size, to.len());
     let filled = part(block, &mut to[..count], buf, s);
@@ -208,6 +225,8 @@ pub struct Event {
 pub fn next_event(block: &mut [u8; SIZE], buf: &mut [u8; SIZE], s: State) -> Event
     requires { ⌜ Fits s ⌝ }
     ensures { λ r. ⌜ Fits (r .state) × (r .header .lines < 65536) ⌝ }
+    ensures { λ r. ⌜ Comprises (now (block .entry)) s (now (block .exit)) r ⌝ }
+    ensures { λ r. ⌜ Keeps (now (buf .entry)) (now (buf .exit)) (r .state) ⌝ }
 {
     let mut bytes = [0u8; 16];
     let state = next(block, &mut bytes, buf, s);

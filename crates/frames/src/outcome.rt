@@ -8,16 +8,27 @@ use print::preorder;
 use print::preorder::Visit;
 use rules::numbers::bits;
 use table::node;
-ghost use Prim.Native.Nat.{_<_, _≤_};
+ghost use mathlib.Core.List.{_∷_, []};
+ghost use mathlib.Core.Path.{_≡_};
+ghost use Prim.Native.Nat.{ℕ, _<_, _≤_, min};
 ghost use lib.ListN.{length};
-ghost use Rattle.table.specs.Cells.{Within};
+ghost use Rattle.rules.specs.Tree.{Forest, Place, sub, label};
+ghost use Rattle.table.specs.Cells.{cells, Within};
+ghost use Rattle.table.specs.Holds.{Holds};
+ghost use Rattle.table.specs.Promises.{Whenever};
+ghost use Rattle.lent.specs.Lent.{nodeOf};
+ghost use Rattle.frames.specs.Pieces.{Writes};
+ghost use Rattle.frames.specs.Answers as Answers;
+ghost use Rattle.frames.specs.Answers.{Shows, answerLine, variableRow, variableRows, nodeRow, treeRows, recordRow, recordRows, hexByte, hexBytes};
 
 // One more than a table may have, so that check 10 can be seen to fail.
 pub const PLACES: usize = 513;
 
 pub const WORDS: usize = table::CELL * PLACES;
 
-fn wide(x: u8) -> u32 {
+fn wide(x: u8) -> u32
+    ensures { λ r. ⌜ r ≡ x ⌝ }
+{
     x as u32
 }
 
@@ -25,6 +36,7 @@ fn wide(x: u8) -> u32 {
 pub fn put_answer(buf: &mut [u8; SIZE], out: Out, a: Answer) -> Out
     requires { ⌜ out .used ≤ 65536 ⌝ }
     ensures { λ r. ⌜ r .used ≤ 65536 ⌝ }
+    ensures { λ r. ⌜ Writes (answerLine (a .ending) (a .index) (a .steps) (a .lines)) out (now (buf .entry)) r (now (buf .exit)) ⌝ }
 {
     let mut r = print::item(buf, out, b"ending ", a.ending as u64);
     r = print::item(buf, r, b" index ", a.index as u64);
@@ -36,6 +48,7 @@ pub fn put_answer(buf: &mut [u8; SIZE], out: Out, a: Answer) -> Out
 fn put_variable(buf: &mut [u8; SIZE], out: Out, level: u8, value: i32) -> Out
     requires { ⌜ out .used ≤ 65536 ⌝ }
     ensures { λ r. ⌜ r .used ≤ 65536 ⌝ }
+    ensures { λ r. ⌜ Writes (variableRow level value ∷ []) out (now (buf .entry)) r (now (buf .exit)) ⌝ }
 {
     let numbers = [wide(level), bits(value)];
     print::row(buf, out, b"variable", &numbers, 1)
@@ -45,6 +58,7 @@ fn put_variable(buf: &mut [u8; SIZE], out: Out, level: u8, value: i32) -> Out
 pub fn put_variables(buf: &mut [u8; SIZE], out: Out, n: usize, levels: &[u8], values: &[i32]) -> Out
     requires { ⌜ (out .used ≤ 65536) × (n ≤ length (now levels)) × (n ≤ length (now values)) ⌝ }
     ensures { λ r. ⌜ r .used ≤ 65536 ⌝ }
+    ensures { λ r. ⌜ Writes (variableRows n (now (levels .entry)) (now (values .entry))) out (now (buf .entry)) r (now (buf .exit)) ⌝ }
 {
     let mut r = out;
     let mut i = 0;
@@ -58,6 +72,7 @@ pub fn put_variables(buf: &mut [u8; SIZE], out: Out, n: usize, levels: &[u8], va
 fn put_node(buf: &mut [u8; SIZE], out: Out, words: &[u32], places: usize, v: Visit) -> Out
     requires { ⌜ (out .used ≤ 65536) × Within (now words) places (v .place) × (v .depth ≤ 512) ⌝ }
     ensures { λ r. ⌜ r .used ≤ 65536 ⌝ }
+    ensures { λ r. ⌜ Whenever (cells (now (words .entry))) places (v .place) (λ t p. Writes (nodeRow (v .depth) (label (sub p t)) ∷ []) out (now (buf .entry)) r (now (buf .exit))) ⌝ }
 {
     let at = v.place;
     let numbers = [
@@ -74,6 +89,8 @@ fn put_node(buf: &mut [u8; SIZE], out: Out, words: &[u32], places: usize, v: Vis
 fn put_tree(buf: &mut [u8; SIZE], out: Out, words: &[u32], places: usize) -> Out
     requires { ⌜ (out .used ≤ 65536) × Within (now words) places 0 ⌝ }
     ensures { λ r. ⌜ r .used ≤ 65536 ⌝ }
+    ensures { λ r. ⌜ ((used free x : ℕ) (t : Forest) (p : Place) → Holds (cells (now (words .entry))) places used free x t p
+        → Writes (treeRows 0 t) out (now (buf .entry)) r (now (buf .exit))) ⌝ }
 {
     let mut r = out;
     let mut v = preorder::first();
@@ -93,6 +110,8 @@ fn put_tree(buf: &mut [u8; SIZE], out: Out, words: &[u32], places: usize) -> Out
 fn put_lent_tree(buf: &mut [u8; SIZE], out: Out, words: &[u32], places: usize) -> Out
     requires { ⌜ (out .used ≤ 65536) × (5120 ≤ length (now words)) ⌝ }
     ensures { λ r. ⌜ r .used ≤ 65536 ⌝ }
+    ensures { λ r. ⌜ ((used free x : ℕ) (t : Forest) (p : Place) → Holds (cells (now (words .entry))) places used free x t p
+        → Writes (treeRows 0 t) out (now (buf .entry)) r (now (buf .exit))) ⌝ }
 {
     if places < 1 {
         return out;
@@ -117,6 +136,7 @@ pub fn put_run(
 ) -> Out
     requires { ⌜ (out .used ≤ 65536) × (5120 ≤ length (now words)) × (n ≤ length (now levels)) × (n ≤ length (now values)) ⌝ }
     ensures { λ r. ⌜ r .used ≤ 65536 ⌝ }
+    ensures { λ r. ⌜ Shows o n places (now (words .entry)) (now (levels .entry)) (now (values .entry)) (now (lines .entry)) out (now (buf .entry)) r (now (buf .exit)) ⌝ }
 {
     let a = answer::of(o);
     let mut r = put_answer(buf, out, a);
@@ -142,6 +162,7 @@ pub fn put(
 ) -> Out
     requires { ⌜ (out .used ≤ 65536) × (n ≤ length (now levels)) × (n ≤ length (now values)) ⌝ }
     ensures { λ r. ⌜ r .used ≤ 65536 ⌝ }
+    ensures { λ r. ⌜ Shows o n places (now (words .entry)) (now (levels .entry)) (now (values .entry)) (now (lines .entry)) out (now (buf .entry)) r (now (buf .exit)) ⌝ }
 {
     put_run(buf, out, o, n, places, words, levels, values, lines)
 }
@@ -149,6 +170,7 @@ pub fn put(
 fn put_record(buf: &mut [u8; SIZE], out: Out, words: &[u32; WORDS], place: usize) -> Out
     requires { ⌜ (out .used ≤ 65536) × (place < 513) ⌝ }
     ensures { λ r. ⌜ r .used ≤ 65536 ⌝ }
+    ensures { λ r. ⌜ Writes (recordRow place (nodeOf (cells (now (words .entry)) place)) ∷ []) out (now (buf .entry)) r (now (buf .exit)) ⌝ }
 {
     let d = lent::node::node_of(words, place);
     let numbers = [
@@ -171,6 +193,7 @@ fn put_record(buf: &mut [u8; SIZE], out: Out, words: &[u32; WORDS], place: usize
 pub fn put_records(buf: &mut [u8; SIZE], out: Out, words: &[u32; WORDS], places: usize) -> Out
     requires { ⌜ out .used ≤ 65536 ⌝ }
     ensures { λ r. ⌜ r .used ≤ 65536 ⌝ }
+    ensures { λ r. ⌜ Writes (recordRows (now (words .entry)) (min places 513)) out (now (buf .entry)) r (now (buf .exit)) ⌝ }
 {
     let mut r = out;
     let mut x = 0;
@@ -187,6 +210,7 @@ pub fn put_records(buf: &mut [u8; SIZE], out: Out, words: &[u32; WORDS], places:
 // A digit of hexadecimal.
 fn digit(n: u8) -> u8
     requires { ⌜ n < 16 ⌝ }
+    ensures { λ r. ⌜ r ≡ Answers.digit n ⌝ }
 {
     if n < 10 { b'0' + n } else { b'a' + (n - 10) }
 }
@@ -194,6 +218,7 @@ fn digit(n: u8) -> u8
 fn put_byte(buf: &mut [u8; SIZE], out: Out, b: u8) -> Out
     requires { ⌜ out .used ≤ 65536 ⌝ }
     ensures { λ r. ⌜ r .used ≤ 65536 ⌝ }
+    ensures { λ r. ⌜ Writes (hexByte b ∷ []) out (now (buf .entry)) r (now (buf .exit)) ⌝ }
 {
     let r = print::byte(buf, out, digit(b / 16));
     print::byte(buf, r, digit(b % 16))
@@ -203,6 +228,7 @@ fn put_byte(buf: &mut [u8; SIZE], out: Out, b: u8) -> Out
 pub fn put_hex(buf: &mut [u8; SIZE], out: Out, bytes: &[u8]) -> Out
     requires { ⌜ out .used ≤ 65536 ⌝ }
     ensures { λ r. ⌜ r .used ≤ 65536 ⌝ }
+    ensures { λ r. ⌜ Writes (hexBytes (now (bytes .entry))) out (now (buf .entry)) r (now (buf .exit)) ⌝ }
 {
     let mut r = out;
     let mut i = 0;

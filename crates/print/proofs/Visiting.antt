@@ -20,7 +20,7 @@ use Rattle.print.specs.Preorder as Preorder
 use Rattle.print.specs.Preorder.{Stop, stop, preorder, Stands, Goes, on, over, depth, later, from, First}
 
 -- there are as many as the tree has nodes
-length-preorder : (p : Place) (d : ℕ) (f : Forest) → length (preorder p d f) ≡ size f
+pub length-preorder : (p : Place) (d : ℕ) (f : Forest) → length (preorder p d f) ≡ size f
 unfolding preorder size
 length-preorder p d nil = refl
 length-preorder p d (tree l c r) =

@@ -9,7 +9,7 @@ returns : tie.Need-returns
 returns c = (c .leaves .ensures .0, λ lines h. c .leaves .ensures .1 _ h)
 
 slice-aggregate-newcomer : tie.Need-slice-aggregate-newcomer
-slice-aggregate-newcomer c = sym (length-take-le _ _ (c .before .before .before .before .read-body .ensures .1))
+slice-aggregate-newcomer c = sym (length-take-le _ _ (c .before .before .before .before .read-body .ensures .0 .1))
 
 pub admit-spec : {M : Type 1} → statement M
 admit-spec =

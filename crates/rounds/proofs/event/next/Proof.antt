@@ -8,7 +8,7 @@ returns : tie.Need-returns
 returns c = (c .leaves .ensures .0, c .leaves .ensures .1 _ (c .before .before .before .before .before .pre .1))
 
 admit-requires : tie.Need-admit-requires
-admit-requires c κs = (c .before .before .before .before .before .before .before .before .before .before .before .next-event .ensures .0, c .before .before .before .before .before .before .before .before .before .before .before .next-event .ensures .1, open-for _ _ _ _ _ _ _ _ _ (c .before .before .before .before .before .before .before .before .before .before .before .before .before .before .pre .1))
+admit-requires c κs = (c .before .before .before .before .before .before .before .before .before .before .before .next-event .ensures .0 .0, c .before .before .before .before .before .before .before .before .before .before .before .next-event .ensures .0 .1, open-for _ _ _ _ _ _ _ _ _ (c .before .before .before .before .before .before .before .before .before .before .before .before .before .before .pre .1))
 
 returns-2 : tie.Need-returns-2
 returns-2 c = (c .admit .ensures .0, c .admit .ensures .1 _ (c .before .before .before .before .before .before .before .before .before .before .before .before .before .before .before .pre .1))

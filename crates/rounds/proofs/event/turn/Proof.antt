@@ -5,7 +5,7 @@ use Rattle.rounds.proofs.event.turn.Statement.{statement}
 use Rattle.rounds.proofs.event.turn.Tie as tie
 
 put-turn-requires : tie.Need-put-turn-requires
-put-turn-requires c κs = (c .before .before .before .before .before .before .before .before .before .before .before .before .head .ensures, shows-turn _ _ _ _ (c .before .before .before .before .before .before .before .before .before .before .before .before .before .before .before .pre .1) (c .before .before .before .before .turn .ensures))
+put-turn-requires c κs = (c .before .before .before .before .before .before .before .before .before .before .before .before .head .ensures .0, shows-turn _ _ _ _ (c .before .before .before .before .before .before .before .before .before .before .before .before .before .before .before .pre .1) (c .before .before .before .before .turn .ensures))
 
 answered-requires : tie.Need-answered-requires
 answered-requires c κs = (c .before .before .before .before .before .before .before .before .before .before .before .before .before .before .before .before .pre .0, c .put-turn .ensures)
