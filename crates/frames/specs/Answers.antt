@@ -25,6 +25,7 @@ answerLine ending index steps lines =
     item (101 ∷ 110 ∷ 100 ∷ 105 ∷ 110 ∷ 103 ∷ 32 ∷ []) ending ∷ item (32 ∷ 105 ∷ 110 ∷ 100 ∷ 101 ∷ 120 ∷ 32 ∷ []) index
     ∷ item (32 ∷ 115 ∷ 116 ∷ 101 ∷ 112 ∷ 115 ∷ 32 ∷ []) steps ∷ item (32 ∷ 108 ∷ 105 ∷ 110 ∷ 101 ∷ 115 ∷ 32 ∷ []) lines ∷ text (10 ∷ []) ∷ []
 
+-- the same of an answer of the rules
 abbrev pub answerOn : Answer → List Piece
 answerOn a = answerLine (a .ending) (a .index) (a .steps) (a .lines)
 
