@@ -1,6 +1,6 @@
 -- The labelled tree, its places, what a command does at a place, and the tree rules. Assumes nothing.
 use Rattle.std.specs.Prelude.{◌≡◌, ℕ, suc, ◌+◌, Bool, true, false, ◌&&◌, cond, ℤ, pos}
-use Rattle.std.proofs.Math.Option.{Option, none, some, map, Option·elim, bind}
+use Rattle.std.proofs.Math.Option.{Option, none, some, map, Option-elim, bind}
 use Rattle.rules.specs.Level.{Level, public, not_above, is_level}
 
 -- "A node has a signed 32-bit value, an existence level, a content level and a list level": the last is the structure level, who may know its number of children
@@ -126,11 +126,11 @@ past (to d p) q = bind (past p q) (without d)
 
 -- where the node at q stands after a node was inserted at p: what stood at p stands right of the new node
 unfoldable pub after_insert : Place → Place → Place
-after_insert p q = Option·elim (past p q) q (beyond (to sibling p))
+after_insert p q = Option-elim (past p q) q (beyond (to sibling p))
 
 -- where the node at q stands after the one at p was removed "with its subtree": what stood right of p stands at p, and what stood at p or below is nowhere
 unfoldable pub after_remove : Place → Place → Option Place
-after_remove p q = Option·elim (past p q) (some q) (λ w. map (beyond p) (without sibling w))
+after_remove p q = Option-elim (past p q) (some q) (λ w. map (beyond p) (without sibling w))
 
 -- a label with another value
 unfoldable pub with_value : ℤ → Label → Label
