@@ -1,5 +1,7 @@
 // The rearranging program: one stored job on standard input. The rearranged bytes go to standard output; of a job that was turned back so far only its number and index go to
 // standard error.
+#![tactic(auto)]
+
 use arranger::arrange;
 use libc::{STDIN_FILENO, STDOUT_FILENO};
 

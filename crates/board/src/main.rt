@@ -1,5 +1,7 @@
 // The board runner: one job on standard input, with a budget of 100,000, 512 places and 256 lines. The board goes to standard output, how the run
 // ended to standard error.
+#![tactic(auto)]
+
 ghost use Rattle.std.specs.Prelude.{◌≤◌};
 
 use libc::STDIN_FILENO;

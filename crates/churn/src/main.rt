@@ -1,5 +1,7 @@
 // Fills the node table to its last place, removes subtrees, fills it again and clears it, round after round. After each filling every node is
 // looked at in order, and whatever does not come out as it must is counted as a fault.
+#![tactic(auto)]
+
 mod rounds;
 mod run;
 

@@ -1,5 +1,7 @@
 // The cleaning program: one stored job on standard input. The cleaned bytes go to standard output, then each change to standard error, on a line of its own; of a job
 // that the old rules turn back only its number and index go to standard error.
+#![tactic(auto)]
+
 ghost use Rattle.std.specs.Prelude.{◌<◌, ◌≤◌, length};
 
 use cleaner::{Cleaning, Next, clean, next_change};

@@ -1,4 +1,6 @@
 // The public run over what a caller lends, node records among it.
+#![tactic(auto)]
+
 ghost use Rattle.std.specs.Prelude.{◌≡◌, min, length};
 ghost use Rattle.rules.specs.Limits.{max_nodes};
 ghost use Rattle.monitor.specs.Follow.{Follows};

@@ -1,4 +1,6 @@
 // What a job's bytes hold: its sections, the fields of variables, nodes and script records, and the check of each.
+#![tactic(auto)]
+
 pub mod nodes;
 pub mod reads;
 pub mod records;

@@ -1,5 +1,7 @@
 // Programs that answer one frame after the other: frames come on standard input, a header and a body each, and answers wait in a buffer for standard
 // output.
+#![tactic(auto)]
+
 pub mod input;
 pub mod outcome;
 

@@ -1,6 +1,8 @@
 // Runs scripts over a tree that stays, for tests. Standard input is a sequence of events: the kind, the body's length and the budget in 4 bytes each, the
 // places and the line capacity in 2 bytes each, little-endian, then the body. For each, in order, what became of it goes to standard output; events are
 // counted from 0.
+#![tactic(auto)]
+
 mod after;
 mod event;
 mod poke;

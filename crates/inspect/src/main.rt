@@ -1,5 +1,7 @@
 // Inspection of one job, for the house: the job comes on standard input and is run as the board runner does it. What became of it, its lines, its
 // variables and its last tree go to standard output, whatever their levels.
+#![tactic(auto)]
+
 mod names;
 mod tree;
 

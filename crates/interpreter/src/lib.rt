@@ -1,4 +1,6 @@
 // The run of a script over what is lent, from where it stands: record after record, until it ends.
+#![tactic(auto)]
+
 mod run;
 mod step;
 

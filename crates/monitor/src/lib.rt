@@ -1,4 +1,6 @@
 // The monitor: one script over one labelled tree, from a job's bytes to its outcome.
+#![tactic(auto)]
+
 mod entry;
 mod follow;
 mod start;

@@ -1,4 +1,6 @@
 // The public run over node records of its own, which a caller reads and hands in as words.
+#![tactic(auto)]
+
 ghost use Rattle.std.specs.Prelude.{◌≡◌, true, false, ◌*◌, ◌≤◌, min, length};
 ghost use Rattle.table.specs.Cells.{cell_size};
 ghost use Rattle.monitor.specs.Promises.{lent};

@@ -1,4 +1,6 @@
 // The calls that a portal in C makes: bytes, a budget and plain slices of numbers, and one number back.
+#![tactic(auto)]
+
 ghost use Rattle.std.specs.Prelude.{◌≡◌, ◌+◌, ◌*◌, ◌≤◌};
 ghost use Rattle.rules.specs.Limits.{max_budget};
 ghost use Rattle.monitor.specs.Promises.{answer_of, lent};

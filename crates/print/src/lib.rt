@@ -1,4 +1,6 @@
 // Output through a buffer that the caller lends: what is put waits in it until it is full, and is then written out at once.
+#![tactic(auto)]
+
 pub mod answer;
 pub mod preorder;
 pub mod runner;

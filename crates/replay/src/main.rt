@@ -1,5 +1,7 @@
 // Runs many jobs, for tests and bulk work. Standard input is a sequence of frames: the job's length and the budget in 4 bytes each, the places and the
 // line capacity in 2 bytes each, little-endian, then the job. For each, in order, what became of it goes to standard output; jobs are counted from 0.
+#![tactic(auto)]
+
 mod frame;
 
 use print::SIZE;

@@ -1,5 +1,7 @@
 // Runs that take turns, for tests. Standard input is a sequence of events: the kind, the body's length and the budget in 4 bytes each, the places and the
 // line capacity in 2 bytes each, little-endian, then the body. For each, in order, what became of it goes to standard output; events are counted from 0.
+#![tactic(auto)]
+
 mod event;
 mod show;
 

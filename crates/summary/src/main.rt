@@ -1,5 +1,7 @@
 // The summary program: one job on standard input. For each node, in their order, how many parties' matters it carries goes to standard output, on a line of its own; of a job that
 // is turned back only its number and index go to standard error.
+#![tactic(auto)]
+
 ghost use Rattle.std.specs.Prelude.{◌≡◌, ◌+◌, ◌≤◌, length, take};
 ghost use Rattle.rules.specs.Limits.{node_size};
 ghost use Rattle.rules.specs.Level.{parties};

@@ -1,5 +1,7 @@
 // The node table: the tree of a run in one lent slice of words, CELL to a place. A place is a number below `places`, the number of places
 // lent; a link to no node holds NIL, which is no place.
+#![tactic(auto)]
+
 mod cells;
 mod levels;
 pub mod node;

@@ -1,4 +1,6 @@
 // A job in text form: hexadecimal digits, two to a byte, where [3*00ff] stands for three times 00ff. All other characters are left out.
+#![tactic(auto)]
+
 ghost use Rattle.std.specs.Prelude.{List, ◌∷◌, ◌++◌, ◌≡◌, ℕ, ◌+◌, ◌<◌, ◌≤◌, min, length, drop};
 ghost use Rattle.io.specs.Counts.{IsPrefixLen};
 ghost use Rattle.text.specs.Hex.{first_of, digit_of, digits, one_more, number_of, bytes_of, plain, times, spelled, placed, Leaves};

@@ -1,4 +1,6 @@
 // Puts jobs in text form, one to a line of standard input, through the run over job bytes, and prints what each comes to.
+#![tactic(auto)]
+
 mod report;
 mod settings;
 

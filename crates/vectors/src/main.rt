@@ -1,4 +1,6 @@
 // Puts jobs in text form, one to a line of standard input, through the checks, and prints what each comes to.
+#![tactic(auto)]
+
 use job::Checked;
 use libc::{STDIN_FILENO, STDOUT_FILENO};
 use text::{expand, find};

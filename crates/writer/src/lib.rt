@@ -1,4 +1,6 @@
 // A standing tree and variables, written back as a job with an empty script.
+#![tactic(auto)]
+
 mod nodes;
 mod put;
 mod variables;
