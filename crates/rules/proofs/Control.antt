@@ -26,7 +26,7 @@ use Rattle.rules.proofs.Results.{Good, good_given, good_map, good_leave}
 use Rattle.rules.proofs.Runs.{more}
 use Rattle.rules.proofs.Sound.{Sound, Sets, moved, effect_sound, expression_level}
 use Rattle.rules.proofs.Places.{no_some}
-use Rattle.rules.proofs.Relocate.{Restorable, AllRestorable, remembers, remembers_on, blocks_skip, blocks_length, context_on, restorable_after}
+use Rattle.rules.proofs.Relocate.{Restorable, Stands, AllRestorable, remembers, remembers_on, blocks_skip, blocks_length, context_on, restorable_after}
 
 -- the sets of a command are levels
 abbrev pub CommandSets : Command → Type 0
@@ -224,16 +224,20 @@ module _ (lent : Buffers) (cs : List Command) (closed : Closed cs) (s : State) (
   -- what a new block remembers stands in the tree, and so does what the others remember
   restorable_entered : (b : Block) (m : Memory) → Enters s b m → AllRestorable m.tree (b ∷ s.blocks)
   unfolding with_cursor current
-  restorable_entered b m (plainly r e) = (rw r tt, rw e valid.restorable)
+  restorable_entered b m (plainly r e) = (
+    subst (Restorable m.tree (context (b ∷ s.blocks))) (sym r) tt,
+    subst (λ (z : Memory). AllRestorable z.tree s.blocks) (sym e) valid.restorable,
+  )
   restorable_entered b m (saves l r e) =
       let x = valid.memory in (
-        rw (r, e)
+        subst (Restorable m.tree (context (b ∷ s.blocks))) (sym r)
+            (subst (λ (z : Memory). Stands z.tree (context (b ∷ s.blocks)) (record { place = some s.memory.cursor; level = s.memory.level })) (sym e)
             (record {
               level = x.cursor;
               node = λ p h. let z : s.memory.cursor ≡ p = cc in rw (← z) (x.stands, x.covered);
               kept = λ _ h. no_some (sym h);
-            }),
-        rw e valid.restorable,
+            })),
+        subst (λ (z : Memory). AllRestorable z.tree s.blocks) (sym e) valid.restorable,
       )
 
   -- the invariant holds after the step

@@ -33,16 +33,23 @@ module _ (o : Level) where
   unfolding entered
   entry_told s (load a) (load b) h = one_view o (job_store a) (job_store b) h
   entry_told s (transaction f) (transaction g) h = ap (λ z. commit s (follow s z)) h
+  entry_told s (load a) (transaction g) h = elim h [ ]
+  entry_told s (transaction f) (load b) h = elim h [ ]
 
   stands_told : (xs ys : List Entry) (s t : Store) → s ≡ t → AlikeLogs o xs ys → stands o s xs ≡ stands o t ys
   unfolding stands
   stands_told [] [] s t e h = e
+  stands_told [] (y ∷ ys) s t e h = elim h [ ]
+  stands_told (x ∷ xs) [] s t e h = elim h [ ]
   stands_told (x ∷ xs) (y ∷ ys) s t e h =
       stands_told xs ys (entered o s x) (entered o t y) (ap (λ z. entered o z x) e ∙ entry_told t x y h.0) h.1
 
   lane_told : (xs ys : List Entry) (s t : Store) → s ≡ t → AlikeLogs o xs ys → lane o s xs ≡ lane o t ys
   unfolding lane
   lane_told [] [] s t e h = refl
+  lane_told [] (_ ∷ ys) s t e h = elim h [ ]
+  lane_told (load a ∷ xs) [] s t e h = elim h [ ]
+  lane_told (transaction f ∷ xs) [] s t e h = elim h [ ]
   lane_told (load a ∷ xs) (load b ∷ ys) s t e h =
       lane_told xs ys (entered o s (load a)) (entered o t (load b)) (ap (λ z. entered o z (load a)) e ∙ entry_told t (load a) (load b) h.0) h.1
   lane_told (load a ∷ xs) (transaction g ∷ ys) s t e h = absurd h.0
@@ -121,6 +128,9 @@ module _ (o p : Level) (within : not_above o p ≡ true) where
       → IndistinguishableLanes o (lane o s xs) (lane p t ys)
   unfolding lane
   outcomes_together [] [] s t a x y h = tt
+  outcomes_together [] (_ ∷ ys) s t a x y h = elim h [ ]
+  outcomes_together (load b ∷ xs) [] s t a x y h = elim h [ ]
+  outcomes_together (transaction f ∷ xs) [] s t a x y h = elim h [ ]
   outcomes_together (load b ∷ xs) (load c ∷ ys) s t a x y h =
       outcomes_together xs ys (entered o s (load b)) (entered p t (load c)) (loads_agree s t b c x.0 y.0 h.0) x.1 y.1 h.1
   outcomes_together (load b ∷ xs) (transaction g ∷ ys) s t a x y h = absurd h.0
@@ -138,6 +148,9 @@ module _ (o p : Level) (within : not_above o p ≡ true) where
       → map commits (lane o s xs) ≡ map commits (lane p t ys) → Same s t xs ys
   unfolding lane stands Same seen_boards sees
   same_together [] [] s t a x y h v = (refl, a)
+  same_together [] (_ ∷ ys) s t a x y h v = elim h [ ]
+  same_together (load b ∷ xs) [] s t a x y h v = elim h [ ]
+  same_together (transaction f ∷ xs) [] s t a x y h v = elim h [ ]
   same_together (load b ∷ xs) (load c ∷ ys) s t a x y h v =
       same_together xs ys (entered o s (load b)) (entered p t (load c)) (loads_agree s t b c x.0 y.0 h.0) x.1 y.1 h.1 v
   same_together (load b ∷ xs) (transaction g ∷ ys) s t a x y h v = absurd h.0

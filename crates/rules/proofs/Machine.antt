@@ -87,7 +87,7 @@ module _ {op : ℤ → ℤ → ℤ} {x y : ℤ} (e : Exact op x y) where
   exact_fits = fits_as result_is (record { sfits = omega (arith, e.near) })
 
   pub exact : kept w64 result ≡ op x y
-  exact = read_as result_is (record { sfits = omega (arith, e.near) })
+  exact = read_as {w = w64} result_is (record { sfits = omega (arith, e.near) })
 
 -- the machine compares the bits
 pub same_bits : {w : Width} {a b : ℤ} → SFits w a → SFits w b → eqb (of_z w a) (of_z w b) ≡ same a b

@@ -244,7 +244,7 @@ cut_none lo hi (tree l c r) f =
     rw (sees_all l.existence g.existence)
     (λ i.
     tree (record { value = mask_none l.content l.value g.content i; existence = l.existence; content = l.content; structure = l.structure })
-    (cut_none _ _ c f.1 i) (cut_none _ _ r f.2 i))
+    (cut_none l.existence l.structure c f.1 i) (cut_none l.existence hi r f.2 i))
 
 variables_none : (vs : List Variable) → all_levels vs ≡ true → view_variables everyone vs ≡ vs
 unfolding view_variables mask_variable all_levels

@@ -52,6 +52,8 @@ module _ (o : Level) where
   unfolding attempt Noninterference
   one_attempt s t (script f) (script g) a e = one_script o s t f g a e
   one_attempt s t (load l) (load m) a e = noninterference o l.job m.job l.budget m.budget l.lent m.lent e.0 e.1 e.2
+  one_attempt s t (script f) (load m) a e = elim e [ ]
+  one_attempt s t (load l) (script g) a e = elim e [ ]
 
   module _ (s t : Store) (w x : Outcome) (agree : AgreeStores o s t) (same : Indistinguishable o w x) (verdict : commits w ≡ commits x) where
     -- the same is seen of both, and what stands agrees again
@@ -70,6 +72,8 @@ module _ (o : Level) where
   seasons : (xs ys : List Transaction) (s t : Store) → AgreeStores o s t → AlikeSeasons o xs ys → verdicts s xs ≡ verdicts t ys → SameSeasons o s t xs ys
   unfolding verdicts season boards closing seen_boards sees
   seasons [] [] s t a e v = record { seen = refl; stores = a }
+  seasons [] (y ∷ ys) s t a e v = elim e [ ]
+  seasons (x ∷ xs) [] s t a e v = elim e [ ]
   seasons (x ∷ xs) (y ∷ ys) s t a e v =
       let w = one_attempt s t x y a e.0 in
       let k = one_verdict s t (attempt s x) (attempt t y) a w (heads v) in

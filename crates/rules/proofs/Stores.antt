@@ -59,7 +59,7 @@ fits_facts lo hi nil e = tt
 fits_facts lo hi (tree l c r) e =
     let x2 = both _ (fits l.existence hi r) e in
     let x1 = both (fits_node lo hi l) (fits l.existence l.structure c) x2.0 in
-    (node_facts lo hi l x1.0, fits_facts _ _ c x1.1, fits_facts _ _ r x2.1)
+    (node_facts lo hi l x1.0, fits_facts l.existence l.structure c x1.1, fits_facts l.existence hi r x2.1)
 
 pub fits_test : (lo hi : Level) (t : Forest) → Fits lo hi t → fits lo hi t ≡ true
 unfolding fits
