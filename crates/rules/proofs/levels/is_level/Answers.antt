@@ -3,11 +3,7 @@ use mathlib.Core.Path.{sym, ◌∙◌}
 use native.Mathlib.Omega.{arith}
 use borrow.Author.Tests.{le-leb}
 use Rattle.rules.proofs.Lattice.{byte_level}
-use Rattle.rules.proofs.levels.is_level.Statement.{statement}
-use Rattle.rules.proofs.levels.is_level.Tie as tie
+use Rattle.rules.proofs.levels.is_level.Goals as goal
 
-returns : tie.Need-returns
+pub returns : goal.returns
 returns c = le-leb c.args.a 255 (omega arith) ∙ sym (byte_level c.args.a (omega arith))
-
-pub is-level-spec : {M : Type 1} → statement M
-is-level-spec = tie.close (tie.spec returns)

@@ -13,8 +13,7 @@ use mir.Facts.{to_z-of_z}
 use Rattle.rules.specs.Number.{range, bits}
 use Rattle.rules.proofs.Number.{bits_below, sub_more}
 use Rattle.rules.proofs.Machine.{kept, fits_as, read_as, widens, widened, unsigned_fits}
-use Rattle.rules.proofs.numbers.bits.Statement.{statement}
-use Rattle.rules.proofs.numbers.bits.Tie as tie
+use Rattle.rules.proofs.numbers.bits.Goals as goal
 
 turned : {v : ℤ} → SFits w32 v → lt_z v (pos 0) ≡ true → v +ℤ pos range ≡ pos (bits v)
 unfolding bits
@@ -26,37 +25,37 @@ unfolding bits
 itself {v = pos n} h t = ap pos (omega arith)
 itself {v = negsuc n} h t = absurd (true≢false t)
 
-module _ (c : tie.Then1) where
+module _ (c : goal.Then-v-lt0) where
   abbrev v : ℤ
-  v = c.before.args.v
+  v = c.args.v
 
   up : kept w64 (kept w32 v) +ℤ pos range ≡ pos (bits v)
   up =
-      let h = c.before.ranges.v in
-      ap (λ (z : ℤ). z +ℤ pos range) (widened h) ∙ turned h (rw (to_z-of_z h) at c.if1.true)
+      let h = c.ranges.v in
+      ap (λ (z : ℤ). z +ℤ pos range) (widened h) ∙ turned h (rw (to_z-of_z h) at c.if-v-lt0.true)
 
   fits : SFits w64 (pos (bits v))
   fits = record { sfits = omega (arith, bits_below v) }
 
-stays : (c : tie.Else1) → kept w32 c.before.args.v ≡ pos (bits c.before.args.v)
+stays : (c : goal.Else-v-lt0) → kept w32 c.args.v ≡ pos (bits c.args.v)
 stays c =
-    let h = c.before.ranges.v in
-    to_z-of_z h ∙ itself h (rw (to_z-of_z h) at c.if1.false)
+    let h = c.ranges.v in
+    to_z-of_z h ∙ itself h (rw (to_z-of_z h) at c.if-v-lt0.false)
 
-returns : tie.Need-returns
-returns c = ap nat_abs (read_as (up c) (fits c))
+pub returns-then-v-lt0 : goal.returns-then-v-lt0
+returns-then-v-lt0 c = ap nat_abs (read_as (up c) (fits c))
 
-returns-2 : tie.Need-returns-2
-returns-2 c = ap nat_abs (stays c)
+pub returns-else-v-lt0 : goal.returns-else-v-lt0
+returns-else-v-lt0 c = ap nat_abs (stays c)
 
-add-result : tie.Need-overflow-add-result
-add-result c = fits_as (up c) (fits c)
+pub overflow_add-result : goal.overflow_add-result
+overflow_add-result c = fits_as (up c) (fits c)
 
-cast-result-2 : tie.Need-overflow-cast-result-2
-cast-result-2 c = unsigned_fits (read_as (up c) (fits c)) (bits_below (v c))
+pub overflow_cast-result-then-v-lt0 : goal.overflow_cast-result-then-v-lt0
+overflow_cast-result-then-v-lt0 c = unsigned_fits (read_as (up c) (fits c)) (bits_below (v c))
 
-cast-result-3 : tie.Need-overflow-cast-result-3
-cast-result-3 c = unsigned_fits (stays c) (bits_below c.before.args.v)
+pub overflow_cast-result-else-v-lt0 : goal.overflow_cast-result-else-v-lt0
+overflow_cast-result-else-v-lt0 c = unsigned_fits (stays c) (bits_below c.args.v)
 
-pub bits-spec : {M : Type 1} → statement M
-bits-spec = tie.close (tie.spec (λ c. widens c.before.ranges.v) add-result cast-result-2 cast-result-3 returns returns-2)
+pub overflow_cast-result : goal.overflow_cast-result
+overflow_cast-result c = widens c.ranges.v

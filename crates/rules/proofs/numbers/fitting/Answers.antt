@@ -14,8 +14,7 @@ use mir.Facts.{to_z-of_z}
 use Rattle.rules.specs.Number.{half_range}
 use Rattle.rules.proofs.Number.{fitting_in, fitting_out}
 use Rattle.rules.proofs.Machine.{kept, fits_as, read_as}
-use Rattle.rules.proofs.numbers.fitting.Statement.{statement}
-use Rattle.rules.proofs.numbers.fitting.Tie as tie
+use Rattle.rules.proofs.numbers.fitting.Goals as goal
 
 above : (z : ℤ) → lt_z (pos 2147483647) z ≡ true → half_range ≤ mag z
 above (pos n) t = omega (arith, ltb-true 2147483647 n t)
@@ -29,31 +28,24 @@ within : (z : ℤ) {k j : ℕ} → k < half_range → j < half_range → lt_z (p
 within (pos n) {k} {j} a b t u = record { sfits = omega (arith, a, ltb-false k n t) }
 within (negsuc n) {k} {j} a b t u = record { sfits = omega (arith, b, ltb-false j n u) }
 
-module _ (c : tie.Else2) where
+module _ (c : goal.Else-z-ltminus2147483648) where
   abbrev z : ℤ
-  z = c.before.before.args.z
+  z = c.args.z
 
   same : kept w64 z ≡ z
-  same = to_z-of_z c.before.before.ranges.z
+  same = to_z-of_z c.ranges.z
 
   fits : SFits w32 z
-  fits = within z (omega arith) (omega arith) (rw same at c.before.if1.false) (rw same at c.if2.false)
+  fits = within z (omega arith) (omega arith) (rw same at c.if-z-gt2147483647.false) (rw same at c.if-z-ltminus2147483648.false)
 
-cast-t6 : tie.Need-overflow-cast-t6
-cast-t6 c = fits_as (same c) (fits c)
+pub overflow_cast-result : goal.overflow_cast-result
+overflow_cast-result c = fits_as (same c) (fits c)
 
-returns : tie.Need-returns
-returns c =
-    let s = c.before in
-    sym (fitting_out s.args.z (above s.args.z (rw (to_z-of_z s.ranges.z) at c.if1.true)))
+pub returns-then-z-gt2147483647 : goal.returns-then-z-gt2147483647
+returns-then-z-gt2147483647 c = sym (fitting_out c.args.z (above c.args.z (rw (to_z-of_z c.ranges.z) at c.if-z-gt2147483647.true)))
 
-returns-2 : tie.Need-returns-2
-returns-2 c =
-    let s = c.before.before in
-    sym (fitting_out s.args.z (below s.args.z (rw (to_z-of_z s.ranges.z) at c.if2.true)))
+pub returns-then-z-ltminus2147483648 : goal.returns-then-z-ltminus2147483648
+returns-then-z-ltminus2147483648 c = sym (fitting_out c.args.z (below c.args.z (rw (to_z-of_z c.ranges.z) at c.if-z-ltminus2147483648.true)))
 
-returns-3 : tie.Need-returns-3
-returns-3 c = ap some (read_as (same c) (fits c)) ∙ sym (fitting_in (z c) (fits c))
-
-pub fitting-spec : {M : Type 1} → statement M
-fitting-spec = tie.close (tie.spec cast-t6 returns returns-2 returns-3)
+pub returns-else-z-ltminus2147483648 : goal.returns-else-z-ltminus2147483648
+returns-else-z-ltminus2147483648 c = ap some (read_as (same c) (fits c)) ∙ sym (fitting_in (z c) (fits c))

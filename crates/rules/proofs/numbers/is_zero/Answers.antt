@@ -3,12 +3,8 @@ use native.Mathlib.Omega.{arith}
 use lib.IntN.{pos}
 use Rattle.rules.specs.Number.{is_zero}
 use Rattle.rules.proofs.Machine.{same_bits}
-use Rattle.rules.proofs.numbers.is_zero.Statement.{statement}
-use Rattle.rules.proofs.numbers.is_zero.Tie as tie
+use Rattle.rules.proofs.numbers.is_zero.Goals as goal
 
-returns : tie.Need-returns
+pub returns : goal.returns
 unfolding is_zero
 returns c = same_bits {b = pos 0} c.ranges.a (record { sfits = omega arith })
-
-pub is-zero-spec : {M : Type 1} → statement M
-is-zero-spec = tie.close (tie.spec returns)

@@ -2,11 +2,7 @@
 use mathlib.Core.Path.{sym}
 use native.Mathlib.Omega.{arith}
 use Rattle.rules.proofs.Lattice.{above_outside}
-use Rattle.rules.proofs.levels.not_above.Statement.{statement}
-use Rattle.rules.proofs.levels.not_above.Tie as tie
+use Rattle.rules.proofs.levels.not_above.Goals as goal
 
-returns : tie.Need-returns
+pub returns : goal.returns
 returns c = sym (above_outside c.args.a c.args.b (omega arith) (omega arith))
-
-pub not-above-spec : {M : Type 1} → statement M
-not-above-spec = tie.close (tie.spec returns)

@@ -10,16 +10,15 @@ use mir.Facts.{to_z_pos}
 use Rattle.rules.specs.Number.{half_range, range, signed}
 use Rattle.rules.proofs.Number.{sub_less, signed_to_z, signed_fits}
 use Rattle.rules.proofs.Machine.{fits_wide, narrows, narrowed}
-use Rattle.rules.proofs.numbers.signed.Statement.{statement}
-use Rattle.rules.proofs.numbers.signed.Tie as tie
+use Rattle.rules.proofs.numbers.signed.Goals as goal
 
 turned : (w : ℕ) → w < range → half_range ≤ w → pos w -ℤ pos range ≡ signed w
 unfolding signed
 turned w h k = sub_less w range h ∙ rw (le-ltb w half_range k) (ap negsuc (omega arith))
 
-module _ (c : tie.Else1) where
+module _ (c : goal.Else-w-lt2147483648) where
   abbrev w : ℕ
-  w = c.before.args.w
+  w = c.args.w
 
   small : w < range
   small = omega arith
@@ -27,19 +26,20 @@ module _ (c : tie.Else1) where
   down : to_z w64 w -ℤ pos range ≡ signed w
   down = ap (λ (z : ℤ). z -ℤ pos range) (to_z_pos w64 {n = w} (omega arith)) ∙ turned w small (omega arith)
 
-returns : tie.Need-returns
-returns c = sym (signed_to_z c.before.args.w)
+pub returns-then-w-lt2147483648 : goal.returns-then-w-lt2147483648
+returns-then-w-lt2147483648 c = sym (signed_to_z c.args.w)
 
-returns-2 : tie.Need-returns-2
-returns-2 c = narrowed (down c) (signed_fits (w c) (small c))
+pub returns-else-w-lt2147483648 : goal.returns-else-w-lt2147483648
+returns-else-w-lt2147483648 c = narrowed (down c) (signed_fits (w c) (small c))
 
-cast-result-3 : tie.Need-overflow-cast-result-3
-cast-result-3 c = narrows (down c) (signed_fits (w c) (small c))
+pub overflow_cast-result-else-w-lt2147483648-2 : goal.overflow_cast-result-else-w-lt2147483648-2
+overflow_cast-result-else-w-lt2147483648-2 c = narrows (down c) (signed_fits (w c) (small c))
 
-sub-result : tie.Need-overflow-sub-result
-sub-result c = fits_wide (down c) (signed_fits (w c) (small c))
+pub overflow_sub-result : goal.overflow_sub-result
+overflow_sub-result c = fits_wide (down c) (signed_fits (w c) (small c))
 
-pub signed-spec : {M : Type 1} → statement M
-signed-spec =
-    tie.close
-    (tie.spec (λ c. record { sfits = omega arith }) (λ c. record { sfits = omega arith }) sub-result cast-result-3 returns returns-2)
+pub overflow_cast-result : goal.overflow_cast-result
+overflow_cast-result c = record { sfits = omega arith }
+
+pub overflow_cast-result-else-w-lt2147483648 : goal.overflow_cast-result-else-w-lt2147483648
+overflow_cast-result-else-w-lt2147483648 c = record { sfits = omega arith }
