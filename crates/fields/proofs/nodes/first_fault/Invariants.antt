@@ -1,0 +1,17 @@
+use mathlib.Core.Path.{sym, ◌∙◌}
+use Prim.Native.Nat.{◌-◌}
+use native.Mathlib.Omega.{arith}
+use native.Mathlib.Numerals.{add-one}
+use borrow.Author.Tests.{not-true, not-false}
+use Rattle.rules.proofs.Search.{Scan, scan_start, scan_next, scan_stop, scan_end}
+use Rattle.fields.specs.Fits.{node_in}
+use Rattle.fields.specs.Siblings.{Rooted, Lasts}
+use Rattle.fields.proofs.Siblings.{lasts_start}
+use borrow.Author.Rules.{rules}
+use Rattle.fields.proofs.nodes.first_fault.Given as goal
+
+abbrev pub invariant-loop-i : goal.invariant-loop-i
+invariant-loop-i l = Scan (node_in l.top l.job l.base) l.count l.i × Lasts l.job l.base l.i l.last
+
+abbrev pub decreases-loop-i : goal.decreases-loop-i
+decreases-loop-i l = l.count - l.i
