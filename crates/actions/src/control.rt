@@ -16,7 +16,7 @@ use rules::numbers;
 use rules::numbers::Number;
 
 // The memory, the open blocks, the record that comes next, and how many steps are left.
-#[derive(Drop)]
+#[derive(Clone, Copy)]
 pub struct Running {
     pub memory: Memory,
     pub guards: Guards,

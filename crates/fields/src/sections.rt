@@ -11,7 +11,7 @@ use rules::limits::{
 };
 
 // The number of variables, where the nodes start and how many there are, where the script starts and how many records it has.
-#[derive(Drop)]
+#[derive(Clone, Copy)]
 pub struct Layout {
     pub variables: usize,
     pub tree: usize,

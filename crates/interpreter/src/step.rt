@@ -18,7 +18,7 @@ use fields::records::fields_at;
 use job::plan::{END_BACK, code, next};
 
 // Where the script starts in the job's bytes and how many records it has, how many variables there are, and how many places.
-#[derive(Drop)]
+#[derive(Clone, Copy)]
 pub struct Frame {
     pub script: usize,
     pub records: usize,

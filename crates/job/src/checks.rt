@@ -28,7 +28,7 @@ pub enum Checked {
 }
 
 // The rules that are checked: paper 01 with R-1 to R-3, which the cleaner keeps, or with R-1 to R-9, which the rearranger keeps, or those of today.
-#[derive(Drop)]
+#[derive(Clone, Copy)]
 pub enum Edition {
     First,
     Unordered,
