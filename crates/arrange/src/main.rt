@@ -3,7 +3,11 @@
 #![tactic(auto)]
 
 use arranger::arrange;
-use libc::{STDIN_FILENO, STDOUT_FILENO};
+
+// The file descriptors of standard input and standard output.
+const STDIN_FILENO: i32 = 0;
+
+const STDOUT_FILENO: i32 = 1;
 
 fn refuse(number: u8, index: usize) {
     let mut buf = io::large_buffer();

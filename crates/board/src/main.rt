@@ -4,10 +4,12 @@
 
 ghost use Rattle.std.specs.Prelude.{◌≤◌};
 
-use libc::STDIN_FILENO;
 use monitor::{Outcome, run_words};
 use print::runner::{AREA, BUDGET, VARIABLES, WORDS};
 use print::{Out, SIZE, answer};
+
+// The file descriptor of standard input.
+const STDIN_FILENO: i32 = 0;
 
 // What became of a job, where, and in how many steps.
 fn ended(buf: &mut [u8; SIZE], out: Out, o: Outcome) -> Out

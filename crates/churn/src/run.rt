@@ -6,7 +6,7 @@ use table::{FIRST, NIL, Taken, WORDS, node, shape, walk};
 pub const PLACES: usize = 512;
 
 // The cursor, the free places, and what was counted so far.
-#[derive(Drop)]
+#[derive(Clone, Copy)]
 pub struct Run {
     pub at: usize,
     pub used: usize,

@@ -5,8 +5,12 @@
 ghost use Rattle.std.specs.Prelude.{◌<◌, ◌≤◌, length};
 
 use cleaner::{Cleaning, Next, clean, next_change};
-use libc::{STDIN_FILENO, STDOUT_FILENO};
 use print::{Out, SIZE};
+
+// The file descriptors of standard input and standard output.
+const STDIN_FILENO: i32 = 0;
+
+const STDOUT_FILENO: i32 = 1;
 
 // What was put, and the place from which the next change is asked for.
 #[derive(Drop)]

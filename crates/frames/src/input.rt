@@ -3,8 +3,8 @@ ghost use Rattle.std.specs.Prelude.{[], ◌≤◌, length};
 ghost use Rattle.frames.specs.Bounds.{Inside};
 ghost use Rattle.frames.specs.Input.{Ready, Takes};
 
-use libc::STDIN_FILENO;
 use print::SIZE;
+use std::io::{Read, Stdin};
 
 // The bytes of the block that are read and not yet handed out.
 #[derive(Drop)]
@@ -20,16 +20,19 @@ pub struct Taken {
     pub span: Span,
 }
 
-// Reads once, and says how many bytes came.
-fn refill(block: &mut [u8]) -> usize
+// Reads once, and says how many bytes came: none where the input has ended or the read fails.
+fn refill(stdin: Stdin, block: &mut [u8]) -> usize
     ensures { result ≤ length block.new }
 {
-    let got = libc::read(STDIN_FILENO, block);
-    io::count(got, block)
+    let mut input = stdin;
+    match input.read(block) {
+        Ok(count) => count,
+        Err(_) => 0,
+    }
 }
 
 // The span, or where it is empty that of the next block, which is empty where the input has ended.
-pub(crate) fn ready(block: &mut [u8; SIZE], span: Span) -> Span
+pub(crate) fn ready(stdin: Stdin, block: &mut [u8; SIZE], span: Span) -> Span
     requires { Inside span }
     ensures inside { Inside result }
     ensures ready { Ready block.old span block.new result }
@@ -37,12 +40,12 @@ pub(crate) fn ready(block: &mut [u8; SIZE], span: Span) -> Span
     if span.from < span.end {
         return span;
     }
-    let end = refill(block);
+    let end = refill(stdin, block);
     Span { from: 0, end }
 }
 
 // Puts the next bytes of the input into `to`, as far as it has so many.
-pub(crate) fn take(block: &mut [u8; SIZE], span: Span, to: &mut [u8]) -> Taken
+pub(crate) fn take(stdin: Stdin, block: &mut [u8; SIZE], span: Span, to: &mut [u8]) -> Taken
     requires { Inside span }
     ensures inside { Inside result.span }
     ensures takes { Takes block.old span (length to.old) to.old to.new block.new result }
@@ -50,7 +53,7 @@ pub(crate) fn take(block: &mut [u8; SIZE], span: Span, to: &mut [u8]) -> Taken
     let mut s = span;
     let mut count = 0;
     while count < to.len() {
-        s = ready(block, s);
+        s = ready(stdin, block, s);
         let from = s.from;
         let end = s.end;
         if from >= end {
@@ -67,7 +70,7 @@ pub(crate) fn take(block: &mut [u8; SIZE], span: Span, to: &mut [u8]) -> Taken
 }
 
 // Drops the next n bytes of the input, as far as it has so many: they are put nowhere.
-pub(crate) fn skip(block: &mut [u8; SIZE], span: Span, n: usize) -> Taken
+pub(crate) fn skip(stdin: Stdin, block: &mut [u8; SIZE], span: Span, n: usize) -> Taken
     requires { Inside span }
     ensures inside { Inside result.span }
     ensures takes { Takes block.old span n [] [] block.new result }
@@ -75,7 +78,7 @@ pub(crate) fn skip(block: &mut [u8; SIZE], span: Span, n: usize) -> Taken
     let mut s = span;
     let mut count = 0;
     while count < n {
-        s = ready(block, s);
+        s = ready(stdin, block, s);
         let from = s.from;
         let end = s.end;
         if from >= end {

@@ -14,6 +14,7 @@ ghost use Rattle.frames.specs.Pieces.{Writes, item, text};
 use fields::reads::{full_at, half_at};
 use input::Span;
 use print::{Out, SIZE};
+use std::io::Stdin;
 
 // What is read and what is to be written, from one frame to the next, and whether the input has ended.
 #[derive(Drop)]
@@ -93,14 +94,20 @@ fn settle(buf: &[u8; SIZE], s: State, n: usize) -> Out
 }
 
 // Fills a part of a frame.
-pub fn part(block: &mut [u8; SIZE], to: &mut [u8], buf: &mut [u8; SIZE], s: State) -> State
+pub fn part(
+    stdin: Stdin,
+    block: &mut [u8; SIZE],
+    to: &mut [u8],
+    buf: &mut [u8; SIZE],
+    s: State,
+) -> State
     requires { Fits s }
     ensures fits { Fits result }
     ensures reads { Reads block.old s (length to.old) to.old to.new block.new result }
     ensures keeps { Keeps buf.old buf.new result }
 {
     let out = settle(buf, s, to.len());
-    let t = input::take(block, s.span, to);
+    let t = input::take(stdin, block, s.span, to);
     if t.count < to.len() {
         return truncated(buf, out);
     }
@@ -113,14 +120,14 @@ pub fn part(block: &mut [u8; SIZE], to: &mut [u8], buf: &mut [u8; SIZE], s: Stat
 }
 
 // Passes over n bytes of a frame: they are put nowhere.
-pub fn pass(block: &mut [u8; SIZE], buf: &mut [u8; SIZE], s: State, n: usize) -> State
+pub fn pass(stdin: Stdin, block: &mut [u8; SIZE], buf: &mut [u8; SIZE], s: State, n: usize) -> State
     requires { Fits s }
     ensures fits { Fits result }
     ensures reads { Reads block.old s n [] [] block.new result }
     ensures keeps { Keeps buf.old buf.new result }
 {
     let out = settle(buf, s, n);
-    let t = input::skip(block, s.span, n);
+    let t = input::skip(stdin, block, s.span, n);
     if t.count < n {
         return truncated(buf, out);
     }
@@ -133,14 +140,20 @@ pub fn pass(block: &mut [u8; SIZE], buf: &mut [u8; SIZE], s: State, n: usize) ->
 }
 
 // The header of the next frame, which has a byte at least; the end, where the input has ended before it.
-pub fn next(block: &mut [u8; SIZE], head: &mut [u8], buf: &mut [u8; SIZE], s: State) -> State
+pub fn next(
+    stdin: Stdin,
+    block: &mut [u8; SIZE],
+    head: &mut [u8],
+    buf: &mut [u8; SIZE],
+    s: State,
+) -> State
     requires { Fits s }
     ensures fits { Fits result }
     ensures reads { 0 < length head.old → Reads block.old s (length head.old) head.old head.new block.new result }
     ensures keeps { Keeps buf.old buf.new result }
 {
     let out = settle(buf, s, 1);
-    let span = input::ready(block, s.span);
+    let span = input::ready(stdin, block, s.span);
     if span.from >= span.end {
         return finish(buf, out);
     }
@@ -149,7 +162,7 @@ pub fn next(block: &mut [u8; SIZE], head: &mut [u8], buf: &mut [u8; SIZE], s: St
         out,
         over: false,
     };
-    part(block, head, buf, started)
+    part(stdin, block, head, buf, started)
 }
 
 fn at_most(n: usize, most: usize) -> usize
@@ -167,6 +180,7 @@ pub struct Body {
 
 // Reads a body of a size. What does not fit the buffer is passed over.
 pub fn read_body(
+    stdin: Stdin,
     block: &mut [u8; SIZE],
     to: &mut [u8],
     buf: &mut [u8; SIZE],
@@ -180,7 +194,7 @@ pub fn read_body(
     ensures keeps { Keeps buf.old buf.new result.state }
 {
     let count = at_most(size, to.len());
-    let filled = part(block, &mut to[..count], buf, s);
+    let filled = part(stdin, block, &mut to[..count], buf, s);
     if filled.over {
         return Body {
             count,
@@ -189,7 +203,7 @@ pub fn read_body(
     }
     Body {
         count,
-        state: pass(block, buf, filled, size - count),
+        state: pass(stdin, block, buf, filled, size - count),
     }
 }
 
@@ -224,14 +238,14 @@ pub struct Event {
 }
 
 // The next event: its kind in 4 bytes, and its header.
-pub fn next_event(block: &mut [u8; SIZE], buf: &mut [u8; SIZE], s: State) -> Event
+pub fn next_event(stdin: Stdin, block: &mut [u8; SIZE], buf: &mut [u8; SIZE], s: State) -> Event
     requires { Fits s }
     ensures fits { Fits result.state × (result.header.lines < 65536) }
     ensures comprises { Comprises block.old s block.new result }
     ensures keeps { Keeps buf.old buf.new result.state }
 {
     let mut bytes = [0u8; 16];
-    let state = next(block, &mut bytes, buf, s);
+    let state = next(stdin, block, &mut bytes, buf, s);
     Event {
         kind: full_at(&bytes, 0),
         header: read_header(&bytes, 4),

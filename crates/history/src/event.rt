@@ -9,6 +9,7 @@ use super::{poke, runs, writing};
 use frames::outcome::WORDS;
 use frames::{Header, State, outcome};
 use print::SIZE;
+use std::io::Stdin;
 
 // Five bytes for each of 65,535 lines.
 pub const AREA: usize = 327675;
@@ -37,6 +38,7 @@ const BODY: usize = 23049;
 
 // A job or a script.
 fn run(
+    stdin: Stdin,
     block: &mut [u8; SIZE],
     buf: &mut [u8; SIZE],
     words: &mut [u32; WORDS],
@@ -51,7 +53,7 @@ fn run(
     ensures { Fits result.state × Room result.variables }
 {
     let mut body = [0u8; BODY];
-    let b = frames::read_body(block, &mut body, buf, s, h.size);
+    let b = frames::read_body(stdin, block, &mut body, buf, s, h.size);
     if b.state.over {
         return leaves(b.state, v);
     }
@@ -62,6 +64,7 @@ fn run(
 
 // The entries of a poke, as they come.
 fn set(
+    stdin: Stdin,
     block: &mut [u8; SIZE],
     buf: &mut [u8; SIZE],
     words: &mut [u32; WORDS],
@@ -77,17 +80,18 @@ fn set(
     let mut u = v;
     let mut left = size;
     while left >= 8 {
-        t = frames::part(block, &mut entry, buf, t);
+        t = frames::part(stdin, block, &mut entry, buf, t);
         if t.over {
             return leaves(t, u);
         }
         u = poke::set(words, u, &entry);
         left -= 8;
     }
-    leaves(frames::pass(block, buf, t, left), u)
+    leaves(frames::pass(stdin, block, buf, t, left), u)
 }
 
 fn poke(
+    stdin: Stdin,
     block: &mut [u8; SIZE],
     buf: &mut [u8; SIZE],
     words: &mut [u32; WORDS],
@@ -99,7 +103,7 @@ fn poke(
     requires { Fits s × Room v }
     ensures { Fits result.state × Room result.variables }
 {
-    let e = set(block, buf, words, s, v, h.size);
+    let e = set(stdin, block, buf, words, s, v, h.size);
     if e.state.over {
         return e;
     }
@@ -143,6 +147,7 @@ fn table(
 
 // A dump (kind 3), a job written (kind 4), or an event of no kind. Of its body nothing is read.
 fn show(
+    stdin: Stdin,
     block: &mut [u8; SIZE],
     buf: &mut [u8; SIZE],
     words: &[u32; WORDS],
@@ -155,7 +160,7 @@ fn show(
     requires { Fits s × Room v }
     ensures { Fits result }
 {
-    let t = frames::pass(block, buf, s, h.size);
+    let t = frames::pass(stdin, block, buf, s, h.size);
     if t.over {
         return t;
     }
@@ -170,6 +175,7 @@ fn show(
 
 // The next event, which is number k.
 pub fn next(
+    stdin: Stdin,
     block: &mut [u8; SIZE],
     buf: &mut [u8; SIZE],
     words: &mut [u32; WORDS],
@@ -180,12 +186,13 @@ pub fn next(
     requires { Fits a.state × Room a.variables }
     ensures { Fits result.state × Room result.variables }
 {
-    let e = frames::next_event(block, buf, a.state);
+    let e = frames::next_event(stdin, block, buf, a.state);
     if e.state.over {
         return leaves(e.state, a.variables);
     }
     if e.kind < 2 {
         return run(
+            stdin,
             block,
             buf,
             words,
@@ -198,10 +205,20 @@ pub fn next(
         );
     }
     if e.kind == 2 {
-        return poke(block, buf, words, e.state, a.variables, e.header, k);
+        return poke(stdin, block, buf, words, e.state, a.variables, e.header, k);
     }
     leaves(
-        show(block, buf, words, e.state, a.variables, e.kind, e.header, k),
+        show(
+            stdin,
+            block,
+            buf,
+            words,
+            e.state,
+            a.variables,
+            e.kind,
+            e.header,
+            k,
+        ),
         a.variables,
     )
 }

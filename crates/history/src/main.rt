@@ -13,9 +13,11 @@ mod writing;
 use event::AREA;
 use frames::outcome::WORDS;
 use print::SIZE;
+use std::io::Stdin;
 
 // A proved loop has to end, and nothing says that the input does: so this one ends too where the events can be counted no further.
 fn history(
+    stdin: Stdin,
     block: &mut [u8; SIZE],
     buf: &mut [u8; SIZE],
     words: &mut [u32; WORDS],
@@ -24,7 +26,7 @@ fn history(
     let mut a = after::start();
     let mut k: u64 = 0;
     while k < u64::MAX {
-        a = event::next(block, buf, words, lines, a, k);
+        a = event::next(stdin, block, buf, words, lines, a, k);
         if a.state.over {
             return;
         }
@@ -32,10 +34,10 @@ fn history(
     }
 }
 
-fn main() {
+fn main(rt: HostRuntime) {
     let mut block = io::large_buffer();
     let mut buf = io::large_buffer();
     let mut words = [0u32; WORDS];
     let mut lines = [0u8; AREA];
-    history(&mut block, &mut buf, &mut words, &mut lines);
+    history(rt.stdin(), &mut block, &mut buf, &mut words, &mut lines);
 }

@@ -7,12 +7,14 @@ mod tree;
 
 ghost use Rattle.std.specs.Prelude.{◌≤◌};
 
-use libc::STDIN_FILENO;
 use monitor::{Outcome, run_words};
 use print::answer::Answer;
 use print::runner::{AREA, BUDGET, VARIABLES, WORDS, variables_of};
 use print::{Out, SIZE, answer};
 use rules::numbers::bits;
+
+// The file descriptor of standard input.
+const STDIN_FILENO: i32 = 0;
 
 // The ending with its name, and the record.
 fn ending(buf: &mut [u8; SIZE], out: Out, a: Answer) -> Out

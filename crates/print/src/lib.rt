@@ -19,7 +19,7 @@ pub const OUTPUT: u8 = 1;
 pub const ERRORS: u8 = 2;
 
 // Where the output goes, and how many bytes wait at the start of the buffer.
-#[derive(Drop)]
+#[derive(Clone, Copy)]
 pub struct Out {
     pub fd: u8,
     pub used: usize,

@@ -7,6 +7,7 @@ use frames::{Header, State, outcome};
 use own::run_own;
 use print::runner::{VARIABLES, variables_of};
 use print::{Out, SIZE};
+use std::io::Stdin;
 
 // Runs a job through the run over lent node records, and puts what became of it.
 fn run_lent(
@@ -60,17 +61,24 @@ fn run(job: &[u8], h: Header, k: u64, buf: &mut [u8; SIZE], out: Out) -> Out
 }
 
 // The next frame, which is number k.
-pub fn next(block: &mut [u8; SIZE], job: &mut [u8], buf: &mut [u8; SIZE], s: State, k: u64) -> State
+pub fn next(
+    stdin: Stdin,
+    block: &mut [u8; SIZE],
+    job: &mut [u8],
+    buf: &mut [u8; SIZE],
+    s: State,
+    k: u64,
+) -> State
     requires { Fits s }
     ensures { Fits result }
 {
     let mut head = [0u8; 12];
-    let started = frames::next(block, &mut head, buf, s);
+    let started = frames::next(stdin, block, &mut head, buf, s);
     if started.over {
         return started;
     }
     let h = frames::read_header(&head, 0);
-    let b = frames::read_body(block, job, buf, started, h.size);
+    let b = frames::read_body(stdin, block, job, buf, started, h.size);
     let read = b.state;
     if read.over {
         return read;

@@ -12,6 +12,7 @@ use frames::{Header, State};
 use job::plan;
 use print::SIZE;
 use rules::limits::{MAX_BYTES, MAX_RUNS, MAX_VARIABLES};
+use std::io::Stdin;
 use turns::pool;
 use turns::pool::Pool;
 
@@ -149,6 +150,7 @@ fn unknown(k: u64, buf: &mut [u8; SIZE], s: State, p: Pool) -> After
 
 // A newcomer's body is read, and the newcomer comes.
 fn admit(
+    stdin: Stdin,
     block: &mut [u8; SIZE],
     buf: &mut [u8; SIZE],
     s: State,
@@ -168,7 +170,7 @@ fn admit(
         → Housed result.pool (parts jobs.new plans.new levels.new words.new values.new lines marks.new)) }
 {
     let mut body = [0u8; BODY];
-    let b = frames::read_body(block, &mut body, buf, s, h.size);
+    let b = frames::read_body(stdin, block, &mut body, buf, s, h.size);
     let read = b.state;
     if read.over {
         return leaves(read, p);
@@ -192,6 +194,7 @@ fn admit(
 
 // A turn, or an event of no kind. Of its body nothing is read.
 fn act(
+    stdin: Stdin,
     block: &mut [u8; SIZE],
     buf: &mut [u8; SIZE],
     s: State,
@@ -210,7 +213,7 @@ fn act(
     requires { Fits s × Housed p (parts jobs.now plans.now levels.now words.old values.old lines.old marks.old) }
     ensures { Fits result.state × Housed result.pool (parts jobs.now plans.now levels.now words.new values.new lines.new marks.new) }
 {
-    let passed = frames::pass(block, buf, s, size);
+    let passed = frames::pass(stdin, block, buf, s, size);
     if passed.over {
         return leaves(passed, p);
     }
@@ -224,6 +227,7 @@ fn act(
 
 // The next event, which is number k.
 pub fn next(
+    stdin: Stdin,
     block: &mut [u8; SIZE],
     buf: &mut [u8; SIZE],
     a: After,
@@ -239,16 +243,18 @@ pub fn next(
     requires { Fits a.state × Housed a.pool (parts jobs.old plans.old levels.old words.old values.old lines.old marks.old) }
     ensures { Fits result.state × Housed result.pool (parts jobs.new plans.new levels.new words.new values.new lines.new marks.new) }
 {
-    let e = frames::next_event(block, buf, a.state);
+    let e = frames::next_event(stdin, block, buf, a.state);
     if e.state.over {
         return leaves(e.state, a.pool);
     }
     if e.kind == 0 {
         return admit(
-            block, buf, e.state, a.pool, e.header, k, jobs, plans, levels, words, values, marks,
+            stdin, block, buf, e.state, a.pool, e.header, k, jobs, plans, levels, words, values,
+            marks,
         );
     }
     act(
+        stdin,
         block,
         buf,
         e.state,

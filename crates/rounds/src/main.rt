@@ -7,9 +7,11 @@ mod show;
 
 use event::{JOBS, LEVELS, LINES, MARKS, PLANS, VALUES, WORDS};
 use print::SIZE;
+use std::io::Stdin;
 
 // A proved loop has to end, and nothing says that the input does: so this one ends too where the events can be counted no further.
 fn rounds(
+    stdin: Stdin,
     block: &mut [u8; SIZE],
     buf: &mut [u8; SIZE],
     jobs: &mut [u8; JOBS],
@@ -24,7 +26,7 @@ fn rounds(
     let mut k: u64 = 0;
     while k < u64::MAX {
         a = event::next(
-            block, buf, a, k, jobs, plans, levels, words, values, lines, marks,
+            stdin, block, buf, a, k, jobs, plans, levels, words, values, lines, marks,
         );
         if a.state.over {
             return;
@@ -33,7 +35,7 @@ fn rounds(
     }
 }
 
-fn main() {
+fn main(rt: HostRuntime) {
     let mut block = io::large_buffer();
     let mut buf = io::large_buffer();
     let mut jobs = [0u8; JOBS];
@@ -44,6 +46,7 @@ fn main() {
     let mut lines = [0u8; LINES];
     let mut marks = [0u16; MARKS];
     rounds(
+        rt.stdin(),
         &mut block,
         &mut buf,
         &mut jobs,

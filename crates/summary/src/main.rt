@@ -15,9 +15,11 @@ ghost use Rattle.summary.specs.Summed.{Summed};
 use fields::nodes::levels_at;
 use fields::sections::Layout;
 use job::Checked;
-use libc::STDIN_FILENO;
 use print::{Out, SIZE};
 use rules::levels::{join, parties};
+
+// The file descriptor of standard input.
+const STDIN_FILENO: i32 = 0;
 
 // How many parties' matters node i carries.
 fn parties_at(job: &[u8], base: usize, i: usize) -> u32

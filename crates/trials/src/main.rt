@@ -6,11 +6,13 @@ mod settings;
 
 ghost use Rattle.std.specs.Prelude.{◌≤◌};
 
-use libc::STDIN_FILENO;
 use monitor::run_words;
 use print::runner::variables_of;
 use settings::Settings;
 use text::{expand, find};
+
+// The file descriptor of standard input.
+const STDIN_FILENO: i32 = 0;
 
 // Runs a job with what it is lent, and prints what it comes to.
 fn run_lent(

@@ -3,10 +3,12 @@ ghost use Rattle.std.specs.Prelude.{◌+◌, ◌≤◌, length};
 
 use super::settings::at_most;
 use fields::reads::{byte_at, signed_at};
-use libc::STDOUT_FILENO;
 use monitor::Outcome;
 use print::answer;
 use rules::numbers::bits;
+
+// The file descriptor of standard output.
+const STDOUT_FILENO: i32 = 1;
 
 // A name with a number.
 fn item(name: &[u8], n: u64) {

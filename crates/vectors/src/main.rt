@@ -2,8 +2,12 @@
 #![tactic(auto)]
 
 use job::Checked;
-use libc::{STDIN_FILENO, STDOUT_FILENO};
 use text::{expand, find};
+
+// The file descriptors of standard input and standard output.
+const STDIN_FILENO: i32 = 0;
+
+const STDOUT_FILENO: i32 = 1;
 
 // Prints the answer of the checks.
 fn print_answer(c: Checked) {
