@@ -1,0 +1,8 @@
+-- `check` meets its contract: the edition of today. Assumes nothing.
+use Rattle.job.specs.Answer.{edition_of}
+use borrow.Author.Rules.{rules}
+use Rattle.job.proofs.checks.check.Goals as goal
+
+pub returns : goal.returns
+unfolding edition_of
+returns c = c.check_by.ensures

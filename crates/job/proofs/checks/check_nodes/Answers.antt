@@ -1,0 +1,95 @@
+-- `check_nodes` meets its contract: the chain of checks, one link at a time. Assumes nothing.
+use mathlib.Core.Path.{◌≡◌, refl, sym, ap, subst, ◌∙◌}
+use Prim.Native.Nat.{ℕ}
+use native.Mathlib.Omega.{arith}
+use Rattle.rules.specs.Limits.{bad_parent, bad_node, bad_order}
+use Rattle.rules.specs.Check.{require_each, require_if, order_rule, node_rule_in}
+use Rattle.rules.proofs.Search.{all_pass}
+use Rattle.rules.proofs.Checks.{stopped, through}
+use Rattle.fields.specs.Siblings.{Linked}
+use Rattle.job.specs.Hanging.{AllFit}
+use Rattle.job.specs.Answer.{answer, edition_of, highest_of, rule_of, count_of, scanned, from_script, from_nodes}
+use Rattle.job.proofs.Answers.{plans_not, plans_along}
+use Rattle.job.proofs.Scans.{was_faulty, was_passed, asked_stopped, asked_through, fit_clean, fit_through}
+use borrow.Author.Rules.{rules}
+use Rattle.job.proofs.checks.check_nodes.Goals as goal
+use Rattle.job.proofs.checks.check_nodes.Goals.{Else-index-l, Else-index-l-2, Then-all_fit}
+
+past5 : (c : Else-index-l) → let a = c.args in
+    let b = a.job.now in
+    let l = a.l in
+    let rules = edition_of a.rules in
+    from_nodes b l rules
+    ≡ require_if rules.order bad_order (order_rule b l.tree) l.nodes (require_each bad_node (node_rule_in rules b l.tree) l.nodes (from_script b l rules l.variables))
+unfolding from_nodes rule_of
+past5 c = through bad_parent _ _ _ c.first_fault-index.ensures c.if-index-l.false
+
+-- all nodes pass 13, 6 and 12
+fit : (c : Then-all_fit) → let a = c.args in AllFit (highest_of (edition_of a.rules)) a.job.now a.l.tree a.l.nodes
+fit c =
+    let a = c.args in
+    subst (λ (top : ℕ). AllFit top a.job.now a.l.tree a.l.nodes) c.highest.ensures (c.all_fit.ensures c.if-all_fit.true)
+
+past13 : (c : Else-index-l-2) → let a = c.args in
+    let b = a.job.now in
+    let l = a.l in
+    from_nodes b l (edition_of a.rules) ≡ require_each bad_node (node_rule_in (edition_of a.rules) b l.tree) l.nodes (from_script b l (edition_of a.rules) l.variables)
+unfolding from_nodes rule_of
+past13 c = (through bad_parent _ _ _ c.first_fault-index.ensures c.if-index-l.false) ∙ asked_through bad_order _ _ _ _ c.first_unordered-index.ensures c.if-index-l-2.false
+
+pub first_fault-index-requires : goal.first_fault-index-requires
+unfolding count_of
+first_fault-index-requires c = record { inside = c.requires.0; count = refl; parents = λ e. absurd (omega arith) }
+
+pub returns-then-index-l : goal.returns-then-index-l
+unfolding from_nodes rule_of answer
+returns-then-index-l c = let e = stopped bad_parent _ _ _ c.first_fault-index.ensures c.if-index-l.true in
+    record { answered = sym (ap (answer _) e); plans = plans_not _ _ _ _ _ bad_parent _ (λ q. omega arith) e refl }
+
+-- check 5 was passed
+linked : (c : Else-index-l) → let a = c.args in Linked a.job.now a.l.tree a.l.nodes
+unfolding rule_of
+linked c =
+    let q = c.requires.0 in record { inside = q.nodes; few = q.few; parents = all_pass _ _ c.first_fault-index.ensures c.if-index-l.false }
+
+pub all_fit-requires : goal.all_fit-requires
+all_fit-requires c = linked (goal.at.all_fit-requires c).Else-index-l
+
+pub check_job_script-requires : goal.check_job_script-requires
+check_job_script-requires c = let q = c.requires in
+    (record { inside = q.0.records; short = q.0.short; room = omega (arith, q.0.short, q.1) }, record { variables = q.2; nodes = fit_clean _ _ _ _ (fit (goal.at.check_job_script-requires c).Then-all_fit) })
+
+pub returns-then-all_fit : goal.returns-then-all_fit
+returns-then-all_fit c = let e = past5 (goal.at.returns-then-all_fit c).Else-index-l ∙ fit_through _ _ _ _ (fit (goal.at.returns-then-all_fit c).Then-all_fit) _ in
+    let s = c.check_job_script.ensures in
+    record { answered = s.answered ∙ sym (ap (answer _) e); plans = plans_along e s.plans }
+
+pub first_unordered-index-requires : goal.first_unordered-index-requires
+first_unordered-index-requires c = (c.requires.0, linked (goal.at.first_unordered-index-requires c).Else-index-l)
+
+pub returns-then-index-l-2 : goal.returns-then-index-l-2
+unfolding answer
+returns-then-index-l-2 c = let e = past5 (goal.at.returns-then-index-l-2 c).Else-index-l ∙ asked_stopped bad_order _ _ _ _ c.first_unordered-index.ensures c.if-index-l-2.true in
+    record { answered = sym (ap (answer _) e); plans = plans_not _ _ _ _ _ bad_order _ (λ q. omega arith) e refl }
+
+pub scan_nodes-scan-requires : goal.scan_nodes-scan-requires
+scan_nodes-scan-requires c = linked (goal.at.scan_nodes-scan-requires c).Else-index-l
+
+pub check_job_script-requires-in-Passed : goal.check_job_script-requires-in-Passed
+unfolding scanned
+check_job_script-requires-in-Passed c = let q = c.requires in
+    let w = was_passed _ _ _ _ (sym c.scan_nodes-scan.ensures ∙ c.in-Passed.is) in
+    (record { inside = q.0.records; short = q.0.short; room = omega (arith, q.0.short, q.1) }, record { variables = q.2; nodes = w.1 })
+
+pub returns-in-Faulty : goal.returns-in-Faulty
+unfolding scanned answer
+returns-in-Faulty c = let w = was_faulty _ _ _ _ (sym c.scan_nodes-scan.ensures ∙ c.in-Faulty.is) in
+    let e = past13 (goal.at.returns-in-Faulty c).Else-index-l-2 ∙ stopped bad_node _ _ _ w.0 w.1 in
+    record { answered = sym (ap (answer _) e); plans = plans_not _ _ _ _ _ bad_node _ (λ q. omega arith) e refl }
+
+pub returns-in-Passed : goal.returns-in-Passed
+unfolding scanned
+returns-in-Passed c = let w = was_passed _ _ _ _ (sym c.scan_nodes-scan.ensures ∙ c.in-Passed.is) in
+    let e = past13 (goal.at.returns-in-Passed c).Else-index-l-2 ∙ through bad_node _ _ _ refl w.0 in
+    let s = c.check_job_script-in-Passed.ensures in
+    record { answered = s.answered ∙ sym (ap (answer _) e); plans = plans_along e s.plans }

@@ -1,0 +1,57 @@
+-- `node_fits` meets its contract: what is asked of the node alone, then its order, then what is asked by its parent and left sibling. Assumes nothing.
+use mathlib.Core.Path.{refl, sym, subst, ◌∙◌}
+use borrow.Author.Tests.{eq-eqb, ne_eqb, not-false}
+use Rattle.rules.specs.Check.{order_rule}
+use Rattle.rules.proofs.Tests.{clash}
+use Rattle.job.specs.declared.preorder.Hung.{Hung}
+use Rattle.job.specs.declared.preorder.Hung.TheVariants.{InOrder}
+use Rattle.job.specs.Hanging.{Hangs}
+use Rattle.fields.proofs.Siblings.{rule_parts}
+use borrow.Author.Rules.{rules}
+use Rattle.job.proofs.preorder.node_fits.Goals as goal
+use Rattle.job.proofs.preorder.node_fits.Goals.{In-InOrder}
+
+hangs : (c : In-InOrder) → let a = c.args in Hangs a.job.now a.base a.i (InOrder c.in-InOrder.k)
+hangs c =
+    let a = c.args in
+    subst (λ (h : Hung). Hangs a.job.now a.base a.i h) c.in-InOrder.is c.left_of-found.ensures
+
+pub returns-then-i-eq0 : goal.returns-then-i-eq0
+unfolding order_rule
+returns-then-i-eq0 c e = let a = c.args in
+    let z = eq-eqb a.i 0 c.if-i-eq0.true in
+    record {
+      order = rw z;
+      node = rw (rule_parts a.top a.job.now a.base a.i, sym c.own_ok.ensures ∙ c.if-not-own_ok.false, z);
+      clean = sym c.clean_ok.ensures ∙ c.if-not-clean_ok.false;
+    }
+
+-- the nodes before are in order
+pub left_of-found-requires : goal.left_of-found-requires
+left_of-found-requires c = let q = c.requires in (c.if-i-eq0.false, q.0, record { each = λ k l. (q.1.each k l).order })
+
+pub child_ok-requires : goal.child_ok-requires
+child_ok-requires c = (c.if-i-eq0.false, c.requires.0, (hangs c).1)
+
+pub returns : goal.returns
+returns c e = let a = c.args in
+    record {
+      order = (hangs (goal.at.returns c).In-InOrder).0;
+      node =
+          rw (
+            rule_parts a.top a.job.now a.base a.i,
+            sym c.own_ok.ensures ∙ c.if-not-own_ok.false,
+            ne_eqb a.i 0 c.if-i-eq0.false,
+            sym c.child_ok.ensures ∙ e,
+          );
+      clean = sym c.clean_ok.ensures ∙ c.if-not-clean_ok.false;
+    }
+
+pub returns-then-not-clean_ok : goal.returns-then-not-clean_ok
+returns-then-not-clean_ok c e = clash e refl
+
+pub returns-then-not-own_ok : goal.returns-then-not-own_ok
+returns-then-not-own_ok c e = clash e refl
+
+pub returns-in_default : goal.returns-in_default
+returns-in_default c e = clash e refl

@@ -1,0 +1,12 @@
+-- `operand_fits` meets its contract: by the limit of the kind. Assumes nothing.
+use mathlib.Core.Path.{sym, ◌∙◌}
+use Rattle.fields.proofs.Fits.{limited, unlimited}
+use borrow.Author.Rules.{rules}
+use Rattle.job.proofs.spare.operand_fits.Goals as goal
+
+pub returns-then-kind-ge-KINDS : goal.returns-then-kind-ge-KINDS
+returns-then-kind-ge-KINDS c = sym (unlimited _ _ _ c.if-kind-ge-KINDS.true)
+
+pub returns : goal.returns
+returns c = rw (c.requires.1, ← c.wide64.ensures.0 ∙ c.full_at.ensures)
+    (limited _ _ _ c.wide64.ensures.1 c.if-kind-ge-KINDS.false)
