@@ -1,10 +1,9 @@
 -- A node is added on a side of the cursor's node: the view goes to that side, a free place becomes the first node there, and the view comes back.
 -- It is possible exactly where a place is free. Assumes nothing.
-use mathlib.Core.Path.{◌≡◌, sym, ap, subst, ◌∙◌}
+use mathlib.Core.Path.{◌≡◌, sym, ap, subst}
 use Prim.Native.Nat.{ℕ, suc, ◌<◌, ◌≤◌}
 use native.Mathlib.Omega.{arith}
-use native.Mathlib.Decide.{ℕ_discrete}
-use Rattle.rules.specs.Tree.{Label, Forest, Side, child, sibling, Place, to, up, change, insert, after_insert}
+use Rattle.rules.specs.Tree.{Label, Forest, Place, to, up, change, insert, after_insert}
 use Rattle.table.specs.Cells.{cell, Table, gone, side_of, left_on}
 use Rattle.table.specs.Holds.{Placed, empty, node, head, Spare, hit, times, Holds}
 use Rattle.table.specs.Promises.{Leads, Added}
@@ -38,7 +37,7 @@ module _ {m m' : Table} {n used free x y u : ℕ} {t : Forest} {l : Label} {o f 
       let ne : parent_of (step d x l o k) ≡ gone → ⊥ = λ i. omega (arith, h.few) in
       let uy : u ≡ y → ⊥ =
       differ (λ i. way_times i (step d x l o k)) (λ i. hit i y) (λ i. omega (arith, h.once i))
-      (rw z (parent_there (step d x l o k) ne)) (omega (arith, hit_same y)) in
+      (subst (λ v. 1 ≤ way_times v (step d x l o k)) (sym z) (parent_there (step d x l o k) ne)) (omega (arith, hit_same y)) in
       let few : (g.m₃ u).children ≤ n =
       omega (arith, led_count g.back u, same_count linked (link_count d y (g.m₁ x)) u, ap (λ i. i.children) (g.placed.off u uy), ap (λ i. (m i).children) z, few_above _ f h ne) in
       let counted : Put g.m₃ m' u (with_count (suc (g.m₃ u).children) (g.m₃ u)) =

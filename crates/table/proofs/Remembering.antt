@@ -1,6 +1,6 @@
 -- What blocks remember, after each change: block j takes no notice of a later one that remembers a node, and of a change in the tree it knows where its
 -- node stands then, or that it has gone. Assumes nothing.
-use mathlib.Core.Path.{◌≡◌, refl, sym, subst, ◌∙◌}
+use mathlib.Core.Path.{◌≡◌, refl, sym, subst}
 use mathlib.Core.Logic.{◌⊎◌, inl, inr}
 use mathlib.Core.Bool.{true}
 use mathlib.Core.Option.{Option, none, some, bind, some-injective, none-ne-some}

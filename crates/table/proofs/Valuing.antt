@@ -1,5 +1,5 @@
 -- The cursor's node gets another value: one word of its cell changes, and every node keeps its place. Assumes nothing.
-use mathlib.Core.Path.{◌≡◌, sym, subst, ◌∙◌}
+use mathlib.Core.Path.{sym, subst}
 use Prim.Native.Nat.{ℕ}
 use Rattle.rules.specs.Number.{signed}
 use Rattle.rules.specs.Tree.{Forest, Place, change, with_value, set_value}
@@ -7,7 +7,7 @@ use Rattle.table.specs.Cells.{Table}
 use Rattle.table.specs.Holds.{empty, node, Holds}
 use Rattle.table.specs.Promises.{Valued}
 use Rattle.table.specs.Steps.{with_word, Put}
-use Rattle.table.proofs.Ways.{plug, path_of}
+use Rattle.table.proofs.Ways.{path_of}
 use Rattle.table.proofs.Focus.{Focus, seen, whole}
 use Rattle.table.proofs.Unique.{Stands, placing, held_stands}
 use Rattle.table.proofs.Changes.{revalue}

@@ -1,0 +1,7 @@
+-- The link words lead one step down, or on. Assumes nothing.
+use Rattle.table.proofs.Moves.{to_side}
+use Rattle.table.proofs.Words.{link_word}
+use Rattle.table.proofs.walk.beside.Goals as goal
+
+pub returns : goal.returns
+returns c = λ used free t p h. rw (c.link.ensures, link_word _ _ _ c.requires.1) (to_side h _)
