@@ -1,0 +1,51 @@
+-- `lent::put` meets its contract: ten stores into a slice that keeps its length. Assumes nothing.
+use mathlib.Core.Path.{◌∙◌, ap}
+use Prim.Native.Nat.{◌+◌, ◌*◌}
+use native.Mathlib.Omega.{arith}
+use lib.ListN.{length-set, set}
+use mir.Syntax.{w32}
+use mir.Facts.{to_z-of_z}
+use Rattle.rules.specs.Number.{bits}
+use Rattle.table.specs.Cells.{cell_size}
+use Rattle.lent.specs.Lent.{put_node}
+use Rattle.lent.proofs.node.put.Goals as goal
+
+pub bounds-words-at-2 : goal.bounds-words-at-2
+bounds-words-at-2 c = simp length-set (omega arith)
+
+pub bounds-words-at-3 : goal.bounds-words-at-3
+bounds-words-at-3 c = simp length-set (omega arith)
+
+pub bounds-words-at-4 : goal.bounds-words-at-4
+bounds-words-at-4 c = simp length-set (omega arith)
+
+pub bounds-words-at-5 : goal.bounds-words-at-5
+bounds-words-at-5 c = simp length-set (omega arith)
+
+pub bounds-words-at-6 : goal.bounds-words-at-6
+bounds-words-at-6 c = simp length-set (omega arith)
+
+pub bounds-words-at-7 : goal.bounds-words-at-7
+bounds-words-at-7 c = simp length-set (omega arith)
+
+pub bounds-words-at-8 : goal.bounds-words-at-8
+bounds-words-at-8 c = simp length-set (omega arith)
+
+pub bounds-words-at-9 : goal.bounds-words-at-9
+bounds-words-at-9 c = simp length-set (omega arith)
+
+pub bounds-words-at-10 : goal.bounds-words-at-10
+bounds-words-at-10 c = simp length-set (omega arith)
+
+pub shape_of-words : goal.shape_of-words
+shape_of-words c = simp length-set
+
+pub returns : goal.returns
+unfolding put_node
+returns c = let a = c.args in
+    let d = a.node in
+    let at = cell_size * a.x in
+    let value = c.bits-value.ensures ∙ ap bits (to_z-of_z {w = w32} (record { sfits = c.struct_told-1.given.1.1.1.1.1.1.0.1 })) in
+    λ i.
+    set (set (set (set (set (set (set (set (set (set a.words.now at d.first) (at + 1) d.right) (at + 2) d.parent) (at + 3) (c.wide-existence.ensures.0 i))
+    (at + 4) (value i)) (at + 5) d.children) (at + 6) (c.wide-content.ensures.0 i)) (at + 7) (c.wide-structure.ensures.0 i)) (at + 8) d.left) (at + 9) d.last
