@@ -1,0 +1,15 @@
+use mathlib.Core.List.{List, ◌++◌}
+use mathlib.Core.Path.{◌≡◌}
+use native.Mathlib.Omega.{arith}
+use Prim.Native.Nat.{ℕ, ◌-◌, ◌≤◌}
+use lib.ListN.{length}
+use borrow.Author.Rules.{rules}
+use Rattle.text.specs.Hex.{plain, times, Leaves}
+use Rattle.text.proofs.Spelling.{then, nothing_yet, instead, times_past, times_end}
+use Rattle.text.proofs.repeat.Given as goal
+
+abbrev pub invariant-loop-left : goal.invariant-loop-left
+invariant-loop-left l = (length l.bytes ≡ length l.initial.bytes) × (l.count ≤ length l.bytes) × ((k : List ℕ) → Leaves l.initial.bytes l.n (times l.often (plain l.text) ++ k) l.bytes l.count (times l.left (plain l.text) ++ k))
+
+abbrev pub decreases-loop-left : goal.decreases-loop-left
+decreases-loop-left l = l.left
