@@ -7,7 +7,7 @@ use print::SIZE;
 use std::io::{Read, Stdin};
 
 // The bytes of the block that are read and not yet handed out.
-#[derive(Drop)]
+#[derive(Clone, Copy)]
 pub struct Span {
     pub from: usize,
     pub end: usize,

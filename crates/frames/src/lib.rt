@@ -17,7 +17,7 @@ use print::{Out, SIZE};
 use std::io::Stdin;
 
 // What is read and what is to be written, from one frame to the next, and whether the input has ended.
-#[derive(Drop)]
+#[derive(Clone, Copy)]
 pub struct State {
     pub span: Span,
     pub out: Out,
@@ -208,7 +208,7 @@ pub fn read_body(
 }
 
 // How long a body is, and what its run is lent: a budget, places of the node table and board lines.
-#[derive(Drop)]
+#[derive(Clone, Copy)]
 pub struct Header {
     pub size: usize,
     pub budget: u64,

@@ -3,7 +3,7 @@ ghost use Rattle.history.specs.Room.{Room};
 
 pub const ROOM: usize = 65;
 
-#[derive(Drop)]
+#[derive(Clone, Copy)]
 pub struct Variables {
     pub count: usize,
     pub levels: [u8; ROOM],

@@ -5,7 +5,7 @@ ghost use Rattle.places.specs.Queue.{Whole, ordered, first_free, front, source, 
 
 use rules::limits::MAX_RUNS;
 
-#[derive(Drop)]
+#[derive(Clone, Copy)]
 pub struct Queue {
     pub order: [u8; MAX_RUNS],
     pub count: usize,

@@ -6,7 +6,7 @@ ghost use Rattle.print.specs.Answers.{Says, ran};
 use monitor::Outcome;
 
 // Ending (0 for finished), record index, steps and line count.
-#[derive(Drop)]
+#[derive(Clone, Copy)]
 pub struct Answer {
     pub ending: u8,
     pub index: usize,

@@ -10,7 +10,7 @@ ghost use Rattle.print.specs.Preorder.{Stands, Goes, First, from};
 use table::{FIRST, RIGHT, walk};
 
 // The next node, where there is one: its place, and how many steps it stands below the root.
-#[derive(Drop)]
+#[derive(Clone, Copy)]
 pub struct Visit {
     pub found: bool,
     pub place: usize,

@@ -25,7 +25,7 @@ use rules::limits::{MAX_BYTES, MAX_RUNS, MAX_VARIABLES, NO_PLACE, TURN_STEPS};
 
 // What is kept of a run beside its parts: the name that it came with, how many bytes its job has and how many lines it was lent, its budget, and where it
 // stands.
-#[derive(Drop)]
+#[derive(Clone, Copy)]
 pub struct Place {
     pub name: u64,
     pub bytes: usize,
@@ -35,7 +35,7 @@ pub struct Place {
     pub running: Running,
 }
 
-#[derive(Drop)]
+#[derive(Clone, Copy)]
 pub struct Pool {
     pub queue: Queue,
     pub places: [Place; MAX_RUNS],

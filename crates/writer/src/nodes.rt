@@ -13,7 +13,7 @@ use rules::limits::{MAX_NODES, NO_PARENT, NODE_SIZE};
 use table::NIL;
 
 // Where the walk is: at a link under the node at `up`, with `deep` nodes above it. So many nodes were written.
-#[derive(Drop)]
+#[derive(Clone, Copy)]
 pub struct Spot {
     pub link: usize,
     pub up: usize,
