@@ -52,14 +52,12 @@ pub overflow_number : 27 ≡ stop_number overflow
 unfolding stop_number
 overflow_number = refl
 
--- a test `!t` of the code, where t is what a function gave for the rules' test
-pub refused : {t u : Bool} → t ≡ u → not t ≡ true → u ≡ false
-refused {t = true} e h = absurd (true≢false (sym h))
-refused {t = false} e h = sym e
+-- what a test `!t` of the code says, where t is what a function gave for the rules' test
+pub refused : {t u : Bool} → t ≡ u → t ≡ false → u ≡ false
+refused e h = sym e ∙ h
 
-pub allowed : {t u : Bool} → t ≡ u → not t ≡ false → u ≡ true
-allowed {t = true} e h = sym e
-allowed {t = false} e h = absurd (true≢false h)
+pub allowed : {t u : Bool} → t ≡ u → t ≡ true → u ≡ true
+allowed e h = sym e ∙ h
 
 -- the number n and what comes after a, as a result says
 module _ {A : Type 0} {P : A → Type 0} {n : ℕ} {a : A} where

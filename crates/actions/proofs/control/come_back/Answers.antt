@@ -1,0 +1,10 @@
+-- `control::come_back` meets its contract: it stops where the node has gone, and else the cursor is back. Assumes nothing.
+use Rattle.actions.proofs.Entered.{restores_lost, restores_found}
+use borrow.Author.Rules.{rules}
+use Rattle.actions.proofs.control.come_back.Goals as goal
+
+pub returns-then-saved-places : goal.returns-then-saved-places
+returns-then-saved-places c = restores_lost _ _ _ _ c.recall-saved.ensures c.if-saved-places.true c.halt.ensures
+
+pub returns : goal.returns
+returns c = rw c.drop.ensures (restores_found _ _ _ _ c.recall-saved.ensures c.requires.1.0 _ c.pop-g.ensures c.if-saved-places.false)

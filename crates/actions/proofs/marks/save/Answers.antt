@@ -1,0 +1,23 @@
+-- What is kept, the place, the level and the count, each stored once; with sixteen blocks open nothing. Assumes nothing.
+use native.Mathlib.Omega.{arith}
+use lib.ListN.{length-set}
+use borrow.Author.Tests.{lt-ltb, le-ltb}
+use Rattle.table.specs.Since.{number}
+use Rattle.actions.specs.Marks.{count_at, saving}
+use borrow.Author.Rules.{rules}
+use Rattle.actions.proofs.marks.save.Goals as goal
+
+pub bounds-marks-k-then-k-lt-MAX_DEPTH : goal.bounds-marks-k-then-k-lt-MAX_DEPTH
+bounds-marks-k-then-k-lt-MAX_DEPTH c = simp length-set (omega (arith, c.keep.auto.since, c.requires.0, c.if-k-lt-MAX_DEPTH.true))
+
+pub bounds-marks-512-then-k-lt-MAX_DEPTH : goal.bounds-marks-512-then-k-lt-MAX_DEPTH
+bounds-marks-512-then-k-lt-MAX_DEPTH c = simp length-set (omega (arith, c.keep.auto.since, c.requires.0))
+
+pub returns-then-k-lt-MAX_DEPTH : goal.returns-then-k-lt-MAX_DEPTH
+unfolding saving
+returns-then-k-lt-MAX_DEPTH c = let e = c.wide-k.ensures.0 in
+    rw (lt-ltb (number c.args.marks.now count_at) 16 (rw e at c.if-k-lt-MAX_DEPTH.true), e, c.keep.ensures)
+
+pub returns-else-k-lt-MAX_DEPTH : goal.returns-else-k-lt-MAX_DEPTH
+unfolding saving
+returns-else-k-lt-MAX_DEPTH c = rw (le-ltb (number c.args.marks.now count_at) 16 (rw c.wide-k.ensures.0 at c.if-k-lt-MAX_DEPTH.false))
