@@ -1,5 +1,5 @@
 -- A branch inside a walk by hand whose arms meet again, so that what comes after it is walked once. It says nothing of any crate.
---     meets-after      each arm ends in the context I at some x, and the rest of the body runs from there. An arm is shown at any postcondition P, to
+--     meets_after      each arm ends in the context I at some x, and the rest of the body runs from there. An arm is shown at any postcondition P, to
 --                      which `out` takes its end; so a walk names neither the environment nor a piece of the MIR
 -- Assumes nothing.
 use mathlib.Core.Bool.{Bool, not}

@@ -1,7 +1,7 @@
 -- A `&κ mut [T]` that is lent on for the lifetime κ' of one call, and comes back: what a loop does with a slice that it passes on in each turn. The
 -- machine value v of the slice stays, though its list does not. By opening the borrow, lending what it holds, and closing it at the last list.
 --     Waits        what the holder keeps meanwhile: the lender's part at κ', and its own borrow, open
---     lends-on     the slice with ys and a token of κ give a slice with ys for κ', under a new name δ, and Waits
+--     lends_on     the slice with ys and a token of κ give a slice with ys for κ', under a new name δ, and Waits
 --     comes_back   once κ' is over: Waits, and that zs was the last list under δ, give the slice with zs and the token back
 -- Assumes `Logic`.
 use mathlib.Core.Path.{◌≡◌, refl, sym}
@@ -9,7 +9,7 @@ use Prim.Native.Nat.{ℕ}
 use mathlib.Core.List.{List, [], ◌∷◌}
 use lib.ListN.{length}
 use seplogic.Ra.Ura.{Ura}
-use seplogic.Ra.TreeShare.{full_share}
+use base.Fraction.{full_share}
 use mir.Syntax.{Lifetime}
 use mir.Val.{Val}
 use base.Logic.{ent, sep, ex}

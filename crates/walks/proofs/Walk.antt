@@ -3,7 +3,7 @@ pub use Prim.Native.Nat.{◌*◌, ◌+◌, ◌-◌, ◌<◌, ◌^◌, ◌≤◌,
 pub use base.Fml.{Fml, GName, Lft, Share, fat, fauth, fbor, fdies, flent, flft, fobor, fobs, fres, froom, fshr_bor, ftrue}
 pub use base.Logic.{SProp, emp, ent, ex_e, fst∗, id⊢, sep, snd∗, via}
 pub use contract.Monad.{Fun, fact}
-unfoldable pub use contract.Running.{given_of, tables, tables_of}
+unfoldable pub use contract.Running.{tables, tables_of}
 pub use denote.Array.{Array, Array-Lawful, Array-Makes, Array-Tells, array_vals, each}
 pub use denote.Builtin.{i32, u16, u32, u8, unit, usize}
 pub use denote.Exit.{yes}
@@ -28,8 +28,8 @@ pub use denote.Triple.Spec.{Meets, triple_of}
 pub use denote.Triple.Statement.{Contract, Triple}
 pub use denote.Triple.Table.{cited, entered}
 pub use denote.Triple.Walked.{Stays, Walks, ends_at, gave_slice, Goes-dropped, Goes-gave_slice, Goes-none, Goes-none_slice, Goes-ref, Goes-slice, needs, says, stay_dropped, stay_none, stay_none_slice, stay_ref, stay_slice, walk_Meets, walk_of, walked}
-pub use ghost.Atoms.{Atoms, sem}
-pub use seplogic.Ra.TreeShare.{full_share}
+pub use ghost.Atoms.{Atoms}
+pub use base.Fraction.{full_share}
 pub use seplogic.Ra.Ura.{Ura}
 pub use lib.Dec.{lit<, ltb, ltb→lt, nltb→le}
 pub use lib.IntN.{ℤ}
@@ -44,7 +44,8 @@ pub use prog.Memory.{Memory}
 pub use prog.Routine.{Routine}
 pub use prog.Wp.{Calls, Heap, Loops, Tables, WpFn}
 pub use sound.WpLaws.{FmC, WpFn-mono, fm_of}
-pub use types.Kit.{ !, Given, Item, ◌$◌, ◌∵◌, ◌⊛◌, await, by, done, drop, feq_i, feq_l, fjoin, fjoin3, frame, fsplit, fsplit3, given, join, keep, later, learn, move, pick, qed, raw, rewrite, some, split, suffices, use0, use1, use2, use3, ‵, ⋆}
+pub use types.Kit.{ !, Item, ◌$◌, ◌∵◌, ◌⊛◌, await, by, done, drop, feq_i, feq_l, fjoin, fjoin3, frame, fsplit, fsplit3, given, join, keep, later, learn, move, pick, qed, raw, rewrite, some, split, suffices, use0, use1, use2, use3, ‵, ⋆}
+pub use types.Logic.{sem}
 pub use types.Part.{agg, look_in, sub, whole}
 pub use types.Run.{addr, again, alloc0, alloc1, and_then, assigns, assigns_last, bin, enter, fld, forget, free0, free1, from, hop, init, land, land_last, lit, load, look, look_raw, no_more, of_opd, params1, pass0, pass1, returns, stop, store, store_raw, unit_lit}
 pub use types.SemTy.{Body}
