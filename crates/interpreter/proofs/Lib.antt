@@ -1,4 +1,3 @@
 -- Laws of the step and of the run.
 pub mod Commands
 pub mod Looped
-pub mod Passed

@@ -213,83 +213,33 @@ module _ {h : Held} {x₀ x : Slices} {k₀ ks : List ℕ} {r₀ r : Running} (d
             subst (Ran h x' ks' a (s.steps + r₀.left)) (sym c.rest) (record { ending = k.ending; last = k.last; steps = k.steps ∙ c.steps });
       }
 
--- a run on its way from x₀, k₀ and r₀: where it stands, and how far it has come or how it has ended
-module _ (h : Held) (x₀ : Slices) (k₀ : List ℕ) (r₀ : Running) where
-  pub record Way : Type 0 where
-    pub running : Running
-    pub words : List ℕ
-    pub values : List ℤ
-    pub board : List ℕ
-    pub marks : List ℕ
-    pub ending : ℕ
-    pub small : ending < 2 ^ 8
-    pub long_words : length words ≡ length x₀.words
-    pub long_values : length values ≡ length x₀.values
-    pub long_board : length board ≡ length x₀.board
-    pub long_marks : length marks ≡ length k₀
-    pub reached : ending ≡ 0 → Reached h x₀ k₀ r₀ (slices words x₀.levels values board) marks running
-    pub over : (ending ≡ 0 → ⊥) → Runs h x₀ (slices words x₀.levels values board) k₀ marks r₀ (stepped ending running)
+-- a run on its way from x₀, k₀ and r₀: it has come to x, k and r, or has ended there
+pub record Going (h : Held) (x₀ : Slices) (k₀ : List ℕ) (r₀ : Running) (x : Slices) (k : List ℕ) (r : Running) (ending : ℕ) : Type 0 where
+  pub script : Script h
+  pub reached : ending ≡ 0 → Reached h x₀ k₀ r₀ x k r
+  pub over : (ending ≡ 0 → ⊥) → Runs h x₀ x k₀ k r₀ (stepped ending r)
 
-  abbrev pub slices_at : Way → Slices
-  slices_at w = slices w.words x₀.levels w.values w.board
+-- at its start
+pub outset : {h : Held} {x : Slices} {k : List ℕ} {r : Running} → Startable h x k r → Going h x k r x k r 0
+outset {h} p = record { script = p.script; reached = λ _. starts h p.script p.safe; over = λ n. absurd (n refl) }
 
-  module _ (p : Startable h x₀ k₀ r₀) where
-    -- at its start
-    abbrev pub outset : Way
-    outset =
-        record {
-          running = r₀;
-          words = x₀.words;
-          values = x₀.values;
-          board = x₀.board;
-          marks = k₀;
-          ending = 0;
-          small = omega arith;
-          long_words = refl;
-          long_values = refl;
-          long_board = refl;
-          long_marks = refl;
-          reached = λ _. starts h p.script p.safe;
-          over = λ n. absurd (n refl);
-        }
-
-    -- what a step asks for
-    pub startable : (w : Way) → w.ending ≡ 0 → Startable h (slices_at w) w.marks w.running
-    startable w z = record { script = p.script; safe = (w.reached z).safe }
+module _ {h : Held} {x₀ x : Slices} {k₀ k : List ℕ} {r₀ r : Running} {ending : ℕ} (w : Going h x₀ k₀ r₀ x k r ending) (z : ending ≡ 0) where
+  -- what a step asks for
+  pub startable : Startable h x k r
+  startable = record { script = w.script; safe = (w.reached z).safe }
 
   -- after one step more
-  abbrev pub stride : (w : Way) → w.ending ≡ 0 → (ws : List ℕ) (vs : List ℤ) (bs ms : List ℕ) (c : ℕ) (r : Running) → c < 2 ^ 8 → length ws ≡ length w.words
-      → length vs ≡ length w.values → length bs ≡ length w.board → length ms ≡ length w.marks
-      → Turns h (slices_at w) (slices ws x₀.levels vs bs) w.marks ms w.running (stepped c r) → Way
-  stride w z ws vs bs ms c r small ew ev eb em t =
-      record {
-        running = r;
-        words = ws;
-        values = vs;
-        board = bs;
-        marks = ms;
-        ending = c;
-        small = small;
-        long_words = ew ∙ w.long_words;
-        long_values = ev ∙ w.long_values;
-        long_board = eb ∙ w.long_board;
-        long_marks = em ∙ w.long_marks;
-        reached = λ y. further (w.reached z) (t.goes y);
-        over = λ n. at_last (w.reached z) (t.ends n);
-      }
+  pub stride : {x' : Slices} {k' : List ℕ} {r' : Running} {c : ℕ} → Turns h x x' k k' r (stepped c r') → Going h x₀ k₀ r₀ x' k' r' c
+  stride t = record { script = w.script; reached = λ y. further (w.reached z) (t.goes y); over = λ n. at_last (w.reached z) (t.ends n) }
 
-  -- what is left of it, which falls with each step
-  pub rest : Way → ℕ
-  rest w = cond (eqb w.ending 0) (suc w.running.left) 0
+-- what is left of it, which falls with each step
+pub rest : ℕ → ℕ → ℕ
+rest ending left = cond (eqb ending 0) (suc left) 0
 
-  rest_going : (w : Way) → w.ending ≡ 0 → rest w ≡ suc w.running.left
-  unfolding rest
-  rest_going w z = rw (eq-eqb _ 0 z)
-
-  pub falls : (w : Way) (z : w.ending ≡ 0) (u : Way) → (u.ending ≡ 0 → u.running.left < w.running.left) → rest u < rest w
-  unfolding rest
-  falls w z u f = pick (test (eqb u.ending 0))
-    where
-      pick : Test (eqb u.ending 0) → rest u < rest w
-      pick (holds e) = rw (e, rest_going w z) (omega (arith, f (eqb-true _ 0 e)))
-      pick (fails e) = rw (e, rest_going w z) (omega arith)
+pub falls : (e l e' l' : ℕ) → e ≡ 0 → (e' ≡ 0 → l' < l) → rest e' l' < rest e l
+unfolding rest
+falls e l e' l' z f = rw (eq-eqb e 0 z) (pick (test (eqb e' 0)))
+  where
+    pick : Test (eqb e' 0) → rest e' l' < suc l
+    pick (holds h) = rw h (omega (arith, f (eqb-true e' 0 h)))
+    pick (fails h) = rw h (omega arith)

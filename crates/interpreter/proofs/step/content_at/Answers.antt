@@ -1,0 +1,12 @@
+-- The fields read are the record's, and a byte is a set. Assumes nothing.
+use mathlib.Core.Path.{◌≡◌, sym, ap, ◌∙◌}
+use Prim.Native.Nat.{ℕ, ◌%◌}
+use native.Mathlib.Omega.{arith}
+use Rattle.rules.specs.Script.{content_set}
+use borrow.Author.Rules.{rules}
+use Rattle.interpreter.proofs.step.content_at.Goals as goal
+
+pub returns : goal.returns
+returns c = let f = c.fields_at-f.result in
+    let e : f.fifth ≡ f.fifth % 256 = omega arith in
+    c.content_set.ensures ∙ ap (content_set f.target) e ∙ ap (λ x. content_set x.target (x.fifth % 256)) c.fields_at-f.ensures
