@@ -6,19 +6,12 @@ use lib.ListN.{length}
 use Rattle.monitor.specs.Promises.{lent, places_in, places_for, Tree}
 use Rattle.monitor.proofs.Answered.{recount, all_places}
 use borrow.Author.Rules.{rules}
-use Rattle.monitor.proofs.entry.run_words.Statement.{statement}
-use Rattle.monitor.proofs.entry.run_words.Tie as tie
+use Rattle.monitor.proofs.entry.run_words.Goals as goal
 
-returns : tie.Need-returns
-returns c =
-    let w = c.before.before.before.before.before.before.before.before.before.before.before.before.before.before.before.before.args.words.now in
-    let e = c.before.before.before.before.before.before.before.run-places.ensures in
+pub returns : goal.returns
+returns c = let w = c.args.words.now in
+    let e = c.run_places.ensures in
     let z = all_places (places_in w) (length w) (omega arith) in (
       recount Tree (λ (v : _). places_for (places_in w) (length v)) places_in _ _ (lent _ _ _ _) (lent _ _ _ _) _ z e.0,
       record { same = λ y h. e.1.same y (subst (λ k. k ≤ y) (sym z) h) },
     )
-
-pub run-words-spec : {M : Type 1} → statement M
-run-words-spec =
-    tie.close
-    (tie.spec (λ c κs. search rules) (λ c. search rules) (λ c. search rules) (λ c. search rules) (λ c. search rules) returns)

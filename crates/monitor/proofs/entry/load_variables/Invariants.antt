@@ -1,0 +1,17 @@
+use mathlib.Core.Path.{◌≡◌, refl, ◌∙◌}
+use Prim.Native.Nat.{◌-◌, ◌≤◌}
+use mir.Syntax.{w32}
+use mir.Facts.{to_z-of_z}
+use native.Mathlib.Omega.{arith}
+use borrow.Author.Rules.{rules}
+use lib.ListN.{length}
+use lib.ListN.{length-set}
+use Rattle.monitor.specs.Starting.{VariablesLoaded}
+use Rattle.monitor.proofs.Started.{loaded_more}
+use Rattle.monitor.proofs.entry.load_variables.Given as goal
+
+abbrev pub invariant-loop-i : goal.invariant-loop-i
+invariant-loop-i l = (l.i ≤ l.vars) × VariablesLoaded l.job l.i l.initial.levels l.levels l.initial.values l.values × (length l.levels ≡ length l.initial.levels) × (length l.values ≡ length l.initial.values)
+
+abbrev pub decreases-loop-i : goal.decreases-loop-i
+decreases-loop-i l = l.vars - l.i
