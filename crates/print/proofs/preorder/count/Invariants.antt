@@ -1,0 +1,16 @@
+use native.Mathlib.Omega.{arith}
+use Prim.Native.Nat.{ℕ, ◌≤◌, ◌<◌, ◌-◌}
+use borrow.Author.Rules.{rules}
+use Rattle.rules.specs.Tree.{Forest, Place}
+use Rattle.table.specs.Cells.{cells}
+use Rattle.table.specs.Holds.{Holds}
+use Rattle.table.proofs.Unique.{few_nodes}
+use Rattle.print.specs.Preorder.{Stands}
+use Rattle.print.proofs.Visiting.{number_below, counted, goes}
+use Rattle.print.proofs.preorder.count.Given as goal
+
+abbrev pub invariant-loop-n : goal.invariant-loop-n
+invariant-loop-n l = (l.n ≤ l.places) × (l.v.place < l.places) × (l.v.depth ≤ l.n) × ((used free x : ℕ) (t : Forest) (p : Place) → Holds (cells l.words) l.places used free x t p → Stands (cells l.words) l.places used free t l.n l.v.place l.v.depth)
+
+abbrev pub decreases-loop-n : goal.decreases-loop-n
+decreases-loop-n l = l.places - l.n

@@ -1,0 +1,15 @@
+use mathlib.Core.List.{List}
+use mathlib.Core.Path.{◌≡◌, refl, ◌∙◌, ap}
+use Prim.Native.Nat.{ℕ, ◌-◌, ◌≤◌}
+use lib.ListN.{length, take, get_or}
+use lib.Seq.{take_all}
+use Rattle.print.specs.Waiting.{push, pushes}
+use Rattle.print.proofs.Pushing.{pushed}
+use borrow.Author.Rules.{rules}
+use Rattle.print.proofs.text.Given as goal
+
+abbrev pub invariant-loop-i : goal.invariant-loop-i
+invariant-loop-i l = (l.r.used ≤ 65536) × (l.r.fd ≡ l.initial.r.fd) × (l.i ≤ length l.bytes) × (take l.r.used l.buf ≡ pushes (take l.initial.r.used l.initial.buf) (take l.i l.bytes))
+
+abbrev pub decreases-loop-i : goal.decreases-loop-i
+decreases-loop-i l = length l.bytes - l.i
