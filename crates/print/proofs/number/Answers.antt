@@ -12,7 +12,7 @@ returns c = record {
   used_bound = (search rules, search rules);
   number = record {
     count = c.decimal-k.result;
-    fewest = c.decimal-k.ensures.1.0;
-    waits = c.text.ensures.buf_after ∙ ap (λ (l : List ℕ). pushes (take c.args.out.used c.args.buf.now) l) c.decimal-k.ensures.1.1;
+    fewest = c.decimal-k.ensures.len;
+    waits = c.text.ensures.buf_after ∙ ap (λ (l : List ℕ). pushes (take c.args.out.used c.args.buf.now) l) c.decimal-k.ensures.digits;
   };
 }

@@ -8,12 +8,12 @@ use Rattle.print.proofs.answer.of.Goals as goal
 
 pub returns-in-Refused : goal.returns-in-Refused
 unfolding answer_of
-returns-in-Refused c = subst (λ (o : Outcome). Says c.o-1.given.0.0 c.o-1.given.0.1.0 0 0 (answer_of o)) (sym c.in-Refused.is) (refl, refl, refl, refl)
+returns-in-Refused c = subst (λ (o : Outcome). Says c.in-Refused.number c.in-Refused.index 0 0 (answer_of o)) (sym c.in-Refused.is) (refl, refl, refl, refl)
 
 pub returns-in-Finished : goal.returns-in-Finished
 unfolding answer_of
-returns-in-Finished c = subst (λ (o : Outcome). Says 0 0 c.o-in-Finished-1.given.0.0 c.o-in-Finished-1.given.0.1.0 (answer_of o)) (sym c.in-Finished.is) (refl, refl, refl, refl)
+returns-in-Finished c = subst (λ (o : Outcome). Says 0 0 c.in-Finished.steps c.in-Finished.lines (answer_of o)) (sym c.in-Finished.is) (refl, refl, refl, refl)
 
 pub returns-in-Stopped : goal.returns-in-Stopped
 unfolding answer_of
-returns-in-Stopped c = subst (λ (o : Outcome). Says c.o-in-Stopped-1.given.0.0 c.o-in-Stopped-1.given.0.1.0 c.o-in-Stopped-1.given.0.1.1.0 c.o-in-Stopped-1.given.0.1.1.1.0 (answer_of o)) (sym c.in-Stopped.is) (refl, refl, refl, refl)
+returns-in-Stopped c = subst (λ (o : Outcome). Says c.in-Stopped.number c.in-Stopped.index c.in-Stopped.steps c.in-Stopped.lines (answer_of o)) (sym c.in-Stopped.is) (refl, refl, refl, refl)
