@@ -4,7 +4,7 @@ use Rattle.frames.proofs.Settling.{nothing_comes, begins, keeps}
 use Rattle.frames.proofs.next.Goals as goal
 
 pub returns-then-span : goal.returns-then-span
-returns-then-span c = (search rules, (λ pos. nothing_comes _ c.ready-span.ensures.ready pos c.settle-out.ensures.value (search rules) c.finish.ensures.value, keeps _ _ c.finish.ensures.value))
+returns-then-span c = record { fits = search rules; reads = λ pos. nothing_comes _ c.ready-span.ensures.ready pos c.settle-out.ensures.value (search rules) c.finish.ensures.value; keeps = keeps _ _ c.finish.ensures.value }
 
 pub returns : goal.returns
-returns c = (search rules, (λ pos. begins c.ready-span.ensures.ready pos c.settle-out.ensures.value c.part.ensures.reads, c.part.ensures.keeps))
+returns c = record { fits = search rules; reads = λ pos. begins c.ready-span.ensures.ready pos c.settle-out.ensures.value c.part.ensures.reads; keeps = c.part.ensures.keeps }

@@ -4,15 +4,13 @@ use borrow.Author.Rules.{rules}
 use Rattle.frames.proofs.next_event.Goals as goal
 
 pub returns : goal.returns
-returns c = (
-  search rules,
-  (
-    record {
-      bytes = c.next-state.new.head;
-      reads = c.next-state.ensures.reads (omega arith);
-      kind = c.full_at.ensures;
-      header = c.read_header.ensures.0;
-    },
-    c.next-state.ensures.keeps,
-  ),
-)
+returns c = record {
+  fits = search rules;
+  comprises = record {
+    bytes = c.next-state.new.head;
+    reads = c.next-state.ensures.reads (omega arith);
+    kind = c.full_at.ensures;
+    header = c.read_header.ensures.0;
+  };
+  keeps = c.next-state.ensures.keeps;
+}

@@ -7,7 +7,7 @@ use Rattle.frames.proofs.Settling.{closed, keeps}
 use Rattle.frames.proofs.pass.Goals as goal
 
 pub returns-then-t-n : goal.returns-then-t-n
-returns-then-t-n c = (search rules, (ends c.skip-t.ensures.takes (search rules) (closed _ _ c.settle-out.ensures.value c.truncated.ensures.value), keeps _ _ c.truncated.ensures.value))
+returns-then-t-n c = record { fits = search rules; reads = ends c.skip-t.ensures.takes (search rules) (closed _ _ c.settle-out.ensures.value c.truncated.ensures.value); keeps = keeps _ _ c.truncated.ensures.value }
 
 pub returns : goal.returns
-returns c = (search rules, (goes c.skip-t.ensures.takes (search rules) (λ i. record { span = c.skip-t.result.span; out = c.settle-out.ensures.value i; over = false }), refl))
+returns c = record { fits = search rules; reads = goes c.skip-t.ensures.takes (search rules) (λ i. record { span = c.skip-t.result.span; out = c.settle-out.ensures.value i; over = false }); keeps = refl }

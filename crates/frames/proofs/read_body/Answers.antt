@@ -9,7 +9,7 @@ pub slice_bounds-part-end-2 : goal.slice_bounds-part-end-2
 slice_bounds-part-end-2 c = sym (length-take-le _ _ (search rules))
 
 pub returns-then-filled : goal.returns-then-filled
-returns-then-filled c = (search rules, (search rules, (cut _ _ c.at_most-count.ensures c.part-filled.ensures.reads (search rules), c.part-filled.ensures.keeps)))
+returns-then-filled c = record { fits = search rules; count_value = search rules; reads = cut _ _ c.at_most-count.ensures c.part-filled.ensures.reads (search rules); keeps = c.part-filled.ensures.keeps }
 
 pub returns : goal.returns
-returns c = (search rules, (search rules, (body _ _ c.at_most-count.ensures c.part-filled.ensures.reads (search rules) c.pass.ensures.reads, keeps_on _ _ _ c.pass.ensures.reads c.part-filled.ensures.keeps c.pass.ensures.keeps)))
+returns c = record { fits = search rules; count_value = search rules; reads = body _ _ c.at_most-count.ensures c.part-filled.ensures.reads (search rules) c.pass.ensures.reads; keeps = keeps_on _ _ _ c.pass.ensures.reads c.part-filled.ensures.keeps c.pass.ensures.keeps }

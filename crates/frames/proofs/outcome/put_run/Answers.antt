@@ -10,7 +10,7 @@ returns-then-not-was_run c = record {
   used_bound = search rules;
   shows = record {
     refused = λ e. said c.of-a.ensures c.put_answer-r.ensures.writes;
-    run = λ e. absurd (true≢false (sym c.if-not-was_run.true ∙ ap not (c.was_run.ensures ∙ e)));
+    run = λ e. absurd (true≢false (sym (c.was_run.ensures ∙ e) ∙ c.if-not-was_run.true));
   };
 }
 
@@ -18,7 +18,7 @@ pub returns : goal.returns
 returns c = record {
   used_bound = search rules;
   shows = record {
-    refused = λ e. absurd (true≢false (sym (ap not (c.was_run.ensures ∙ e)) ∙ c.if-not-was_run.false));
+    refused = λ e. absurd (true≢false (sym c.if-not-was_run.false ∙ (c.was_run.ensures ∙ e)));
     run = λ e used free x t p h.
         shown c.of-a.ensures _ _ _ t c.put_answer-r.ensures.writes c.lines-r.ensures.used_bound.1 c.lines-r.ensures.listed c.put_variables-r.ensures.writes
         (c.put_lent_tree.ensures.by_index used free x t p h);
