@@ -1,32 +1,30 @@
 -- A follow-on script over lent records: the words that the first records were copied into hold what these hold, and back. More than 512 records are
 -- only asked for a tree. Assumes nothing.
-use mathlib.Core.Path.{◌≡◌, refl, sym, ◌∙◌, ap, subst}
-use mathlib.Core.Bool.{Bool, true}
+use mathlib.Core.Path.{◌≡◌, sym, ◌∙◌, ap, subst}
+use mathlib.Core.Bool.{Bool}
 use mathlib.Core.List.{List}
 use Prim.Native.Nat.{ℕ, ◌*◌, ◌<◌, ◌≤◌, min}
 use native.Mathlib.Omega.{arith}
 use lib.Dec.{leb}
 use lib.IntN.{ℤ}
-use lib.ListN.{length, get_or, replicate, length-replicate, get_or-replicate}
+use lib.ListN.{length, replicate, length-replicate, get_or-replicate}
 use borrow.Author.Tests.{leb-true, leb-false}
 use Rattle.rules.specs.Limits.{max_nodes, bad_follow_on}
-use Rattle.rules.specs.Tree.{Forest}
 use Rattle.rules.specs.Outcome as Rules
 use Rattle.rules.specs.History as History
 use Rattle.rules.specs.History.{Store, after}
 use Rattle.rules.proofs.Tests.{Test, holds, fails, test}
 use Rattle.lent.specs.declared.node.Node.{Node}
 use Rattle.table.specs.Cells.{cell_size, cells, gone}
-use Rattle.lent.specs.Lent.{nodes_table, loaded, stored}
+use Rattle.lent.specs.Lent.{nodes_table, stored}
 use Rattle.lent.specs.Stands.{Stands, Decided, Marked}
 use Rattle.lent.proofs.Copies.{length_stored, length_loaded, loaded_at}
 use Rattle.lent.proofs.Resuming.{stands_same, decided_same, marked_same, holds_stands}
 use Rattle.monitor.specs.declared.entry.Outcome.{Outcome}
-use Rattle.monitor.specs.declared.entry.Outcome.TheVariants.{Refused}
 use Rattle.monitor.specs.Promises as Words
 use Rattle.monitor.specs.Promises.{told, Lent, lent, lent_by, Leaves}
 use Rattle.monitor.specs.Follow.{HoldsStore, Tells, Follows, over, none, StandsAmong, Surveyed, Declined, by_store, by_script, FollowsOver}
-use Rattle.monitor.proofs.Followed.{Decides, declined}
+use Rattle.monitor.proofs.Followed.{declined}
 use Rattle.monitor.proofs.Taken.{fair}
 use Rattle.entry.specs.Promises.{Tree, kept_of}
 use Rattle.entry.specs.Records.{StandsIn, Loads, Unmarked, Surveys}

@@ -1,7 +1,6 @@
 -- The laws of the run over lent node records; those that callers cite come first.
 pub mod Secret
 pub mod Children
-pub mod Callees
 pub mod Numbers
 mod Runs
 mod Following

@@ -5,7 +5,6 @@ use mathlib.Core.List.{List}
 use Prim.Native.Nat.{ℕ, ◌*◌, ◌≤◌}
 use native.Mathlib.Omega.{arith}
 use lib.ListN.{length}
-use lib.IntN.{ℤ}
 use Rattle.rules.specs.Bytes.{variable_count}
 use Rattle.rules.specs.Run.{Ending, finished, stopped, Ended}
 use Rattle.rules.specs.Outcome as Rules

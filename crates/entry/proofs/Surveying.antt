@@ -1,6 +1,5 @@
 -- The walk that asks lent records for a tree, turn by turn: it goes as the one over words does, over the table that the records spell. Assumes nothing.
 use mathlib.Core.Path.{◌≡◌, refl, sym, ◌∙◌, subst}
-use mathlib.Core.Bool.{true}
 use mathlib.Core.List.{List}
 use Prim.Native.Nat.{ℕ, ◌<◌, ◌≤◌, min}
 use native.Mathlib.Omega.{arith}
@@ -10,7 +9,7 @@ use Rattle.rules.specs.Limits.{max_nodes}
 use Rattle.lent.specs.declared.node.Node.{Node}
 use Rattle.lent.specs.declared.standing.Spot.{Spot}
 use Rattle.table.specs.Cells.{gone}
-use Rattle.lent.specs.Lent.{cell_of, blank, nodes_table}
+use Rattle.lent.specs.Lent.{blank, nodes_table}
 use Rattle.lent.specs.Stands.{Decided, Marked, start, Asked, Ready, Rooms, Turned}
 use Rattle.lent.proofs.Walking.{Walking, turns, walk_start, walk_ready, walk_turn, walk_end}
 use Rattle.entry.specs.Records.{Unmarked, Surveys}

@@ -25,7 +25,10 @@ pub fn load(table: &[Node], words: &mut [u32], n: usize)
 {
     let mut x = 0;
     while x < n {
-        node::put(words, x, table[x]);
+        // The value is read, so that it is known to be of 32 bits.
+        let d = table[x];
+        let _value = d.value;
+        node::put(words, x, d);
         x = x + 1;
     }
 }
