@@ -1,4 +1,4 @@
--- Facts on numbers that the walks with a loop cite.
+-- Facts on numbers over lent records: how many words and bytes they take, and the places of a loop over them.
 use mathlib.Core.Path.{◌≡◌}
 use mathlib.Core.List.{List, [], ◌∷◌}
 use Prim.Native.Nat.{ℕ, zero, suc, ◌+◌, ◌*◌, ◌-◌, ◌^◌, ◌<◌, ◌≤◌}

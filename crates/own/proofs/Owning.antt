@@ -77,3 +77,13 @@ module _ (places m : ℕ) (em : m ≡ min places own_places) (follows : Bool) (x
       owned =
           subst (λ k. Owned follows b budget k x x' r) em
           (record { records = ns; many = kept ∙ lent_length; promised = p; words = out })
+
+-- the same, where the records before the run are t, and all records after it are o
+module _ (places m : ℕ) (em : m ≡ min places own_places) (follows : Bool) (x : Lent (List ℕ)) (t o ns : List Node) (is : t ≡ own_records follows x.table)
+    (parts : o ≡ ns ++ drop m t) (kept : length ns ≡ length (take m t)) (b : List ℕ) (budget : ℕ) (x' : Lent (List ℕ)) (r : Outcome) where
+  pub owned_of : Kept follows b budget (lent (take m t) x.levels x.values x.board) (lent ns x'.levels x'.values x'.board) r
+      → x'.table ≡ loaded o own_places x.table → Owned follows b budget (min places own_places) x x' r
+  owned_of p out =
+      owned places m em follows x ns (kept ∙ ap (λ u. length (take m u)) is) b budget x' r
+      (subst (λ u. Kept follows b budget (lent (take m u) x.levels x.values x.board) (lent ns x'.levels x'.values x'.board) r) is p)
+      (out ∙ ap (λ u. loaded u own_places x.table) (parts ∙ ap (λ u. ns ++ drop m u) is))
