@@ -1,7 +1,7 @@
 -- What an action does, test by test: a result of the rules is its next thing, its stop, or a test in front of a result; and an action that changes
 -- nothing is one that stops. Each law is by the cases of the test. Assumes nothing.
 use mathlib.Core.Path.{◌≡◌, refl, sym, ap, subst, ◌∙◌}
-use mathlib.Core.Bool.{Bool, true, false, not, true≢false}
+use mathlib.Core.Bool.{Bool, true, false}
 use mathlib.Core.Option.{Option, none, some}
 use mathlib.Core.List.{List, [], ◌∷◌, map}
 use Prim.Native.Nat.{ℕ, suc, ◌*◌, ◌/◌, ◌<◌, ◌≤◌}
@@ -28,7 +28,7 @@ use Rattle.actions.specs.declared.control.Running.{Running}
 use Rattle.actions.specs.declared.control.Stepped.{Stepped}
 use Rattle.actions.specs.Stands.{Stands, stepped, with_memory, went}
 use Rattle.actions.specs.Marks.{count_at, Marked}
-use Rattle.actions.specs.Acts.{Does, Kept, keep, Same, Acting, Acts}
+use Rattle.actions.specs.Acts.{Does, Kept, Same, Acting, Acts}
 use Rattle.actions.proofs.Remembered.{marked_none, marked_after, stands_still}
 
 -- the numbers of the stops

@@ -1,6 +1,6 @@
 -- A move of the cursor does what the rules say: the slices stay, so they show the memory moved to wherever the table holds the tree with the cursor
 -- at the new place, and a link leads to no place of the table just where the tree has no node there. Assumes nothing.
-use mathlib.Core.Path.{◌≡◌, refl, sym, ap, ap₂, subst, ◌∙◌}
+use mathlib.Core.Path.{◌≡◌, refl, sym, ap, ap₂, ◌∙◌}
 use mathlib.Core.Bool.{true, false}
 use mathlib.Core.Option.{Option, none, some}
 use mathlib.Core.List.{List}
@@ -8,13 +8,13 @@ use Prim.Native.Nat.{ℕ, ◌%◌, ◌<◌, ◌≤◌}
 use native.Mathlib.Omega.{arith}
 use lib.IntN.{ℤ}
 use Rattle.rules.specs.Level.{Level, public, join, not_above}
-use Rattle.rules.specs.Tree.{no_label, Forest, nil, tree, Place, root, to, up, child, sibling, sub, label, exists, count}
+use Rattle.rules.specs.Tree.{no_label, Forest, nil, tree, Place, root, to, up, child, sibling, sub, exists, count}
 use Rattle.rules.specs.Run as Run
 use Rattle.rules.specs.Run.{Result, stop, flow, absent, need, move_to, go_joining, go_to}
 use Rattle.rules.proofs.Tests.{Test, holds, fails, test}
 use Rattle.table.specs.Cells.{Table, cell, cells, gone}
 use Rattle.table.specs.Holds.{node, empty, end, hit, Holds}
-use Rattle.table.specs.Promises.{Whenever, Leads, outside, missing, found}
+use Rattle.table.specs.Promises.{Leads, outside, missing, found}
 use Rattle.table.proofs.Moves.{stands}
 use Rattle.actions.specs.declared.memory.Memory.{Memory}
 use Rattle.actions.specs.declared.control.Running.{Running}

@@ -1,8 +1,8 @@
 -- The four commands of control land where the rules' do. Assumes nothing.
-use mathlib.Core.Path.{◌≡◌, refl, sym, ◌∙◌, ap, subst}
+use mathlib.Core.Path.{◌≡◌, refl, sym, subst}
 use mathlib.Core.Option.{none}
 use mathlib.Core.List.{List, [], ◌∷◌, tail}
-use Prim.Native.Nat.{ℕ, suc}
+use Prim.Native.Nat.{ℕ}
 use native.Mathlib.Omega.{arith}
 use Rattle.rules.specs.Run as Run
 use Rattle.rules.specs.Run.{State, Block, next, Stop, stop_number, stepped, onward, leave, leave_block}

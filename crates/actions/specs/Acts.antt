@@ -1,6 +1,6 @@
 -- What the monitor's functions promise: for every memory that the slices show, what the rules give. Assumes nothing.
-use Rattle.std.specs.Prelude.{◌≡◌, Bool, true, false, cond, ◌&&◌, ℕ, zero, suc, ◌-◌, ◌*◌, ◌<◌, ◌≤◌, List, map, length, get_or, drop, ℤ, pos}
-use Rattle.std.proofs.Math.Option.{Option, none, some}
+use Rattle.std.specs.Prelude.{◌≡◌, Bool, cond, ◌&&◌, ℕ, suc, ◌-◌, ◌*◌, ◌<◌, ◌≤◌, List, map, length, get_or, drop, ℤ, pos}
+use Rattle.std.proofs.Math.Option.{Option, some}
 use Rattle.rules.specs.Number.{Fits, fitting, bits}
 use Rattle.rules.specs.Answers.{value_of}
 use Rattle.rules.specs.declared.numbers.Number.{Number}

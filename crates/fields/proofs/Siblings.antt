@@ -8,9 +8,9 @@ use mathlib.Core.List.{List}
 use Prim.Native.Nat.{ℕ, zero, suc, ◌≤◌, ◌<◌}
 use native.Mathlib.Omega.{arith}
 use lib.Dec.{eqb, ltb}
-use lib.ListN.{length, get_or, set, length-set, get_or-replicate, replicate}
+use lib.ListN.{get_or, set, length-set, get_or-replicate, replicate}
 use lib.Seq.{get_or-set_same, get_or-set_other}
-use borrow.Author.Tests.{eqb-true, eqb-false, eq-eqb, ne_eqb, lt-ltb, le-ltb, ltb-false}
+use borrow.Author.Tests.{eqb-true, eqb-false, eq-eqb, ne_eqb, le-ltb, ltb-false}
 use Rattle.rules.specs.Limits.{max_nodes, no_parent}
 use Rattle.rules.specs.Level.{public, not_above}
 use Rattle.rules.specs.Check.{parent, existence, structure, parent_rule, nearest, left_rule, child_rule}

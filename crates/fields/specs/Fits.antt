@@ -1,5 +1,5 @@
 -- A record fits where it is right and its spare bytes are zero: the same in words of four and eight bytes, as the pass over the script asks for it. Assumes nothing.
-use Rattle.std.specs.Prelude.{ℕ, ◌+◌, ◌*◌, Bool, ◌&&◌, ◌||◌, not, cond, List, [], ◌∷◌, leb, ltb, eqb}
+use Rattle.std.specs.Prelude.{ℕ, ◌+◌, ◌*◌, Bool, ◌&&◌, ◌||◌, cond, List, [], ◌∷◌, leb, ltb, eqb}
 use Rattle.rules.specs.Level.{public, not_above}
 use Rattle.rules.specs.Bytes.{byte, half, full, variable_place}
 use Rattle.rules.specs.Script.{Row}

@@ -2,26 +2,23 @@
 -- Assumes nothing.
 use mathlib.Core.Path.{◌≡◌, refl, sym, ◌∙◌, ap, subst}
 use mathlib.Core.Bool.{Bool, true, false, cond}
-use mathlib.Core.Logic.{◌⊎◌, inl, inr}
 use mathlib.Core.Option.{Option, none, some, Option-elim}
 use mathlib.Core.List.{List, [], ◌∷◌, map, head_d}
-use Prim.Native.Nat.{ℕ, zero, suc, ◌+◌, ◌-◌, ◌*◌, ◌%◌, ◌<◌, ◌≤◌}
+use Prim.Native.Nat.{ℕ, zero, suc, ◌+◌, ◌-◌, ◌%◌, ◌<◌, ◌≤◌}
 use native.Mathlib.Omega.{arith}
 use lib.ListN.{length, get_or}
-use lib.IntN.{ℤ}
 use lib.Dec.{eqb, ltb}
 use borrow.Author.Tests.{eq-eqb, eqb-true, ltb-true, ltb-false}
-use Rattle.rules.specs.Limits.{max_depth, max_nodes, max_records, record_size, command_count}
+use Rattle.rules.specs.Limits.{max_depth, record_size, command_count}
 use Rattle.rules.specs.Level.{join}
-use Rattle.rules.specs.Tree.{Place, child, sibling, root, to, up, left_of}
+use Rattle.rules.specs.Tree.{Place, child, sibling, to, up, left_of}
 use Rattle.rules.specs.Bytes.{byte, record_place}
 use Rattle.rules.specs.Blocks.{branches, opens, closes, goes_to, nest}
-use Rattle.rules.specs.Check.{record_rule}
-use Rattle.rules.specs.Job.{script_of, script_from, command_of, command_by, set_at, expression_of, listed}
-use Rattle.rules.specs.Script.{Expression, Command, act, Action, Row, rows, row_of, content_set, list_set, cover_set, commands, fetch, number_at, number, action_number}
+use Rattle.rules.specs.Job.{script_from, command_of, command_by, set_at, expression_of}
+use Rattle.rules.specs.Script.{Command, act, Action, rows, row_of, content_set, list_set, cover_set, commands, fetch, number_at, number}
 use Rattle.rules.specs.Run as Run
 use Rattle.rules.specs.Run.{State, Saved, Block, Buffers, Result, next, context, value, level_of, relocate, relocated, on_block, stepped, onward, enter_if, enter_while, enter_back, carried, effect, step}
-use Rattle.rules.proofs.Ranges.{record_in, RecordIn, FieldsIn, ExpressionIn, OperandIn}
+use Rattle.rules.proofs.Ranges.{record_in}
 use Rattle.rules.proofs.Decode.{listed_length, listed_from_zero, section_spelled, numbered_at}
 use Rattle.rules.proofs.Nests.{nest_room}
 use Rattle.rules.proofs.Ends.{nest_some}
@@ -40,7 +37,7 @@ use Rattle.actions.specs.declared.control.Stepped.{Stepped}
 use Rattle.actions.specs.Guards.{Holds}
 use Rattle.actions.specs.Board.{capacity}
 use Rattle.actions.specs.Shows.{Slices, Reads, Readable}
-use Rattle.actions.specs.Acts.{Does, Kept, shifted, closed_up, Same, Becomes, Acting, Acts, Evaluates, move_of}
+use Rattle.actions.specs.Acts.{Does, shifted, closed_up, Same, Becomes, Acting, Acts, Evaluates, move_of}
 use Rattle.actions.specs.Stands.{Stands, Timely, stepped as answered, ended}
 use Rattle.actions.specs.Control.{Keeps, Jumps, Leaves, Enters, Stays, Saves, Restores}
 use Rattle.interpreter.specs.Steps.{Held, script_in, fields_at, Script, Safe, Lent, Steps, Carries}

@@ -3,12 +3,11 @@
 use mathlib.Core.Path.{◌≡◌, refl, sym, ◌∙◌, ap, subst}
 use mathlib.Core.Bool.{Bool, true, false, cond}
 use mathlib.Core.List.{List}
-use Prim.Native.Nat.{ℕ, zero, suc, ◌+◌, ◌-◌, ◌*◌, ◌/◌, ◌^◌, ◌<◌, ◌≤◌}
+use Prim.Native.Nat.{ℕ, suc, ◌+◌, ◌-◌, ◌*◌, ◌/◌, ◌<◌, ◌≤◌}
 use native.Mathlib.Omega.{arith}
 use lib.ListN.{length, drop}
 use lib.Seq.{drop-drop}
 use lib.Dec.{ltb, eqb}
-use lib.IntN.{ℤ}
 use borrow.Author.Tests.{lt-ltb, le-ltb, eq-eqb, eqb-true, ltb-true, ltb-false}
 use Rattle.rules.specs.Job.{script_from}
 use Rattle.rules.proofs.Starts.{section_sets}
@@ -21,7 +20,7 @@ use Rattle.rules.proofs.Control.{Closed, Valid, step_valid}
 use Rattle.rules.proofs.Decode.{listed_length}
 use Rattle.actions.specs.declared.control.Running.{Running}
 use Rattle.actions.specs.declared.control.Stepped.{Stepped}
-use Rattle.actions.specs.Shows.{Slices, slices}
+use Rattle.actions.specs.Shows.{Slices}
 use Rattle.actions.specs.Acts.{Does, Kept}
 use Rattle.actions.specs.Stands.{Stands, ended, stepped}
 use Rattle.interpreter.specs.Steps.{Held, script_in, Script, Safe, Lent, Steps, Carries, over_at, code_of, Ran, Runs, Comes, Reached, Startable, Turns}

@@ -6,8 +6,7 @@ use Rattle.rules.specs.Blocks.{block_rule, goes_to}
 use Rattle.rules.specs.Check.{record_rule}
 use Rattle.rules.specs.Job.{script_of}
 use Rattle.rules.specs.Script.{Command, number_at}
-use Rattle.rules.specs.Run as Run
-use Rattle.rules.specs.Run.{State, Buffers, stop, stop_number, step, Ending, finished, stopped, Ended, run}
+use Rattle.rules.specs.Run.{State, Buffers, stop_number, step, Ending, finished, stopped, Ended, run}
 use Rattle.rules.proofs.Control.{Valid}
 use Rattle.table.specs.Cells.{cell_size}
 use Rattle.fields.specs.declared.records.Fields.{Fields}

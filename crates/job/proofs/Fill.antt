@@ -10,7 +10,7 @@ use lib.Dec.{eqb}
 use lib.ListN.{length, get_or, set, length-set}
 use lib.Seq.{get_or-set_same, get_or-set_other}
 use borrow.Author.Tests.{eq-eqb, ne_eqb, eqb-true, eqb-false}
-use Rattle.rules.specs.Blocks.{branches, parts, nest, past_end, goes_to}
+use Rattle.rules.specs.Blocks.{branches, parts, nest, goes_to}
 use Rattle.rules.proofs.Tests.{Test, holds, fails, test}
 use Rattle.rules.proofs.Parts.{Kind, opener, divider, ender, other, kind, after_open, after_else, after_end, after_plain}
 use Rattle.rules.proofs.Parts.{Falls, empty, next, else_closes, end_closes, before, begun, begins_not, parts_below}

@@ -1,6 +1,6 @@
 -- What the scan of a section comes to, by the searches that it makes: where all records are right, the first that is not both right and clean is the first that is
 -- not clean. Assumes nothing.
-use mathlib.Core.Path.{◌≡◌, refl, sym, ap, ◌∙◌}
+use mathlib.Core.Path.{◌≡◌, refl, sym, ◌∙◌}
 use mathlib.Core.Bool.{Bool, true, false, ◌&&◌}
 use mathlib.Core.List.{List}
 use Prim.Native.Nat.{ℕ, ◌≤◌, ◌<◌}
@@ -19,7 +19,6 @@ use Rattle.rules.proofs.Search.{fault_agree, all_pass, none_faulty}
 use Rattle.rules.proofs.Checks.{stopped, through}
 use Rattle.job.specs.declared.checks.Edition as Named
 use Rattle.job.specs.declared.checks.Edition.TheVariants.{First, Unordered, Today}
-use Rattle.job.specs.declared.checks.Scan.{Scan}
 use Rattle.job.specs.declared.checks.Scan.TheVariants.{Faulty, Passed}
 use Rattle.fields.specs.Fields.{known_rule}
 use Rattle.fields.specs.Fits.{variable_in, label_in, node_in, record_fits}

@@ -10,7 +10,7 @@ use lib.ListN.{length, get_or, set, length-set}
 use lib.Seq.{get_or-set_same, get_or-set_other}
 use borrow.Author.Tests.{ltb-true, ne_eqb}
 use Rattle.rules.specs.Limits.{max_depth}
-use Rattle.rules.specs.Blocks.{branches, opens, parts, head_is_if, placed}
+use Rattle.rules.specs.Blocks.{branches, opens, head_is_if, placed}
 use Rattle.rules.proofs.Tests.{clash}
 use Rattle.rules.proofs.Parts.{Plain, is_if_law, is_back_law, if_opens, while_opens, placed_open, placed_else, placed_end}
 use Rattle.job.specs.Parts.{stack, Spells}

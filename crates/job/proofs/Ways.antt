@@ -1,15 +1,14 @@
 -- Where the nodes before node i are in order, all records between one on the way up from the record before and node i stand below it; so on this way right below the parent
 -- stands the nearest earlier record with the same parent. Assumes nothing.
-use mathlib.Core.Path.{◌≡◌, refl, sym, ap, ◌∙◌}
-use mathlib.Core.Bool.{Bool, true, false, ◌&&◌, cond}
+use mathlib.Core.Path.{◌≡◌, ap, ◌∙◌}
+use mathlib.Core.Bool.{true}
 use mathlib.Core.Option.{none, some}
 use mathlib.Core.List.{List}
 use Prim.Native.Nat.{ℕ, zero, suc, ◌+◌, ◌-◌, ◌≤◌, ◌<◌}
 use native.Mathlib.Omega.{arith}
 use native.Mathlib.Decide.{ℕ_discrete}
-use lib.Dec.{eqb}
-use borrow.Author.Tests.{eq-eqb, ne_eqb}
-use Rattle.rules.specs.Check.{parent, existence, parent_rule, nearest, child_rule, order_rule}
+use borrow.Author.Tests.{ne_eqb}
+use Rattle.rules.specs.Check.{parent, parent_rule, nearest, order_rule}
 use Rattle.rules.proofs.Accepted.{parent_before}
 use Rattle.rules.proofs.Ordered.{Up, here, above, up_up, up_path, path_is_up}
 use Rattle.fields.specs.Siblings.{Rooted}

@@ -1,6 +1,6 @@
 -- What the checks hand back, from the rules' definition of the checks. Assumes nothing.
 use Rattle.std.specs.Prelude.{◌≡◌, Bool, true, ◌&&◌, cond, List, ℕ, suc, ◌≤◌, ◌<◌, ltb, eqb, length}
-use Rattle.rules.specs.Limits.{max_records, bad_variable, bad_parent, bad_node, bad_record, bad_block, bad_spare, bad_order}
+use Rattle.rules.specs.Limits.{max_records, bad_variable, bad_parent, bad_node, bad_block, bad_spare, bad_order}
 use Rattle.rules.specs.Bytes.{script_at, record_count, record_place}
 use Rattle.rules.specs.Blocks.{block_rule}
 use Rattle.rules.specs.Check as Check
@@ -14,7 +14,6 @@ use Rattle.job.specs.declared.checks.Script.TheVariants.{Sound, Faulty}
 use Rattle.job.specs.declared.checks.Edition.{Edition}
 use Rattle.job.specs.declared.checks.Edition.TheVariants.{First, Unordered, Today}
 use Rattle.job.specs.declared.checks.Scan.{Scan}
-use Rattle.job.specs.declared.checks.Scan.TheVariants as Scan
 use Rattle.job.specs.declared.checks.Unclean.{Unclean}
 use Rattle.fields.specs.Layout.{layout_of, Inside}
 use Rattle.fields.specs.Fits.{variable_in}

@@ -8,11 +8,10 @@ use lib.Dec.{leb}
 use lib.ListN.{length}
 use borrow.Author.Tests.{le-leb, lt-leb}
 use Rattle.rules.specs.Limits.{max_nodes, bad_budget, bad_buffers}
-use Rattle.rules.specs.Check.{Checked, accepted, refused, require, code}
+use Rattle.rules.specs.Check.{accepted, refused, require, code}
 use Rattle.rules.specs.Run.{Buffers}
 use Rattle.rules.specs.Outcome.{budget_rule}
 use Rattle.rules.specs.History.{Store, FollowOn, section_count, store_rule, check_follow_on}
-use Rattle.job.specs.declared.checks.Script.{Script}
 use Rattle.job.specs.declared.checks.Script.TheVariants.{Sound, Faulty}
 use Rattle.job.specs.Answer as Answer
 use Rattle.job.specs.Plan.{Whole}

@@ -23,7 +23,7 @@ use Rattle.monitor.specs.Promises.{answer_of, told, Lent, lent_by, places_in, Tr
 use Rattle.monitor.specs.Secrecy.{variable_in}
 use Rattle.monitor.specs.Follow.{HoldsStore, follow_on, Tells, Follows, over, none, StandsIn}
 use Rattle.monitor.specs.Histories.{Call}
-use Rattle.monitor.specs.Budgets.{lines_of, SpentCall, ProlongedCall, SameLent, BudgetCalls, SameStore, RaisedCall, AllRaisedCalls, Standing, SameLeft, ProlongedCalls, BudgetHistories}
+use Rattle.monitor.specs.Budgets.{lines_of, ProlongedCall, SameLent, BudgetCalls, SameStore, RaisedCall, AllRaisedCalls, Standing, SameLeft, ProlongedCalls, BudgetHistories}
 use Rattle.monitor.proofs.Histories.{one_store}
 
 module _ {T : Type 0} (places : T → ℕ) (HoldsTree : T → ℕ → Forest → Place → Type 0) where

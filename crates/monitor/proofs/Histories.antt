@@ -1,10 +1,9 @@
 -- The secrecy rule for calls, from their promise alone and from that rule for the rules' histories. Assumes nothing.
 use mathlib.Core.Path.{◌≡◌, refl, sym, ◌∙◌, ap, subst}
-use mathlib.Core.Logic.{◌⊎◌, inl, inr, ⊎_map}
-use mathlib.Core.List.{List, [], ◌∷◌, map}
+use mathlib.Core.Logic.{inl, inr, ⊎_map}
+use mathlib.Core.List.{List, [], ◌∷◌}
 use Prim.Native.Nat.{ℕ}
 use native.Mathlib.Omega.{arith}
-use native.Mathlib.Nat.{le_refl}
 use lib.ListN.{length}
 use Rattle.rules.specs.Limits.{bad_follow_on}
 use Rattle.rules.specs.Level.{Level}

@@ -26,7 +26,7 @@ use Rattle.table.specs.Cells.{cells, gone}
 use Rattle.table.specs.Holds.{Holds}
 use Rattle.table.specs.Promises.{Behind, Loadable, Loaded}
 use Rattle.actions.specs.Board.{capacity, written}
-use Rattle.actions.specs.Shows.{Slices, Variables}
+use Rattle.actions.specs.Shows.{Slices}
 use Rattle.interpreter.specs.declared.step.Frame.{Frame}
 use Rattle.monitor.specs.declared.entry.Outcome.{Outcome}
 use Rattle.interpreter.specs.Steps.{held, Script, Lent}

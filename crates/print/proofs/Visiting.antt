@@ -11,12 +11,11 @@ use lib.Dec.{ltb}
 use lib.ListN.{length, drop, get_or, length-append, length-drop}
 use borrow.Author.Tests.{ltb-true, ltb-false}
 use lib.Seq.{drop-nil, drop-cons, drop-append-le, drop-append-add}
-use Rattle.rules.specs.Tree.{Label, Forest, nil, tree, Side, child, sibling, along, Place, root, to, up, sub, exists, size}
+use Rattle.rules.specs.Tree.{Forest, nil, tree, Side, child, sibling, along, Place, root, to, up, sub, exists, size}
 use Rattle.table.specs.Cells.{Table}
 use Rattle.table.specs.Holds.{Holds}
 use Rattle.table.specs.Promises.{Leads, outside, missing, found}
 use Rattle.table.proofs.Moves.{stands, to_root}
-use Rattle.print.specs.Preorder as Preorder
 use Rattle.print.specs.Preorder.{Stop, stop, preorder, Stands, Goes, on, over, depth, later, from, First}
 
 -- there are as many as the tree has nodes

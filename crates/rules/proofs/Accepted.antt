@@ -1,7 +1,7 @@
 -- What is known of a job that an edition accepts: every rule holds, as the chain of checks has passed each, and the other way; and its script's command numbers are its bytes, so the
 -- jumps by the bytes are the jumps by the script. The same of a bare section. Assumes nothing.
 use mathlib.Core.Path.{◌≡◌, refl, sym, ap, ◌∙◌}
-use mathlib.Core.Bool.{Bool, true, false, ◌&&◌, ◌||◌}
+use mathlib.Core.Bool.{Bool, true, false, ◌||◌}
 use mathlib.Core.List.{List}
 use Prim.Native.Nat.{ℕ, suc, ◌<◌}
 use native.Mathlib.Omega.{arith}

@@ -6,7 +6,7 @@ use mathlib.Core.Bool.{true, false}
 use mathlib.Core.Option.{some, some-injective}
 use mathlib.Core.List.{map}
 use lib.ListN.{get_or, get_or-map}
-use lib.IntN.{ℤ, pos}
+use lib.IntN.{pos}
 use Rattle.rules.specs.Level.{Level, public, join, visible}
 use Rattle.rules.specs.Tree.{Label, Forest, child, along, Place, to, sub, last_from, last_of, label, count, with_value, Fits}
 use Rattle.rules.specs.Script.{Operand, Expression, alone, both, apply}

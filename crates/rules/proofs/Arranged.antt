@@ -11,20 +11,20 @@ use lib.Dec.{eqb-suc-zero, ltb}
 use borrow.Author.Tests.{eq-eqb, lt-ltb, ltb-true, ltb-false}
 use Rattle.rules.specs.Limits.{no_parent}
 use Rattle.rules.specs.Number.{signed}
-use Rattle.rules.specs.Tree.{Forest, tree, size, TreeRules}
+use Rattle.rules.specs.Tree.{Forest, size, TreeRules}
 use Rattle.rules.specs.Bytes.{byte, half, two, nodes_at, script_at, variable_count, node_count, record_count, variable_place, node_place, record_place}
 use Rattle.rules.specs.Check.{accepted, parent, existence, content, structure, parent_rule, house_rule, order_rule, variable_reads, node_reads, record_reads, variable_clean, node_clean, record_clean}
 use Rattle.rules.specs.Check.{unordered, ordered, check_bytes_by}
 use Rattle.rules.specs.Job.{listed, label_of, children_of, tree_of, job_tree}
-use Rattle.rules.specs.Arrange.{Moved, moves, moved_bytes, arranged, Arranges, ArrangerRight}
+use Rattle.rules.specs.Arrange.{Moved, moves, moved_bytes, arranged, ArrangerRight}
 use Rattle.rules.proofs.Tests.{Test, holds, fails, test, clash}
 use Rattle.rules.proofs.Checks.{Sections}
 use Rattle.rules.proofs.Decode.{listed_at, listed_from_zero}
 use Rattle.rules.proofs.Packed.{listed_is, packed_length, field_at, half_is, full_agree}
-use Rattle.rules.proofs.ReadBytes.{spare_all, spare_zero, records_16, variables_8, nodes_12}
+use Rattle.rules.proofs.ReadBytes.{spare_all, spare_zero, variables_8, nodes_12}
 use Rattle.rules.proofs.Accepted.{Clean, Right, House, right_by, accept_by}
 use Rattle.rules.proofs.Loaded.{tree_rules, node_rules}
-use Rattle.rules.proofs.SameReads.{Laid, laid, Around, same_nodes_at, same_node_count, record_reads_law, around_right, around_house, around_script, around_runs}
+use Rattle.rules.proofs.SameReads.{laid, Around, same_nodes_at, same_node_count, record_reads_law, around_right, around_house, around_script, around_runs}
 use Rattle.rules.specs.Write.{Entry, listing}
 use Rattle.rules.proofs.Listing.{listing_length, before_root}
 use Rattle.rules.proofs.Entries.{entry_of, tree_list, tree_list_law, listed_tree}

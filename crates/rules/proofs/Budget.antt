@@ -3,16 +3,15 @@
 use mathlib.Core.Path.{◌≡◌, refl, sym, ◌∙◌, ap, subst}
 use Prim.Native.Nat.{ℕ, ◌+◌, ◌-◌, ◌≤◌}
 use native.Mathlib.Omega.{arith}
-use mathlib.Core.Bool.{true}
 use mathlib.Core.List.{List, [], ◌∷◌}
 use Rattle.rules.specs.Script.{Command}
 use Rattle.rules.specs.Check.{Checked, accepted, refused}
 use Rattle.rules.specs.Job.{script}
 use Rattle.rules.specs.Run.{State, Buffers, spent, Ended, start, run}
-use Rattle.rules.specs.Outcome.{budget_rule, check_job_by, check_job, Outcome, ran, begin, run_job, ending_number, answer, board_lines}
+use Rattle.rules.specs.Outcome.{check_job_by, check_job, Outcome, ran, begin, run_job, ending_number, answer, board_lines}
 use Rattle.rules.specs.History.{Store, FollowOn, section_script, check_follow_on, follow, leaves, after, history, job_store, after_job}
 use Rattle.rules.specs.Rounds.{Newcomer, alone, AsAlone}
-use Rattle.rules.specs.Budget.{Raised, Spent, Prolonged, JobBudgets, RaisedFollowOn, AllRaised, ProlongedHistories, HistoryBudgets, JobHistoryBudgets, RoundsBudgets}
+use Rattle.rules.specs.Budget.{Raised, Prolonged, JobBudgets, RaisedFollowOn, AllRaised, ProlongedHistories, HistoryBudgets, JobHistoryBudgets, RoundsBudgets}
 use Rattle.rules.proofs.Runs.{halted, Longer, same, further, longer}
 use Rattle.rules.proofs.Lines.{extends_refl, run_longer}
 use Rattle.rules.proofs.Steps.{run_within}

@@ -1,7 +1,6 @@
 -- A cut is made of what the reader sees at each place, so that trees which agree place by place have equal cuts. Where the tree rules hold, a cut shows what
 -- the tree shows, and trees with equal cuts agree. Assumes nothing.
 use mathlib.Core.Path.{◌≡◌, refl, sym, ◌∙◌, ap}
-use mathlib.Core.Bool.{true, false}
 use mathlib.Core.Option.{Option, none, some}
 use lib.IntN.{ℤ, pos}
 use Rattle.rules.specs.Level.{Level, public, visible}

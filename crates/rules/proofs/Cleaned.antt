@@ -1,19 +1,18 @@
 -- The cleaner: byte by byte a job is cleaned, and on the way it is read as before; the cleaned job passes the checks with 12 and runs as the old one; a clean
 -- job stays as it is. All by the law that a job is what its read bytes say. Assumes nothing.
 use mathlib.Core.Path.{◌≡◌, refl, sym, ap, ◌∙◌}
-use Prim.Native.Nat.{ℕ, suc, ◌+◌, ◌*◌, ◌≤◌, ◌<◌}
+use Prim.Native.Nat.{ℕ, suc, ◌≤◌, ◌<◌}
 use native.Mathlib.Omega.{arith}
 use native.Mathlib.Decide.{ℕ_discrete}
-use mathlib.Core.Bool.{Bool, true, false, ◌||◌}
-use mathlib.Core.List.{List, []}
-use lib.ListN.{length, get_or, set, length-set, get_or-eq_default}
+use mathlib.Core.Bool.{true, false}
+use mathlib.Core.List.{List}
+use lib.ListN.{length, set, length-set, get_or-eq_default}
 use lib.Seq.{ext_get_or, get_or-set_same, get_or-set_other}
-use lib.Dec.{ltb, eqb}
-use borrow.Author.Tests.{ltb-true, ltb-false, eq-eqb}
+use lib.Dec.{ltb}
+use borrow.Author.Tests.{ltb-true, ltb-false}
 use Rattle.rules.specs.Bytes.{byte, nodes_at, script_at, variable_count, node_count, record_count, variable_place, node_place, record_place}
-use Rattle.rules.specs.Check.{accepted, variable_reads, node_reads, record_reads, spare_rule, variable_clean, node_clean, record_clean}
+use Rattle.rules.specs.Check.{accepted, variable_reads, node_reads, record_reads, variable_clean, node_clean, record_clean}
 use Rattle.rules.specs.Check.{first, clean, check_bytes_by}
-use Rattle.rules.specs.Job.{listed}
 use Rattle.rules.specs.Run.{Buffers}
 use Rattle.rules.specs.Outcome.{run_job_by}
 use Rattle.rules.specs.Clean.{is_read, clean_byte, cleaned}
@@ -21,7 +20,7 @@ use Rattle.rules.proofs.Tests.{Test, holds, fails, test, clash}
 use Rattle.rules.proofs.Decode.{listed_length, listed_from_zero}
 use Rattle.rules.proofs.ReadBytes.{spare_all, spare_zero, records_16, variables_8, nodes_12}
 use Rattle.rules.proofs.Accepted.{Clean, Right, RightBy, right_by, accept_by}
-use Rattle.rules.proofs.SameReads.{Laid, laid, Lies, in_variable, in_node, in_record, in_trailer, lies, read_variable, read_node, read_record, read_trailer, Agreed}
+use Rattle.rules.proofs.SameReads.{laid, Lies, in_variable, in_node, in_record, in_trailer, lies, read_variable, read_node, read_record, read_trailer, Agreed}
 use Rattle.rules.proofs.SameReads.{around, around_script, around_runs, record_reads_law, same_tree, same_right, same_house}
 
 -- the bytes of a job that is cleaned as far as byte n

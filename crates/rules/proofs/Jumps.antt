@@ -1,7 +1,7 @@
 -- The record that closes a part is the one at which the part is innermost: up to there the search for it runs on, since a record closes no part but
 -- the innermost; and a part that is no longer open was closed. Then where each kind of record goes. Assumes nothing.
 use mathlib.Core.Path.{◌≡◌, refl, ◌∙◌, subst}
-use mathlib.Core.Bool.{Bool, true, false, ◌&&◌, ◌||◌}
+use mathlib.Core.Bool.{Bool, true, false, ◌&&◌}
 use mathlib.Core.List.{List, [], ◌∷◌, tail, head_d}
 use Prim.Native.Nat.{ℕ, zero, suc, ◌-◌, ◌≤◌, ◌<◌}
 use native.Mathlib.Nat.{le-suc, lt-suc_self, le_of_lt}

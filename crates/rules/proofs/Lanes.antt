@@ -15,7 +15,7 @@ use Rattle.rules.specs.History.{Store, FollowOn, section_script, store_rule, fol
 use Rattle.rules.specs.Season.{attempt, published, is_finished, commits, commit, season, closing, seen_boards}
 use Rattle.rules.specs.Write.{job_of}
 use Rattle.rules.specs.Projection.{everyone, view_store, project}
-use Rattle.rules.specs.Lanes.{Entry, load, transaction, Query, beside, asking, query, QueryIsJob, Brought, entered, lane, stands, decided, AlikeEntry, AlikeLogs, OneLane, NothingTold, NothingToldOfStores, SameLogs, IndistinguishableLanes, SameStores, Together, LanesTogether, Faithful, FaithfulToLog, Mends, GoesOn, LaneKept, housed, Scriptless, unloaded, LaneIsSeason, FaithfulToHouse, LaneRight, LanesRight}
+use Rattle.rules.specs.Lanes.{Entry, load, transaction, beside, asking, query, QueryIsJob, Brought, entered, lane, stands, decided, AlikeEntry, AlikeLogs, OneLane, NothingTold, NothingToldOfStores, SameLogs, IndistinguishableLanes, SameStores, Together, LanesTogether, Faithful, FaithfulToLog, Mends, GoesOn, LaneKept, housed, Scriptless, unloaded, LaneIsSeason, FaithfulToHouse, LaneRight, LanesRight}
 use Rattle.rules.proofs.Tests.{Test, holds, fails, test}
 use Rattle.rules.proofs.Lattice.{na_all, level_byte}
 use Rattle.rules.proofs.Noninterference.{runs, bytes_accepted}

@@ -9,7 +9,7 @@ use lib.ListN.{length, get_or, length-map}
 use lib.Dec.{eqb}
 use borrow.Author.Tests.{eq-eqb, ne_eqb}
 use Rattle.rules.specs.Limits.{no_parent}
-use Rattle.rules.specs.Tree.{Forest, tree, size}
+use Rattle.rules.specs.Tree.{tree, size}
 use Rattle.rules.specs.Check.{parent, parent_rule}
 use Rattle.rules.specs.Job.{label_of, children_of, tree_of}
 use Rattle.rules.specs.Arrange.{Moved, moved, moves}

@@ -3,7 +3,7 @@
 use mathlib.Core.Path.{◌≡◌, refl}
 use mathlib.Core.List.{List, [], ◌∷◌, map}
 use Prim.Native.Nat.{ℕ}
-use lib.IntN.{ℤ, pos, negsuc}
+use lib.IntN.{pos, negsuc}
 use Rattle.rules.specs.Run.{Buffers}
 use Rattle.rules.specs.Outcome.{answer, run_job}
 use Rattle.rules.specs.Trials.{number, v, both, bare, usual}

@@ -9,7 +9,6 @@ use mathlib.Core.Option.{Option, none, some, Option-elim, bind, some-injective}
 use mathlib.Core.List.{List, [], ◌∷◌, map}
 use lib.ListN.{length}
 use Rattle.rules.specs.Level.{Level, public, join, not_above, is_level, visible}
-use Rattle.rules.specs.Tree as Tree
 use Rattle.rules.specs.Tree.{Forest, nil, tree, Place, to, sub, label, exists, after_insert}
 use Rattle.rules.specs.Script.{Expression, Action}
 use Rattle.rules.specs.Run.{Memory, Saved, Block, Buffers, next, context, with_variables, with_tree, with_cursor, with_line, position, assign, output, move_to, go_joining, go_to, go_to_last, may_touch, insert_at, remove_at, write, effect, relocate, on_saved, on_block}

@@ -5,16 +5,16 @@ use mathlib.Core.Logic.{◌⊎◌, inl, inr}
 use Prim.Native.Nat.{ℕ, zero, suc, ◌+◌, ◌-◌, ◌%◌, ◌/◌, ◌≤◌, ◌<◌}
 use native.Mathlib.Omega.{arith}
 use native.Mathlib.Decide.{ℕ_discrete, dec_lt}
-use mathlib.Core.Bool.{Bool, true, false, ◌||◌, not}
+use mathlib.Core.Bool.{true, false}
 use mathlib.Core.List.Memᴰ
 use mathlib.Core.List.{List, [], ◌∷◌, Memᴰ}
 use lib.ListN.{length}
 use lib.Dec.{ltb, eqb}
 use borrow.Author.Tests.{ltb-true, ltb-false, eqb-true, eqb-false, not-true}
 use Rattle.rules.specs.Bytes.{byte, nodes_at, script_at, trailer_at}
-use Rattle.rules.specs.Check.{accepted, clean, check_bytes_by}
-use Rattle.rules.specs.Clean.{Spot, spot_in, spot_of, is_read, cleaned, Change, change_at, is_dirty, changes, report, Before, Rising, Cleans, StaysClean, CleanerRight}
-use Rattle.rules.proofs.Tests.{Test, holds, fails, test, neither, clash}
+use Rattle.rules.specs.Check.{clean}
+use Rattle.rules.specs.Clean.{spot_in, spot_of, is_read, cleaned, Change, change_at, is_dirty, changes, report, Before, Rising, CleanerRight}
+use Rattle.rules.proofs.Tests.{Test, holds, fails, test, neither}
 use Rattle.rules.proofs.Accepted.{right_by}
 use Rattle.rules.proofs.Cleaned.{cleaned_agreed, cleaned_spare, cleaned_partly, cleaned_taken, cleaned_runs, clean_spare, clean_stays}
 

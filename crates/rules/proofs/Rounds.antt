@@ -3,7 +3,7 @@
 use mathlib.Core.Path.{◌≡◌, refl, sym, ◌∙◌, ap, subst}
 use Prim.Native.Nat.{ℕ, zero, suc, ◌+◌, ◌-◌, ◌*◌, ◌≤◌, ◌<◌, min}
 use native.Mathlib.Omega.{arith}
-use mathlib.Core.Bool.{Bool, true, false, ◌&&◌, cond}
+use mathlib.Core.Bool.{Bool, true, false, ◌&&◌}
 use mathlib.Core.Option.{Option, some}
 use mathlib.Core.List.{List, [], ◌∷◌, ◌++◌, append_assoc, append-nil}
 use lib.ListN.{length, length-append, get_or}
@@ -14,8 +14,8 @@ use Rattle.rules.specs.Level.{Level}
 use Rattle.rules.specs.Script.{Command}
 use Rattle.rules.specs.Check.{Checked, accepted, refused}
 use Rattle.rules.specs.Job.{script}
-use Rattle.rules.specs.Run.{State, Buffers, Stop, flow, absent, tableFull, boardFull, spent, overflow, stop_number, Ending, finished, stopped, Ended, run}
-use Rattle.rules.specs.Outcome.{budget_rule, check_job_by, check_job, Outcome, rejected, ran, begin, ending_number}
+use Rattle.rules.specs.Run.{State, Buffers, flow, absent, tableFull, boardFull, spent, overflow, stop_number, Ending, finished, stopped, Ended, run}
+use Rattle.rules.specs.Outcome.{budget_rule, check_job_by, check_job, rejected, ran, begin, ending_number}
 use Rattle.rules.specs.Public.{Alike, Indistinguishable, Noninterference}
 use Rattle.rules.specs.Rounds.{Newcomer, Active, Event, arrives, turn, Reply, joins, answers, goes_on, idle, After, alone, fresh, admit, arrive, turn_of, unended, later, take_turn, happen, queue_after, replies, reply_at, turns, turn_takes, steps_in, Admission, AsAlone, EndsInTurn, InFront, Waits, Fair, Answered, AllEnd, named, times, joiner, ender, NoneLost, RoundsSecrecy}
 use Rattle.rules.proofs.Tests.{Test, holds, fails, test, clash, both}

@@ -2,7 +2,7 @@
 -- tree and script, read the same bytes, and keep the rules that every edition has. What needs no node of it is proved of bytes that agree around the nodes.
 -- Assumes nothing.
 use mathlib.Core.Path.{◌≡◌, refl, sym, ap, ap₂, ◌∙◌}
-use Prim.Native.Nat.{ℕ, zero, suc, ◌+◌, ◌-◌, ◌*◌, ◌%◌, ◌/◌, ◌≤◌, ◌<◌}
+use Prim.Native.Nat.{ℕ, suc, ◌+◌, ◌-◌, ◌*◌, ◌%◌, ◌/◌, ◌≤◌, ◌<◌}
 use native.Mathlib.Omega.{arith}
 use mathlib.Core.Bool.{Bool, true, false}
 use mathlib.Core.List.{List}
@@ -11,7 +11,7 @@ use lib.Dec.{ltb}
 use borrow.Author.Tests.{lt-ltb, le-ltb, ltb-true, ltb-false}
 use Rattle.rules.specs.Number.{signed}
 use Rattle.rules.specs.Tree.{Label}
-use Rattle.rules.specs.Bytes.{byte, half, full, variables_at, nodes_at, script_at, trailer_at, variable_count, node_count, record_count, variable_place, node_place, record_place}
+use Rattle.rules.specs.Bytes.{byte, half, variables_at, nodes_at, script_at, trailer_at, variable_count, node_count, record_count, variable_place, node_place, record_place}
 use Rattle.rules.specs.Check.{accepted, refused, offset_rule, variable_rule, parent, existence, content, structure, parent_rule, node_rule, house_rule, record_rule, code, variable_reads, node_reads, record_reads}
 use Rattle.rules.specs.Check.{Edition, check_bytes_by}
 use Rattle.rules.specs.Blocks.{block_rule}

@@ -13,7 +13,7 @@ use Rattle.rules.specs.Tree.{Forest, nil, tree, Side, child, Place, root, to, up
 use Rattle.rules.specs.Script.{Operand, Expression, alone, Action}
 use Rattle.rules.specs.Script as Script
 use Rattle.rules.specs.Job.{Variable, all_levels}
-use Rattle.rules.specs.Run.{Memory, Buffers, no_variable, variable_at, current, operand_level, level_of, value, with_variables, with_tree, with_cursor, with_line, position, flow_of, assign, output, move_to, go_joining, go_to, go_to_last, may_touch, new_label, insert_at, remove_at, write, effect}
+use Rattle.rules.specs.Run.{Memory, Buffers, no_variable, variable_at, current, operand_level, level_of, with_variables, with_tree, with_cursor, with_line, position, flow_of, assign, output, move_to, go_joining, go_to, go_to_last, may_touch, new_label, insert_at, remove_at, write, effect}
 use Rattle.rules.proofs.Tests.{both}
 use Rattle.rules.proofs.Lattice.{na_public, na_refl, na_trans, na_left, na_right, level_public, level_join}
 use Rattle.rules.proofs.Trees.{lo_at, hi_of, hi_at, fits_sub, fits_change, fit_first, hi_parent, last_under, fits_remove, fits_value, sub_change, exists_sub, on_exists, on_label}

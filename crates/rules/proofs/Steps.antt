@@ -12,7 +12,7 @@ use lib.Dec.{eqb}
 use Rattle.rules.specs.Level.{Level}
 use Rattle.rules.specs.Tree.{Place}
 use Rattle.rules.specs.Script.{Expression, Action, Command, act, fetch}
-use Rattle.rules.specs.Run.{Memory, Saved, Block, State, Buffers, Stop, flow, absent, tableFull, boardFull, spent, overflow, stop_number, Result, next, stop, need, given, context, assign, output, move_to, go_joining, go_to, go_to_last, insert_at, remove_at, write, effect, restore, leave, stepped, onward, relocated, enter_if, enter_while, enter_back, leave_block, carried, step, finished, stopped, Ended, run}
+use Rattle.rules.specs.Run.{Memory, Saved, Block, State, Buffers, Stop, flow, absent, tableFull, boardFull, spent, stop_number, Result, next, stop, need, given, context, assign, output, move_to, go_joining, go_to, go_to_last, insert_at, remove_at, write, effect, restore, leave, stepped, onward, enter_if, enter_while, enter_back, leave_block, carried, step, finished, stopped, run}
 use Rattle.rules.proofs.Tests.{Test, holds, fails, test, clash}
 use Rattle.rules.proofs.Runs.{more, halted, run_spent, run_over, run_next, run_stop, Turn, stops, goes, turn}
 

@@ -12,7 +12,7 @@ use Rattle.rules.specs.Level.{Level, public, not_above, is_level}
 use Rattle.rules.specs.Bytes.{nodes_at, node_count, variable_count}
 use Rattle.rules.specs.Tree.{Label, Forest, nil, tree, exists, count, size, Fit, Fits, TreeRules, fits_node, fits}
 use Rattle.rules.specs.Check.{Checked, accepted, refused, today, check_bytes}
-use Rattle.rules.specs.Job.{variables, job_tree, tree_of, all_levels, script}
+use Rattle.rules.specs.Job.{job_tree, tree_of, all_levels, script}
 use Rattle.rules.specs.Run.{Memory, State, Buffers, run, start}
 use Rattle.rules.specs.Outcome.{budget_rule, buffer_rule, check_job_by, check_job, rejected, ran, answer, begin}
 use Rattle.rules.specs.Public.{Finishes}

@@ -4,17 +4,14 @@ use Prim.Native.Nat.{ℕ, zero, suc, ◌<◌}
 use native.Mathlib.Omega.{arith}
 use mathlib.Core.Bool.{true}
 use mathlib.Core.List.{List, [], ◌∷◌, map}
-use lib.ListN.{length}
-use Rattle.rules.specs.Limits.{no_parent, bad_variable}
+use Rattle.rules.specs.Limits.{bad_variable}
 use Rattle.rules.specs.Level.{is_level, parties}
 use Rattle.rules.specs.Bytes.{byte, nodes_at, node_count, variable_place}
-use Rattle.rules.specs.Check.{Checked, accepted, refused, today, check_bytes, check_bytes_by, check_records, check_script, variable_rule, variable_rule_in, existence, content, structure, label_rule}
-use Rattle.rules.specs.Job.{listed, label_of, tree_of, job_tree}
+use Rattle.rules.specs.Check.{today, check_bytes, check_bytes_by, check_records, check_script, variable_rule, variable_rule_in, existence, content, structure, label_rule}
+use Rattle.rules.specs.Job.{listed, job_tree}
 use Rattle.rules.specs.Arrange.{moves}
-use Rattle.rules.specs.Write.{Entry, listing}
 use Rattle.rules.specs.Summary.{carried, summary, SummaryInOrder, LevelsTaken}
 use Rattle.rules.proofs.Lattice.{byte_level}
-use Rattle.rules.proofs.Tests.{joined}
 use Rattle.rules.proofs.Checks.{Refuses, refuses_with, refuses_one, refuses_each, refuses_if, all_met}
 use Rattle.rules.proofs.Accepted.{right_by}
 use Rattle.rules.proofs.SameReads.{laid}

@@ -7,7 +7,6 @@ use mathlib.Core.List.{List, [], ◌∷◌, map}
 use lib.ListN.{get_or, set}
 use lib.IntN.{ℤ}
 use Rattle.rules.specs.Level.{Level, not_above, visible}
-use Rattle.rules.specs.Tree as Tree
 use Rattle.rules.specs.Tree.{Forest, nil, tree, Place, label, exists}
 use Rattle.rules.specs.Script.{Expression, Action}
 use Rattle.rules.specs.Job.{Variable}

@@ -1,5 +1,4 @@
 -- Laws of texts: what a character stands for, what is left of a text behind one character or one repeat, and what is left to be stored. Assumes nothing.
-use mathlib.Core.Bool.{true, false}
 use mathlib.Core.List.{List, [], ◌∷◌, ◌++◌, append_assoc}
 use mathlib.Core.Path.{◌≡◌, refl, sym, ◌∙◌, ap, subst}
 use native.Mathlib.Numerals.{add-one}

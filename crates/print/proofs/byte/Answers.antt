@@ -1,7 +1,6 @@
 -- `byte` meets its contract: it stores at the end of what waits, or at the start where the buffer is full. Assumes nothing.
 use mathlib.Core.List.{List}
 use mathlib.Core.Path.{◌≡◌, refl, ◌∙◌, ap}
-use native.Mathlib.Omega.{arith}
 use Prim.Native.Nat.{ℕ, ◌+◌}
 use lib.ListN.{length, take}
 use borrow.Author.Rules.{rules}

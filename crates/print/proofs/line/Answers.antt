@@ -4,7 +4,6 @@ use mathlib.Core.Path.{◌∙◌, subst}
 use Prim.Native.Nat.{ℕ, ◌+◌}
 use lib.ListN.{take}
 use Rattle.rules.specs.Bytes.{byte}
-use borrow.Author.Rules.{rules}
 use Rattle.print.specs.Waiting.{Number, Signed}
 use Rattle.print.proofs.line.Goals as goal
 

@@ -1,7 +1,7 @@
 -- `lines` meets its contract: the lines so far stand behind what waited. Assumes nothing.
 use mathlib.Core.Path.{◌≡◌, refl, ◌∙◌, subst}
 use native.Mathlib.Omega.{arith}
-use Prim.Native.Nat.{ℕ, ◌/◌, ◌-◌, ◌≤◌, min}
+use Prim.Native.Nat.{ℕ, ◌/◌, min}
 use lib.ListN.{length, take}
 use Rattle.print.specs.Waiting.{Listed, none}
 use Rattle.print.proofs.Pushing.{lined}

@@ -1,10 +1,7 @@
-use mathlib.Core.Path.{◌≡◌, refl, ◌∙◌, subst}
-use native.Mathlib.Omega.{arith}
-use Prim.Native.Nat.{ℕ, ◌/◌, ◌-◌, ◌≤◌, min}
-use lib.ListN.{length, take}
-use Rattle.print.specs.Waiting.{Listed, none}
-use Rattle.print.proofs.Pushing.{lined}
-use borrow.Author.Rules.{rules}
+use mathlib.Core.Path.{◌≡◌}
+use Prim.Native.Nat.{◌-◌, ◌≤◌}
+use lib.ListN.{take}
+use Rattle.print.specs.Waiting.{Listed}
 use Rattle.print.proofs.lines.Given as goal
 
 abbrev pub invariant-loop-i : goal.invariant-loop-i

@@ -1,10 +1,10 @@
 -- `row` meets its contract: the numbers so far stand behind the name. Assumes nothing.
 use mathlib.Core.Path.{◌≡◌, refl, ◌∙◌, subst}
 use native.Mathlib.Omega.{arith}
-use Prim.Native.Nat.{ℕ, ◌-◌, ◌≤◌}
+use Prim.Native.Nat.{ℕ}
 use lib.ListN.{length, take}
 use mathlib.Core.List.{List}
-use Rattle.print.specs.Waiting.{pushes, Numbers, none}
+use Rattle.print.specs.Waiting.{Numbers, none}
 use Rattle.print.proofs.Pushing.{numbered}
 use borrow.Author.Rules.{rules}
 use Rattle.print.proofs.row.Goals as goal

@@ -1,11 +1,7 @@
-use mathlib.Core.Path.{◌≡◌, refl, ◌∙◌, subst}
-use native.Mathlib.Omega.{arith}
-use Prim.Native.Nat.{ℕ, ◌-◌, ◌≤◌}
+use mathlib.Core.Path.{◌≡◌}
+use Prim.Native.Nat.{◌-◌, ◌≤◌}
 use lib.ListN.{length, take}
-use mathlib.Core.List.{List}
-use Rattle.print.specs.Waiting.{pushes, Numbers, none}
-use Rattle.print.proofs.Pushing.{numbered}
-use borrow.Author.Rules.{rules}
+use Rattle.print.specs.Waiting.{Numbers}
 use Rattle.print.proofs.row.Given as goal
 
 abbrev pub invariant-loop-i : goal.invariant-loop-i

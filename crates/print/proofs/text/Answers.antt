@@ -1,8 +1,8 @@
 -- `text` meets its contract: the bytes so far stand behind what waited. Assumes nothing.
 use mathlib.Core.List.{List}
-use mathlib.Core.Path.{◌≡◌, refl, ◌∙◌, ap}
-use Prim.Native.Nat.{ℕ, ◌-◌, ◌≤◌}
-use lib.ListN.{length, take, get_or}
+use mathlib.Core.Path.{refl, ◌∙◌, ap}
+use Prim.Native.Nat.{ℕ}
+use lib.ListN.{take, get_or}
 use lib.Seq.{take_all}
 use Rattle.print.specs.Waiting.{push, pushes}
 use Rattle.print.proofs.Pushing.{pushed}

@@ -1,11 +1,7 @@
-use mathlib.Core.List.{List}
-use mathlib.Core.Path.{◌≡◌, refl, ◌∙◌, ap}
-use Prim.Native.Nat.{ℕ, ◌-◌, ◌≤◌}
-use lib.ListN.{length, take, get_or}
-use lib.Seq.{take_all}
-use Rattle.print.specs.Waiting.{push, pushes}
-use Rattle.print.proofs.Pushing.{pushed}
-use borrow.Author.Rules.{rules}
+use mathlib.Core.Path.{◌≡◌}
+use Prim.Native.Nat.{◌-◌, ◌≤◌}
+use lib.ListN.{length, take}
+use Rattle.print.specs.Waiting.{pushes}
 use Rattle.print.proofs.text.Given as goal
 
 abbrev pub invariant-loop-i : goal.invariant-loop-i

@@ -1,12 +1,12 @@
 -- `append` meets its contract: what is left to be stored is what the rest of the text spells. Assumes nothing.
-use mathlib.Core.List.{List, ◌∷◌, ◌++◌}
-use mathlib.Core.Path.{◌≡◌, sym, ◌∙◌, ap}
+use mathlib.Core.List.{◌∷◌, ◌++◌}
+use mathlib.Core.Path.{sym, ◌∙◌, ap}
 use native.Mathlib.Omega.{arith}
-use Prim.Native.Nat.{ℕ, ◌+◌, ◌-◌, ◌≤◌}
-use lib.ListN.{length, drop}
+use Prim.Native.Nat.{◌+◌}
+use lib.ListN.{drop}
 use borrow.Author.Rules.{rules}
-use Rattle.text.specs.Hex.{digits, bytes_of, plain, Leaves}
-use Rattle.text.proofs.Spelling.{then, nothing_yet, instead, instead_of, digits_past, bytes_end}
+use Rattle.text.specs.Hex.{digits, bytes_of, plain}
+use Rattle.text.proofs.Spelling.{then, nothing_yet, instead, digits_past, bytes_end}
 use Rattle.text.proofs.append.Goals as goal
 
 pub loop-i-init : goal.loop-i-init

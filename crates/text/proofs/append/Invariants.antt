@@ -1,11 +1,8 @@
-use mathlib.Core.List.{List, ◌∷◌, ◌++◌}
-use mathlib.Core.Path.{◌≡◌, sym, ◌∙◌, ap}
-use native.Mathlib.Omega.{arith}
-use Prim.Native.Nat.{ℕ, ◌+◌, ◌-◌, ◌≤◌}
+use mathlib.Core.List.{List, ◌++◌}
+use mathlib.Core.Path.{◌≡◌}
+use Prim.Native.Nat.{ℕ, ◌-◌, ◌≤◌}
 use lib.ListN.{length, drop}
-use borrow.Author.Rules.{rules}
 use Rattle.text.specs.Hex.{digits, bytes_of, plain, Leaves}
-use Rattle.text.proofs.Spelling.{then, nothing_yet, instead, instead_of, digits_past, bytes_end}
 use Rattle.text.proofs.append.Given as goal
 
 abbrev pub invariant-loop-i : goal.invariant-loop-i

@@ -1,8 +1,8 @@
 -- `decimal` meets its contract: the number and the digits that are left spell what all of them do. Assumes nothing.
-use mathlib.Core.Path.{◌≡◌, refl, sym, ◌∙◌, ap}
+use mathlib.Core.Path.{refl, sym, ◌∙◌, ap}
 use native.Mathlib.Omega.{arith}
-use Prim.Native.Nat.{◌+◌, ◌-◌, ◌<◌}
-use lib.ListN.{length, drop}
+use Prim.Native.Nat.{◌+◌}
+use lib.ListN.{drop}
 use borrow.Author.Rules.{rules}
 use Rattle.text.specs.Hex.{digits, one_more, number_of}
 use Rattle.text.proofs.Spelling.{number_past, number_end}

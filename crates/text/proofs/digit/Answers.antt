@@ -1,6 +1,5 @@
 -- `digit` meets its contract, range by range. Assumes nothing.
 use native.Mathlib.Omega.{arith}
-use borrow.Author.Rules.{rules}
 use Rattle.text.proofs.Spelling.{digit_number, digit_letter, digit_low, digit_between, digit_high}
 use Rattle.text.proofs.digit.Goals as goal
 

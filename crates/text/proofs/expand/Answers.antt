@@ -1,13 +1,8 @@
 -- `expand` meets its contract: what is left to be stored is what the rest of the text spells, behind the bracket that a turn has come to. Assumes nothing.
-use mathlib.Core.List.{List, []}
-use mathlib.Core.Path.{◌≡◌, ap}
 use native.Mathlib.Omega.{arith}
-use Prim.Native.Nat.{ℕ, ◌+◌, ◌-◌, ◌≤◌}
-use lib.ListN.{length, drop}
 use Rattle.io.proofs.Counting.{prefix_len_of_le}
 use borrow.Author.Rules.{rules}
-use Rattle.text.specs.Hex.{expanded, spelled, placed, Leaves}
-use Rattle.text.proofs.Spelling.{Expanding, expanding, turned, ended}
+use Rattle.text.proofs.Spelling.{expanding, turned, ended}
 use Rattle.text.proofs.expand.Goals as goal
 
 pub loop-i-init : goal.loop-i-init

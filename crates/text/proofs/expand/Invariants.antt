@@ -1,12 +1,7 @@
-use mathlib.Core.List.{List, []}
-use mathlib.Core.Path.{◌≡◌, ap}
-use native.Mathlib.Omega.{arith}
-use Prim.Native.Nat.{ℕ, ◌+◌, ◌-◌, ◌≤◌}
-use lib.ListN.{length, drop}
-use Rattle.io.proofs.Counting.{prefix_len_of_le}
-use borrow.Author.Rules.{rules}
-use Rattle.text.specs.Hex.{expanded, spelled, placed, Leaves}
-use Rattle.text.proofs.Spelling.{Expanding, expanding, turned, ended}
+use mathlib.Core.Path.{◌≡◌}
+use Prim.Native.Nat.{◌-◌, ◌≤◌}
+use lib.ListN.{length}
+use Rattle.text.proofs.Spelling.{Expanding}
 use Rattle.text.proofs.expand.Given as goal
 
 abbrev pub invariant-loop-i : goal.invariant-loop-i

@@ -1,10 +1,7 @@
 -- `find` meets its contract: from the place on, the character comes first where it did from the start. Assumes nothing.
-use mathlib.Core.Path.{◌≡◌, refl}
+use mathlib.Core.Path.{refl}
 use native.Mathlib.Omega.{arith}
-use Prim.Native.Nat.{◌+◌, ◌-◌, ◌≤◌}
-use lib.ListN.{length, drop}
 use borrow.Author.Rules.{rules}
-use Rattle.text.specs.Hex.{first_of}
 use Rattle.text.proofs.Spelling.{first_here, first_past, first_none}
 use Rattle.text.proofs.find.Goals as goal
 

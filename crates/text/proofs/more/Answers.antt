@@ -1,6 +1,5 @@
 -- `more` meets its contract, as its two tests come out. Assumes nothing.
 use native.Mathlib.Omega.{arith}
-use borrow.Author.Rules.{rules}
 use Rattle.text.proofs.Spelling.{more_taken, more_letter, more_full}
 use Rattle.text.proofs.more.Goals as goal
 

@@ -1,11 +1,9 @@
 -- `repeat` meets its contract: what is left to be stored is what the turns that are left put. Assumes nothing.
-use mathlib.Core.List.{List, ◌++◌}
-use mathlib.Core.Path.{◌≡◌}
+use mathlib.Core.List.{◌++◌}
 use native.Mathlib.Omega.{arith}
-use Prim.Native.Nat.{ℕ, ◌-◌, ◌≤◌}
-use lib.ListN.{length}
+use Prim.Native.Nat.{◌-◌}
 use borrow.Author.Rules.{rules}
-use Rattle.text.specs.Hex.{plain, times, Leaves}
+use Rattle.text.specs.Hex.{plain, times}
 use Rattle.text.proofs.Spelling.{then, nothing_yet, instead, times_past, times_end}
 use Rattle.text.proofs.repeat.Goals as goal
 

@@ -1,11 +1,8 @@
 use mathlib.Core.List.{List, ◌++◌}
 use mathlib.Core.Path.{◌≡◌}
-use native.Mathlib.Omega.{arith}
-use Prim.Native.Nat.{ℕ, ◌-◌, ◌≤◌}
+use Prim.Native.Nat.{ℕ, ◌≤◌}
 use lib.ListN.{length}
-use borrow.Author.Rules.{rules}
 use Rattle.text.specs.Hex.{plain, times, Leaves}
-use Rattle.text.proofs.Spelling.{then, nothing_yet, instead, times_past, times_end}
 use Rattle.text.proofs.repeat.Given as goal
 
 abbrev pub invariant-loop-left : goal.invariant-loop-left

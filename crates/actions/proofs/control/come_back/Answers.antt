@@ -1,6 +1,5 @@
 -- `control::come_back` meets its contract: it stops where the node has gone, and else the cursor is back. Assumes nothing.
 use Rattle.actions.proofs.Entered.{restores_lost, restores_found}
-use borrow.Author.Rules.{rules}
 use Rattle.actions.proofs.control.come_back.Goals as goal
 
 pub returns-then-saved-places : goal.returns-then-saved-places

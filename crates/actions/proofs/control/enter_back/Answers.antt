@@ -3,9 +3,7 @@
 use mathlib.Core.Path.{sym, ◌∙◌}
 use mathlib.Core.Bool.{true, false}
 use native.Mathlib.Omega.{arith}
-use Rattle.actions.specs.Control.{Saves}
 use Rattle.actions.proofs.Entered.{saves_over, saves}
-use borrow.Author.Rules.{rules}
 use Rattle.actions.proofs.control.enter_back.Goals as goal
 
 pub returns-in_default : goal.returns-in_default

@@ -3,7 +3,6 @@
 use mathlib.Core.Path.{sym, ◌∙◌}
 use mathlib.Core.Bool.{true, false}
 use Rattle.actions.proofs.Entered.{enters_over, enters_if, pushed_held}
-use borrow.Author.Rules.{rules}
 use Rattle.actions.proofs.control.enter_if.Goals as goal
 
 pub returns-in_default : goal.returns-in_default

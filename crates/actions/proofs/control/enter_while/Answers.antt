@@ -2,7 +2,6 @@
 use mathlib.Core.Path.{sym, ◌∙◌}
 use mathlib.Core.Bool.{true, false}
 use Rattle.actions.proofs.Entered.{enters_over, enters_while, pushed_held}
-use borrow.Author.Rules.{rules}
 use Rattle.actions.proofs.control.enter_while.Goals as goal
 
 pub returns-in_default : goal.returns-in_default

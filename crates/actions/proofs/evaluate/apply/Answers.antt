@@ -4,7 +4,6 @@ use lib.IntN.{◌+ℤ◌, ◌-ℤ◌}
 use Rattle.rules.specs.Number.{equal, less, mean}
 use Rattle.rules.specs.Script.{Operator}
 use Rattle.actions.proofs.Evaluation.{is_sum, is_difference, is_equal, is_less, is_mean, exact_sum, exact_difference, exact_equal, exact_less, exact_mean, passed, applies}
-use borrow.Author.Rules.{rules}
 use Rattle.actions.proofs.evaluate.apply.Goals as goal
 
 pub sum-requires : goal.sum-requires

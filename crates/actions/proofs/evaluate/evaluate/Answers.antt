@@ -8,7 +8,6 @@ use mir.Facts.{to_z-of_z}
 use Rattle.rules.specs.Number.{Fits, fitting}
 use Rattle.rules.proofs.Machine.{kept}
 use Rattle.actions.proofs.Evaluation.{one_operand, two_operands, wide_read}
-use borrow.Author.Rules.{rules}
 use Rattle.actions.proofs.evaluate.evaluate.Goals as goal
 
 pub returns-then-operator-eq0 : goal.returns-then-operator-eq0

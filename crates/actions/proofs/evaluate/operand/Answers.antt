@@ -3,7 +3,6 @@ use native.Mathlib.Omega.{arith}
 use mathlib.Core.Path.{refl, ap, ◌∙◌}
 use Rattle.rules.specs.Level.{join}
 use Rattle.actions.proofs.Evaluation.{kind_constant, kind_variable, operates_as, constant, variable, node_read}
-use borrow.Author.Rules.{rules}
 use Rattle.actions.proofs.evaluate.operand.Goals as goal
 
 -- the variable is there

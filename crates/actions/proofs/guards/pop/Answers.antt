@@ -1,7 +1,6 @@
 -- `monitor::guards::pop` meets its contract: the two words shifted down by a byte are the quotient by 256, which has the digits but the lowest.
 -- Assumes nothing.
 use native.Mathlib.Omega.{arith}
-use borrow.Author.Rules.{rules}
 use Rattle.actions.proofs.Contexts.{down_fits, held_pop}
 use Rattle.actions.proofs.guards.pop.Goals as goal
 

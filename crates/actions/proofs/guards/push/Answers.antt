@@ -2,7 +2,6 @@
 -- and the new context is its lowest digit. Assumes nothing.
 use mathlib.Core.Path.{◌∙◌}
 use native.Mathlib.Omega.{arith}
-use borrow.Author.Rules.{rules}
 use Rattle.actions.proofs.Contexts.{up_fits, held_push}
 use Rattle.actions.proofs.guards.push.Goals as goal
 

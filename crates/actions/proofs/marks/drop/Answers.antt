@@ -1,6 +1,5 @@
 -- One store: one less. Assumes nothing.
 use Rattle.actions.specs.Marks.{dropping}
-use borrow.Author.Rules.{rules}
 use Rattle.actions.proofs.marks.drop.Goals as goal
 
 pub returns : goal.returns

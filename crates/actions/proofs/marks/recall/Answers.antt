@@ -3,11 +3,10 @@ use mathlib.Core.Path.{◌≡◌, sym, ap, subst, ◌∙◌}
 use mathlib.Core.Logic.{inl, inr}
 use Prim.Native.Nat.{◌-◌, ◌<◌, ◌≤◌}
 use native.Mathlib.Omega.{arith}
-use borrow.Author.Tests.{not-true, not-false, leb-true, leb-false}
+use borrow.Author.Tests.{leb-true, leb-false}
 use Rattle.table.specs.Since.{number}
 use Rattle.actions.specs.Marks.{count_at, place_at, level_at}
 use Rattle.actions.proofs.Remembered.{recalls_none, recalls_one}
-use borrow.Author.Rules.{rules}
 use Rattle.actions.proofs.marks.recall.Goals as goal
 
 pub returns-then-k-ge-MAX_DEPTH : goal.returns-then-k-ge-MAX_DEPTH

@@ -4,7 +4,6 @@ use lib.ListN.{length-set}
 use borrow.Author.Tests.{lt-ltb, le-ltb}
 use Rattle.table.specs.Since.{number}
 use Rattle.actions.specs.Marks.{count_at, saving}
-use borrow.Author.Rules.{rules}
 use Rattle.actions.proofs.marks.save.Goals as goal
 
 pub bounds-marks-k-then-k-lt-MAX_DEPTH : goal.bounds-marks-k-then-k-lt-MAX_DEPTH

@@ -1,7 +1,6 @@
 -- The join is the rule's, of a position that is the rule's. Assumes nothing.
 use mathlib.Core.Path.{ap, ◌∙◌}
 use Rattle.rules.specs.Level.{join}
-use borrow.Author.Rules.{rules}
 use Rattle.actions.proofs.memory.flow.Goals as goal
 
 pub returns : goal.returns

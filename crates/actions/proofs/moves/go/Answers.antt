@@ -5,7 +5,6 @@ use mathlib.Core.Option.{some}
 use Rattle.rules.specs.Tree.{up, root, to, child, sibling}
 use Rattle.table.specs.Cells.{side_of}
 use Rattle.actions.proofs.Moved.{at_zero, acts_move, is_root, is_up, is_child, is_sibling}
-use borrow.Author.Rules.{rules}
 use Rattle.actions.proofs.moves.go.Goals as goal
 
 pub returns-in-8 : goal.returns-in-8

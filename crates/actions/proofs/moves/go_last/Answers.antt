@@ -1,10 +1,9 @@
 -- The place where the node table's walk leads tells whether there is a last child, and the working node says the level of its list. Assumes nothing.
 use mathlib.Core.Path.{ap, ◌∙◌}
 use Rattle.rules.specs.Level.{join}
-use Rattle.rules.specs.Tree.{last_of, label}
+use Rattle.rules.specs.Tree.{label}
 use Rattle.rules.specs.Run.{current, go_to_last}
 use Rattle.actions.proofs.Moved.{acts_absent, acts_go}
-use borrow.Author.Rules.{rules}
 use Rattle.actions.proofs.moves.go_last.Goals as goal
 
 pub returns-then-place-places : goal.returns-then-place-places

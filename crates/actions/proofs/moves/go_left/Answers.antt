@@ -1,6 +1,5 @@
 -- `go_to` gets the target that the node table's walk leads to. Assumes nothing.
 use Rattle.rules.specs.Tree.{left_of}
-use borrow.Author.Rules.{rules}
 use Rattle.actions.proofs.moves.go_left.Goals as goal
 
 pub returns : goal.returns

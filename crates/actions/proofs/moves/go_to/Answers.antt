@@ -4,7 +4,6 @@ use Rattle.rules.specs.Level.{join}
 use Rattle.rules.specs.Tree.{sub, label}
 use Rattle.rules.specs.Run.{go_to}
 use Rattle.actions.proofs.Moved.{acts_absent, acts_go}
-use borrow.Author.Rules.{rules}
 use Rattle.actions.proofs.moves.go_to.Goals as goal
 
 pub returns-then-place-places : goal.returns-then-place-places

@@ -1,11 +1,7 @@
 -- The two ends of the test are the two arms of `moved_to`. Assumes nothing.
-use mathlib.Core.Path.{◌≡◌, refl, sym, ap, ◌∙◌}
-use native.Mathlib.Omega.{arith}
-use borrow.Author.Tests.{not-true, not-false}
-use Prim.Native.Nat.{◌<◌}
+use mathlib.Core.Path.{sym, ap, ◌∙◌}
 use Rattle.rules.specs.Level.{not_above}
 use Rattle.actions.specs.Acts.{moved_to}
-use borrow.Author.Rules.{rules}
 use Rattle.actions.proofs.moves.move_to.Goals as goal
 
 pub returns-then-not-not_above : goal.returns-then-not-not_above

@@ -2,7 +2,6 @@
 use mathlib.Core.Path.{refl, sym, ap, ◌∙◌}
 use Rattle.rules.specs.Level.{join}
 use Rattle.actions.proofs.Moved.{acts_move}
-use borrow.Author.Rules.{rules}
 use Rattle.actions.proofs.moves.raise.Goals as goal
 
 pub returns : goal.returns

@@ -1,7 +1,6 @@
 -- On each side its function inserts. Assumes nothing.
 use mathlib.Core.Path.{◌≡◌}
 use native.Mathlib.Omega.{arith}
-use borrow.Author.Rules.{rules}
 use Rattle.actions.proofs.nodes.insert_on.Goals as goal
 
 pub returns-then-side-eq-FIRST : goal.returns-then-side-eq-FIRST

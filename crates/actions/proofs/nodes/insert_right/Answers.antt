@@ -3,7 +3,6 @@ use mathlib.Core.Path.{refl}
 use Rattle.actions.proofs.Doing.{refused, allowed}
 use Rattle.actions.proofs.Evaluation.{fits_read}
 use Rattle.actions.proofs.Inserted.{Asked, above_right, insert_absent, insert_refused, insert_over, inserted}
-use borrow.Author.Rules.{rules}
 use Rattle.actions.proofs.nodes.insert_right.Goals as goal
 use Rattle.actions.proofs.nodes.insert_right.Goals.{After-may_add}
 

@@ -2,7 +2,6 @@
 use mathlib.Core.Path.{ap, ◌∙◌}
 use Rattle.rules.specs.Level.{not_above}
 use Rattle.actions.proofs.Doing.{refused, allowed}
-use borrow.Author.Rules.{rules}
 use Rattle.actions.proofs.nodes.may_add.Goals as goal
 
 pub returns-then-not-not_above : goal.returns-then-not-not_above

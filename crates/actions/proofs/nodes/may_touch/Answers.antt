@@ -3,7 +3,6 @@ use mathlib.Core.Path.{sym, ap₂, ◌∙◌}
 use Rattle.rules.specs.Level.{not_above}
 use Rattle.table.proofs.Moves.{stands}
 use Rattle.actions.proofs.Touched.{there, nowhere, free_to_touch, by_existence}
-use borrow.Author.Rules.{rules}
 use Rattle.actions.proofs.nodes.may_touch.Goals as goal
 
 pub returns-then-place-places : goal.returns-then-place-places

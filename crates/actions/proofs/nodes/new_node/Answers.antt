@@ -2,7 +2,6 @@
 use mathlib.Core.Path.{ap, ◌∙◌}
 use Rattle.rules.specs.Number.{bits}
 use Rattle.actions.proofs.Evaluation.{read}
-use borrow.Author.Rules.{rules}
 use Rattle.actions.proofs.nodes.new_node.Goals as goal
 
 pub returns : goal.returns

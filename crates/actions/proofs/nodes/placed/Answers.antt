@@ -2,7 +2,6 @@
 use mathlib.Core.Path.{ap, ◌∙◌}
 use native.Mathlib.Omega.{arith}
 use Rattle.actions.specs.Stands.{stepped}
-use borrow.Author.Rules.{rules}
 use Rattle.actions.proofs.nodes.placed.Goals as goal
 
 pub returns-then-got-places : goal.returns-then-got-places

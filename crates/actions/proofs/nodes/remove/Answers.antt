@@ -1,8 +1,5 @@
 -- The number on the side is no place, a place that may not be touched, or one whose node goes: each is an outcome of the rules' removal. Assumes nothing.
-use native.Mathlib.Omega.{arith}
-use borrow.Author.Tests.{not-true, not-false}
 use Rattle.actions.proofs.Inserted.{remove_absent, remove_refused, removed}
-use borrow.Author.Rules.{rules}
 use Rattle.actions.proofs.nodes.remove.Goals as goal
 
 pub returns-then-old-places : goal.returns-then-old-places

@@ -3,7 +3,6 @@
 use Rattle.actions.proofs.Doing.{refused, allowed}
 use Rattle.actions.proofs.Evaluation.{fits_read}
 use Rattle.actions.proofs.Inserted.{write_refused, write_over, written}
-use borrow.Author.Rules.{rules}
 use Rattle.actions.proofs.nodes.write.Goals as goal
 
 pub returns-then-not-not_above : goal.returns-then-not-not_above

@@ -3,7 +3,6 @@ use mathlib.Core.Path.{ap, ◌∙◌}
 use Rattle.rules.specs.Level.{join}
 use Rattle.rules.specs.Script.{content_set}
 use Rattle.actions.proofs.Digits.{odd_level}
-use borrow.Author.Rules.{rules}
 use Rattle.actions.proofs.sets.content_set.Goals as goal
 
 pub returns : goal.returns

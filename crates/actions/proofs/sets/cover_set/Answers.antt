@@ -2,7 +2,6 @@
 use borrow.Author.Tests.{eq-eqb, ne_eqb}
 use Rattle.rules.specs.Level.{secret}
 use Rattle.rules.specs.Script.{cover_set}
-use borrow.Author.Rules.{rules}
 use Rattle.actions.proofs.sets.cover_set.Goals as goal
 
 pub returns-then-set-eq0 : goal.returns-then-set-eq0

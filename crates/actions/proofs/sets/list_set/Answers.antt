@@ -3,7 +3,6 @@ use mathlib.Core.Path.{ap, ◌∙◌}
 use Rattle.rules.specs.Level.{join}
 use Rattle.rules.specs.Script.{list_set}
 use Rattle.actions.proofs.Digits.{half_level}
-use borrow.Author.Rules.{rules}
 use Rattle.actions.proofs.sets.list_set.Goals as goal
 
 pub returns : goal.returns

@@ -3,7 +3,6 @@
 use Rattle.actions.proofs.Doing.{refused, allowed}
 use Rattle.actions.proofs.Evaluation.{fits_read}
 use Rattle.actions.proofs.Assigned.{no_assign, over_assign, did_assign}
-use borrow.Author.Rules.{rules}
 use Rattle.actions.proofs.variables.assign.Goals as goal
 
 pub returns-then-not-not_above : goal.returns-then-not-not_above

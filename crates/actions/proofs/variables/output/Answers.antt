@@ -4,7 +4,6 @@ use native.Mathlib.Omega.{arith}
 use Rattle.actions.proofs.Doing.{refused, allowed}
 use Rattle.actions.proofs.Evaluation.{fits_read}
 use Rattle.actions.proofs.Assigned.{no_output, over_output, full_output, did_output}
-use borrow.Author.Rules.{rules}
 use Rattle.actions.proofs.variables.output.Goals as goal
 
 pub returns-then-not-not_above : goal.returns-then-not-not_above

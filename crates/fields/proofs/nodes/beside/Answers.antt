@@ -2,7 +2,6 @@
 use mathlib.Core.Path.{sym, ap, ◌∙◌}
 use Rattle.fields.specs.Siblings.{left_of}
 use Rattle.fields.proofs.Siblings.{beside_is}
-use borrow.Author.Rules.{rules}
 use Rattle.fields.proofs.nodes.beside.Goals as goal
 
 pub returns-in-At : goal.returns-in-At

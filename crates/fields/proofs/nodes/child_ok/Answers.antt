@@ -4,7 +4,6 @@ use native.Mathlib.Omega.{arith}
 use Rattle.rules.proofs.Accepted.{parent_before}
 use Rattle.fields.specs.Fields.{levels_of}
 use Rattle.fields.proofs.Siblings.{beside_below, child_beside}
-use borrow.Author.Rules.{rules}
 use Rattle.fields.proofs.nodes.child_ok.Goals as goal
 
 pub levels_at-above-requires : goal.levels_at-above-requires

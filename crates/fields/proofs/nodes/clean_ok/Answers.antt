@@ -1,6 +1,5 @@
 -- `clean_ok` meets its contract: three bytes that are zero. Assumes nothing.
 use Rattle.fields.proofs.Fits.{node_rest}
-use borrow.Author.Rules.{rules}
 use Rattle.fields.proofs.nodes.clean_ok.Goals as goal
 
 pub returns : goal.returns

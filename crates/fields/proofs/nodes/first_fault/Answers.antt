@@ -1,12 +1,9 @@
 -- `first_fault` meets its contract: each node passed is right, and is its parent's last child so far. Assumes nothing.
 use mathlib.Core.Path.{sym, ◌∙◌}
-use Prim.Native.Nat.{◌-◌}
 use native.Mathlib.Omega.{arith}
 use native.Mathlib.Numerals.{add-one}
-use borrow.Author.Tests.{not-true, not-false}
-use Rattle.rules.proofs.Search.{Scan, scan_start, scan_next, scan_stop, scan_end}
-use Rattle.fields.specs.Fits.{node_in}
-use Rattle.fields.specs.Siblings.{Rooted, Lasts}
+use Rattle.rules.proofs.Search.{scan_start, scan_next, scan_stop, scan_end}
+use Rattle.fields.specs.Siblings.{Rooted}
 use Rattle.fields.proofs.Siblings.{lasts_start}
 use borrow.Author.Rules.{rules}
 use Rattle.fields.proofs.nodes.first_fault.Goals as goal

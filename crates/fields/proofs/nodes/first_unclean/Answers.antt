@@ -1,11 +1,7 @@
 -- `first_unclean` meets its contract: each node passed is clean. Assumes nothing.
 use mathlib.Core.Path.{sym, ◌∙◌}
-use Prim.Native.Nat.{◌-◌}
 use native.Mathlib.Omega.{arith}
-use native.Mathlib.Numerals.{add-one}
-use borrow.Author.Tests.{not-true, not-false}
-use Rattle.rules.specs.Check.{node_clean}
-use Rattle.rules.proofs.Search.{Scan, scan_start, scan_next, scan_stop, scan_end}
+use Rattle.rules.proofs.Search.{scan_start, scan_next, scan_stop, scan_end}
 use borrow.Author.Rules.{rules}
 use Rattle.fields.proofs.nodes.first_unclean.Goals as goal
 

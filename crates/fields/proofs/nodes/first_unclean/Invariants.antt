@@ -1,11 +1,6 @@
-use mathlib.Core.Path.{sym, ◌∙◌}
 use Prim.Native.Nat.{◌-◌}
-use native.Mathlib.Omega.{arith}
-use native.Mathlib.Numerals.{add-one}
-use borrow.Author.Tests.{not-true, not-false}
 use Rattle.rules.specs.Check.{node_clean}
-use Rattle.rules.proofs.Search.{Scan, scan_start, scan_next, scan_stop, scan_end}
-use borrow.Author.Rules.{rules}
+use Rattle.rules.proofs.Search.{Scan}
 use Rattle.fields.proofs.nodes.first_unclean.Given as goal
 
 abbrev pub invariant-loop-i : goal.invariant-loop-i

@@ -1,7 +1,6 @@
 -- `label_ok` meets its contract: it is the definition. Assumes nothing.
 use Rattle.fields.specs.Fields.{levels_of}
 use Rattle.fields.specs.Fits.{label_in}
-use borrow.Author.Rules.{rules}
 use Rattle.fields.proofs.nodes.label_ok.Goals as goal
 
 pub returns : goal.returns

@@ -1,9 +1,7 @@
 -- `left_of` meets its contract: what is found below node i is what is found where the search starts and where it has come to, and nothing is found
 -- up to the parent. Assumes nothing.
-use mathlib.Core.Path.{◌≡◌, sym, ◌∙◌}
-use Prim.Native.Nat.{◌≤◌, ◌<◌}
+use mathlib.Core.Path.{sym, ◌∙◌}
 use native.Mathlib.Omega.{arith}
-use Rattle.rules.specs.Check.{nearest}
 use Rattle.rules.proofs.Nearest.{near_found, near_passed}
 use Rattle.fields.specs.Siblings.{left_of}
 use Rattle.fields.proofs.Siblings.{none_before, parent_below, search_start}

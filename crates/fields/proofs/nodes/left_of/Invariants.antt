@@ -1,11 +1,6 @@
-use mathlib.Core.Path.{◌≡◌, sym, ◌∙◌}
+use mathlib.Core.Path.{◌≡◌}
 use Prim.Native.Nat.{◌≤◌, ◌<◌}
-use native.Mathlib.Omega.{arith}
 use Rattle.rules.specs.Check.{nearest}
-use Rattle.rules.proofs.Nearest.{near_found, near_passed}
-use Rattle.fields.specs.Siblings.{left_of}
-use Rattle.fields.proofs.Siblings.{none_before, parent_below, search_start}
-use borrow.Author.Rules.{rules}
 use Rattle.fields.proofs.nodes.left_of.Given as goal
 
 abbrev pub invariant-loop-k : goal.invariant-loop-k

@@ -1,8 +1,7 @@
 -- `node_ok` meets its contract: what is asked of the node alone, then of it by its parent and left sibling. Assumes nothing.
 use mathlib.Core.Path.{sym, ◌∙◌}
-use borrow.Author.Tests.{eq-eqb, ne_eqb, not-true, not-false}
+use borrow.Author.Tests.{eq-eqb, ne_eqb}
 use Rattle.fields.proofs.Siblings.{rule_parts}
-use borrow.Author.Rules.{rules}
 use Rattle.fields.proofs.nodes.node_ok.Goals as goal
 
 pub returns-then-not-own_ok : goal.returns-then-not-own_ok

@@ -11,7 +11,6 @@ use borrow.Author.Tests.{eq-eqb, ne_eqb}
 use Rattle.rules.specs.Check.{parent, parent_rule, on_path, order_rule}
 use Rattle.rules.proofs.Accepted.{parent_before}
 use Rattle.rules.proofs.Ordered.{path_found, path_up, path_below}
-use borrow.Author.Rules.{rules}
 use Rattle.fields.proofs.nodes.order_ok.Goals as goal
 use Rattle.fields.proofs.nodes.order_ok.Goals.{In-loop-w}
 

@@ -1,15 +1,6 @@
-use mathlib.Core.Path.{◌≡◌, sym, ◌∙◌}
-use mathlib.Core.Bool.{true}
-use mathlib.Core.List.{List}
-use Prim.Native.Nat.{ℕ, zero, suc, ◌-◌, ◌≤◌, ◌<◌}
-use native.Mathlib.Omega.{arith}
-use native.Mathlib.Decide.{ℕ_discrete}
-use lib.Dec.{eqb}
-use borrow.Author.Tests.{eq-eqb, ne_eqb}
-use Rattle.rules.specs.Check.{parent, parent_rule, on_path, order_rule}
-use Rattle.rules.proofs.Accepted.{parent_before}
-use Rattle.rules.proofs.Ordered.{path_found, path_up, path_below}
-use borrow.Author.Rules.{rules}
+use mathlib.Core.Path.{◌≡◌}
+use Prim.Native.Nat.{ℕ, ◌≤◌, ◌<◌}
+use Rattle.rules.specs.Check.{on_path, order_rule}
 use Rattle.fields.proofs.nodes.order_ok.Given as goal
 
 abbrev pub invariant-loop-w : goal.invariant-loop-w

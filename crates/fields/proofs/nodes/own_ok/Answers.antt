@@ -1,10 +1,9 @@
 -- `own_ok` meets its contract: the tests in order. Assumes nothing.
 use mathlib.Core.Path.{sym, ◌∙◌}
-use borrow.Author.Tests.{eq-eqb, ne_eqb, not-true, not-false}
+use borrow.Author.Tests.{eq-eqb, ne_eqb}
 use Rattle.rules.specs.Level.{public}
 use Rattle.fields.specs.Fields.{levels_of}
 use Rattle.fields.specs.Siblings.{own_rule}
-use borrow.Author.Rules.{rules}
 use Rattle.fields.proofs.nodes.own_ok.Goals as goal
 
 pub returns-then-not-label_ok : goal.returns-then-not-label_ok

@@ -1,6 +1,5 @@
 -- `parent_at` meets its contract: it is the definition. Assumes nothing.
 use Rattle.rules.specs.Check.{parent}
-use borrow.Author.Rules.{rules}
 use Rattle.fields.proofs.nodes.parent_at.Goals as goal
 
 pub returns : goal.returns

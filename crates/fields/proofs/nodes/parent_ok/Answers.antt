@@ -1,7 +1,6 @@
 -- `parent_ok` meets its contract: the tests in order. Assumes nothing.
 use borrow.Author.Tests.{eq-eqb, ne_eqb}
 use Rattle.rules.specs.Check.{parent_rule}
-use borrow.Author.Rules.{rules}
 use Rattle.fields.proofs.nodes.parent_ok.Goals as goal
 
 pub returns-then-i-eq0 : goal.returns-then-i-eq0

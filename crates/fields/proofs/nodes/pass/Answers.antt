@@ -1,7 +1,6 @@
 -- `pass` meets its contract: a store at the parent, which comes before the node. Assumes nothing.
 use native.Mathlib.Omega.{arith}
 use Rattle.fields.proofs.Siblings.{parent_below, lasts_root, lasts_child}
-use borrow.Author.Rules.{rules}
 use Rattle.fields.proofs.nodes.pass.Goals as goal
 
 pub bounds-last-p : goal.bounds-last-p

@@ -2,7 +2,6 @@
 use native.Mathlib.Numerals.{add-one}
 use borrow.Author.Tests.{lt-ltb, le-ltb}
 use Rattle.fields.specs.Siblings.{behind}
-use borrow.Author.Rules.{rules}
 use Rattle.fields.proofs.nodes.start.Goals as goal
 
 pub returns-then-child-p : goal.returns-then-child-p

@@ -1,5 +1,4 @@
 -- `double_at` meets its contract: it is the definition. Assumes nothing.
-use native.Mathlib.Omega.{arith}
 use Rattle.fields.specs.Fields.{double}
 use borrow.Author.Rules.{rules}
 use Rattle.fields.proofs.reads.double_at.Goals as goal

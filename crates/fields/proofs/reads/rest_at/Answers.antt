@@ -1,7 +1,6 @@
 -- `rest_at` meets its contract: of four bytes, divided by 256, three are left. Assumes nothing.
 use native.Mathlib.Omega.{arith}
 use Rattle.fields.specs.Fields.{rest}
-use borrow.Author.Rules.{rules}
 use Rattle.fields.proofs.reads.rest_at.Goals as goal
 
 pub returns : goal.returns

@@ -3,7 +3,6 @@ use mathlib.Core.Path.{ap, ◌∙◌}
 use mir.Syntax.{w32}
 use mir.Facts.{to_z-of_z}
 use Rattle.rules.specs.Number.{signed}
-use borrow.Author.Rules.{rules}
 use Rattle.fields.proofs.reads.signed_at.Goals as goal
 
 pub returns : goal.returns

@@ -1,8 +1,7 @@
 -- `expression_ok` meets its contract: the tests in order. Assumes nothing.
 use mathlib.Core.Path.{sym, ◌∙◌}
-use borrow.Author.Tests.{le-leb, lt-leb, ne_eqb, not-true, not-false}
+use borrow.Author.Tests.{le-leb, lt-leb, ne_eqb}
 use Rattle.rules.specs.Check.{expression_rule}
-use borrow.Author.Rules.{rules}
 use Rattle.fields.proofs.records.expression_ok.Goals as goal
 
 pub returns-then-operator-gt-MAX_OPERATOR : goal.returns-then-operator-gt-MAX_OPERATOR

@@ -1,6 +1,5 @@
 -- `fields_at` meets its contract: it is the definition. Assumes nothing.
 use Rattle.fields.specs.Fields.{fields_of}
-use borrow.Author.Rules.{rules}
 use Rattle.fields.proofs.records.fields_at.Goals as goal
 
 pub returns : goal.returns

@@ -2,10 +2,8 @@
 use mathlib.Core.Bool.{Bool, not, ◌||◌}
 use Prim.Native.Nat.{ℕ}
 use lib.Dec.{leb, ltb}
-use borrow.Author.Tests.{not-true, not-false}
 use Rattle.rules.specs.Check.{fields_rule}
 use Rattle.fields.specs.declared.rows.Row.{Row}
-use borrow.Author.Rules.{rules}
 use Rattle.fields.proofs.records.fields_ok.Goals as goal
 
 -- the tests of the target

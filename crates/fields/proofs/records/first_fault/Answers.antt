@@ -1,17 +1,15 @@
 -- `first_fault` meets its contract: each record passed is right, by the row of its command. Assumes nothing.
 use mathlib.Core.Path.{◌≡◌, sym, ap, ◌∙◌}
 use mathlib.Core.Bool.{Bool, false}
-use mathlib.Core.List.{List}
-use Prim.Native.Nat.{ℕ, ◌-◌}
 use native.Mathlib.Omega.{arith}
 use lib.ListN.{get_or, get_or-map}
-use borrow.Author.Tests.{not-true, not-false, lt-ltb, le-ltb}
+use borrow.Author.Tests.{lt-ltb, le-ltb}
 use Rattle.rules.specs.Limits.{command_count}
 use Rattle.rules.specs.Bytes.{record_place}
 use Rattle.rules.specs.Script as Script
 use Rattle.rules.specs.Script.{rows, row, row_of}
 use Rattle.rules.specs.Check.{fields_rule, record_rule}
-use Rattle.rules.proofs.Search.{Scan, scan_start, scan_next, scan_stop, scan_end}
+use Rattle.rules.proofs.Search.{scan_start, scan_next, scan_stop, scan_end}
 use Rattle.fields.specs.declared.rows.Row.{Row}
 use Rattle.fields.specs.Fields.{known_rule, row_held}
 use borrow.Author.Rules.{rules}

@@ -3,7 +3,6 @@ use mathlib.Core.Path.{sym}
 use mathlib.Core.Bool.{and-true}
 use borrow.Author.Tests.{ne_eqb}
 use Rattle.rules.specs.Check.{operand_rule}
-use borrow.Author.Rules.{rules}
 use Rattle.fields.proofs.records.operand_ok.Goals as goal
 
 pub returns-then-kind-eq-VARIABLE : goal.returns-then-kind-eq-VARIABLE

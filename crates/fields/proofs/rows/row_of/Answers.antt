@@ -3,7 +3,6 @@ use lib.ListN.{get_or-map}
 use Rattle.rules.specs.Script.{rows, row}
 use mathlib.Core.Bool.{false}
 use Rattle.fields.specs.Fields.{row_held}
-use borrow.Author.Rules.{rules}
 use Rattle.fields.proofs.rows.row_of.Goals as goal
 
 pub returns : goal.returns

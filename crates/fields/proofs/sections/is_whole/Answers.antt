@@ -1,7 +1,6 @@
 -- `is_whole` meets its contract: the tests in order. Assumes nothing.
 use borrow.Author.Tests.{le-leb, lt-leb}
 use Rattle.rules.specs.Check.{whole}
-use borrow.Author.Rules.{rules}
 use Rattle.fields.proofs.sections.is_whole.Goals as goal
 
 pub returns-then-from-to : goal.returns-then-from-to

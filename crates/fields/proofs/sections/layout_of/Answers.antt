@@ -1,7 +1,6 @@
 -- `layout_of` meets its contract: it is the definition; the offsets do not fall. Assumes nothing.
 use Rattle.rules.specs.Bytes.{variable_count, node_count, record_count}
 use Rattle.fields.specs.Layout.{offsets_of, layout_of}
-use borrow.Author.Rules.{rules}
 use Rattle.fields.proofs.sections.layout_of.Goals as goal
 
 pub overflow_sub-result : goal.overflow_sub-result

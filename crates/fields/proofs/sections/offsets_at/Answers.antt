@@ -1,7 +1,6 @@
 -- `offsets_at` meets its contract: it is the definition. Assumes nothing.
 use Rattle.rules.specs.Bytes.{variables_at, nodes_at, script_at, trailer_at}
 use Rattle.fields.specs.Layout.{offsets_of}
-use borrow.Author.Rules.{rules}
 use Rattle.fields.proofs.sections.offsets_at.Goals as goal
 
 pub returns : goal.returns

@@ -1,7 +1,6 @@
 -- `offsets_ok` meets its contract: it is the definition. Assumes nothing.
 use Rattle.rules.specs.Check.{offset_rule}
 use Rattle.fields.specs.Layout.{offsets_of}
-use borrow.Author.Rules.{rules}
 use Rattle.fields.proofs.sections.offsets_ok.Goals as goal
 
 pub returns : goal.returns

@@ -3,7 +3,6 @@ use mathlib.Core.Path.{◌∙◌}
 use mir.Syntax.{w32}
 use mir.Facts.{to_z-of_z}
 use Rattle.rules.specs.Job.{variable_of}
-use borrow.Author.Rules.{rules}
 use Rattle.fields.proofs.variables.value_at.Goals as goal
 
 pub returns : goal.returns

@@ -1,7 +1,5 @@
 -- `variable_fits` meets its contract: the two tests. Assumes nothing.
-use mathlib.Core.Path.{sym, ◌∙◌}
 use Rattle.fields.proofs.Fits.{variable_rest}
-use borrow.Author.Rules.{rules}
 use Rattle.fields.proofs.variables.variable_fits.Goals as goal
 
 pub returns : goal.returns

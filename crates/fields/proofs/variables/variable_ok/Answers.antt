@@ -1,7 +1,6 @@
 -- `variable_ok` meets its contract: it is the definition. Assumes nothing.
 use Rattle.rules.specs.Job.{variable_of}
 use Rattle.fields.specs.Fits.{variable_in}
-use borrow.Author.Rules.{rules}
 use Rattle.fields.proofs.variables.variable_ok.Goals as goal
 
 pub returns : goal.returns

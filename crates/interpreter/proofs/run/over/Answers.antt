@@ -1,7 +1,6 @@
 -- The two arms of `overAt`. Assumes nothing.
 use borrow.Author.Tests.{lt-ltb, le-ltb}
 use Rattle.interpreter.specs.Steps.{over_at}
-use borrow.Author.Rules.{rules}
 use Rattle.interpreter.proofs.run.over.Goals as goal
 
 pub returns-then-at-records : goal.returns-then-at-records

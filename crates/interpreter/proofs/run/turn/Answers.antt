@@ -3,7 +3,6 @@ use mathlib.Core.Path.{◌∙◌, ap}
 use native.Mathlib.Omega.{arith}
 use Rattle.actions.specs.Stands.{stepped}
 use Rattle.interpreter.proofs.Looped.{still_turn, carried_turn}
-use borrow.Author.Rules.{rules}
 use Rattle.interpreter.proofs.run.turn.Goals as goal
 
 pub returns-then-r-eq0 : goal.returns-then-r-eq0

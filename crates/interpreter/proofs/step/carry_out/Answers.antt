@@ -5,7 +5,6 @@ use native.Mathlib.Omega.{arith}
 use Rattle.rules.specs.Script.{rows, row_of}
 use Rattle.actions.proofs.Doing.{passes_on}
 use Rattle.interpreter.proofs.Commands.{timely, at_cursor, record_there, known_by, outside_by, plain_end, known_back, inner_back, goal_by, as_step, as_end, expressed, evaluated, target_by, mark_by, insert_row, from_seven, from_twenty, skips, assigns, ifs, elses, whiles, ends, backs, comes_back, outputs, goes, goes_left, goes_last, inserts, removes, writes, raises}
-use borrow.Author.Rules.{rules}
 use Rattle.interpreter.proofs.step.carry_out.Goals as goal
 
 pub bounds-plan-at : goal.bounds-plan-at

@@ -1,9 +1,8 @@
 -- The fields read are the record's, and a byte is a set. Assumes nothing.
-use mathlib.Core.Path.{◌≡◌, sym, ap, ◌∙◌}
-use Prim.Native.Nat.{ℕ, ◌%◌}
+use mathlib.Core.Path.{◌≡◌, ap, ◌∙◌}
+use Prim.Native.Nat.{◌%◌}
 use native.Mathlib.Omega.{arith}
 use Rattle.rules.specs.Script.{content_set}
-use borrow.Author.Rules.{rules}
 use Rattle.interpreter.proofs.step.content_at.Goals as goal
 
 pub returns : goal.returns

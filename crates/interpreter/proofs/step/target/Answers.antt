@@ -1,6 +1,5 @@
 -- The field read is the record's. Assumes nothing.
 use mathlib.Core.Path.{ap}
-use borrow.Author.Rules.{rules}
 use Rattle.interpreter.proofs.step.target.Goals as goal
 
 pub returns : goal.returns

@@ -12,7 +12,6 @@ use Rattle.rules.proofs.Nests.{nest_open, nest_else, nest_end, nest_plain, nest_
 use Rattle.job.specs.Parts.{stack, Spells, placed_at}
 use Rattle.job.proofs.Stack.{opening, plain, room, some_else, some_end, by_if_law, top, push, replace, pop}
 use Rattle.job.proofs.Fill.{fill_first, fill_else, fill_end}
-use borrow.Author.Rules.{rules}
 use Rattle.job.proofs.blocks.advance.Goals as goal
 use Rattle.job.proofs.blocks.advance.Goals.{After-innermost-b, After-innermost-o, After-innermost-o-in-5, In-3, In-5}
 

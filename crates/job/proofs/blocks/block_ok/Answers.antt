@@ -9,7 +9,6 @@ use Rattle.rules.specs.Check.{code}
 use Rattle.rules.proofs.Parts.{before, placed_open, placed_else, placed_end, placed_plain}
 use Rattle.job.specs.Parts.{placed_at}
 use Rattle.job.proofs.Stack.{opening, plain, depth, top, bottom}
-use borrow.Author.Rules.{rules}
 use Rattle.job.proofs.blocks.block_ok.Goals as goal
 
 pub innermost-requires : goal.innermost-requires

@@ -5,7 +5,6 @@ use borrow.Author.Tests.{ne_eqb}
 use Rattle.rules.specs.Blocks.{past_end}
 use Rattle.job.specs.Plan.{end_code}
 use Rattle.job.specs.Parts.{end_stored}
-use borrow.Author.Rules.{rules}
 use Rattle.job.proofs.blocks.end_part.Goals as goal
 
 pub returns-then-beginner-eq-WHILE : goal.returns-then-beginner-eq-WHILE

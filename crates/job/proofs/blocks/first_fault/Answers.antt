@@ -1,17 +1,14 @@
 -- `first_fault` meets its contract: each record passed is placed among the parts that are open at it, and has its word. Assumes nothing.
 use mathlib.Core.Path.{◌≡◌, refl, sym, ap, ◌∙◌}
-use Prim.Native.Nat.{ℕ, suc, ◌+◌, ◌-◌, ◌≤◌}
+use Prim.Native.Nat.{ℕ, ◌+◌}
 use native.Mathlib.Omega.{arith}
 use native.Mathlib.Numerals.{add-one}
 use lib.Dec.{eqb}
-use lib.ListN.{length}
-use borrow.Author.Tests.{not-true, not-false, eq-eqb, ne_eqb}
-use Rattle.rules.specs.Blocks.{block_rule, parts, nest}
-use Rattle.rules.specs.Check.{code}
-use Rattle.rules.proofs.Search.{Scan, scan_start, scan_next, scan_stop, scan_end}
+use borrow.Author.Tests.{eq-eqb, ne_eqb}
+use Rattle.rules.specs.Blocks.{parts, nest}
+use Rattle.rules.proofs.Search.{scan_start, scan_next, scan_stop, scan_end}
 use Rattle.rules.proofs.Parts.{rule_inside, rule_end}
-use Rattle.job.specs.Plan.{Partly}
-use Rattle.job.specs.Parts.{stack, Spells, placed_at}
+use Rattle.job.specs.Parts.{stack, placed_at}
 use Rattle.job.proofs.Stack.{depth, bottom}
 use Rattle.job.proofs.Fill.{completed, as_many}
 use borrow.Author.Rules.{rules}

@@ -1,19 +1,11 @@
-use mathlib.Core.Path.{◌≡◌, refl, sym, ap, ◌∙◌}
-use Prim.Native.Nat.{ℕ, suc, ◌+◌, ◌-◌, ◌≤◌}
-use native.Mathlib.Omega.{arith}
-use native.Mathlib.Numerals.{add-one}
-use lib.Dec.{eqb}
+use mathlib.Core.Path.{◌≡◌}
+use Prim.Native.Nat.{suc, ◌-◌, ◌≤◌}
 use lib.ListN.{length}
-use borrow.Author.Tests.{not-true, not-false, eq-eqb, ne_eqb}
 use Rattle.rules.specs.Blocks.{block_rule, parts, nest}
 use Rattle.rules.specs.Check.{code}
-use Rattle.rules.proofs.Search.{Scan, scan_start, scan_next, scan_stop, scan_end}
-use Rattle.rules.proofs.Parts.{rule_inside, rule_end}
+use Rattle.rules.proofs.Search.{Scan}
 use Rattle.job.specs.Plan.{Partly}
-use Rattle.job.specs.Parts.{stack, Spells, placed_at}
-use Rattle.job.proofs.Stack.{depth, bottom}
-use Rattle.job.proofs.Fill.{completed, as_many}
-use borrow.Author.Rules.{rules}
+use Rattle.job.specs.Parts.{Spells}
 use Rattle.job.proofs.blocks.first_fault.Given as goal
 
 abbrev pub invariant-loop-i : goal.invariant-loop-i

@@ -5,7 +5,6 @@ use mathlib.Core.List.{List}
 use Prim.Native.Nat.{ℕ}
 use native.Mathlib.Omega.{arith}
 use lib.ListN.{length}
-use borrow.Author.Tests.{not-true, not-false}
 use Rattle.rules.specs.Limits.{bad_length, bad_offsets, bad_count}
 use Rattle.rules.specs.Bytes.{nodes_at, script_at, variable_count, node_count, record_count}
 use Rattle.rules.specs.Check.{Checked, require, length_rule, offset_rule, count_rule, Edition, check_records, check_bytes_by}

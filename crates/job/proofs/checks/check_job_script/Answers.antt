@@ -2,7 +2,6 @@
 use mathlib.Core.Path.{sym, ap, ◌∙◌}
 use Rattle.job.specs.Answer.{answer}
 use Rattle.job.proofs.Answers.{is_sound, is_faulty}
-use borrow.Author.Rules.{rules}
 use Rattle.job.proofs.checks.check_job_script.Goals as goal
 
 pub returns-in-Sound : goal.returns-in-Sound

@@ -11,7 +11,6 @@ use Rattle.job.specs.Hanging.{AllFit}
 use Rattle.job.specs.Answer.{answer, edition_of, highest_of, rule_of, count_of, scanned, from_script, from_nodes}
 use Rattle.job.proofs.Answers.{plans_not, plans_along}
 use Rattle.job.proofs.Scans.{was_faulty, was_passed, asked_stopped, asked_through, fit_clean, fit_through}
-use borrow.Author.Rules.{rules}
 use Rattle.job.proofs.checks.check_nodes.Goals as goal
 use Rattle.job.proofs.checks.check_nodes.Goals.{Else-index-l, Else-index-l-2, Then-all_fit}
 

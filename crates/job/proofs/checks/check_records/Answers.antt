@@ -7,7 +7,6 @@ use Rattle.rules.proofs.Checks.{stopped, through}
 use Rattle.job.specs.Answer.{answer, scanned, from_nodes}
 use Rattle.job.proofs.Answers.{plans_not, plans_along}
 use Rattle.job.proofs.Scans.{was_faulty, was_passed}
-use borrow.Author.Rules.{rules}
 use Rattle.job.proofs.checks.check_records.Goals as goal
 
 pub check_nodes-requires : goal.check_nodes-requires

@@ -7,7 +7,6 @@ use Rattle.rules.proofs.Checks.{stopped, through}
 use Rattle.job.specs.Answer.{scanned, unclean_of, told, from_blocks, from_spare}
 use Rattle.job.proofs.Answers.{plans_not, plans_along}
 use Rattle.job.proofs.Scans.{was_faulty, was_passed}
-use borrow.Author.Rules.{rules}
 use Rattle.job.proofs.checks.check_script.Goals as goal
 
 pub check_spare-requires : goal.check_spare-requires

@@ -2,12 +2,11 @@
 use mathlib.Core.Path.{◌≡◌, refl, sym, ap, ◌∙◌}
 use native.Mathlib.Omega.{arith}
 use Rattle.rules.specs.Limits.{bad_spare}
-use Rattle.rules.specs.Check.{Checked, require_if, variable_clean, node_clean, record_clean}
+use Rattle.rules.specs.Check.{require_if, node_clean, record_clean}
 use Rattle.job.specs.declared.checks.Unclean.{Unclean}
 use Rattle.job.specs.Answer.{told, edition_of, unclean_of, from_blocks, from_spare}
 use Rattle.job.proofs.Answers.{plans_not, plans_along}
 use Rattle.job.proofs.Scans.{asked_stopped, asked_through}
-use borrow.Author.Rules.{rules}
 use Rattle.job.proofs.checks.check_spare.Goals as goal
 use Rattle.job.proofs.checks.check_spare.Goals.{Else-unclean-l, Else-unclean-l-2, Else-unclean-l-3}
 

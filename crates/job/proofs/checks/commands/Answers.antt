@@ -2,7 +2,6 @@
 use native.Mathlib.Omega.{arith}
 use Rattle.rules.specs.Check.{first, unordered, ordered, today}
 use Rattle.job.specs.Answer.{edition_of}
-use borrow.Author.Rules.{rules}
 use Rattle.job.proofs.checks.commands.Goals as goal
 
 pub returns-in-First : goal.returns-in-First

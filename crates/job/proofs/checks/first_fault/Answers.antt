@@ -1,9 +1,6 @@
 -- `first_fault` meets its contract: each record passed is right. Assumes nothing.
 use mathlib.Core.Path.{sym, ◌∙◌}
-use Prim.Native.Nat.{◌-◌}
-use borrow.Author.Tests.{not-true, not-false}
-use Rattle.rules.proofs.Search.{Scan, scan_start, scan_next, scan_stop, scan_end}
-use Rattle.job.specs.Answer.{rule_of}
+use Rattle.rules.proofs.Search.{scan_start, scan_next, scan_stop, scan_end}
 use borrow.Author.Rules.{rules}
 use Rattle.job.proofs.checks.first_fault.Goals as goal
 

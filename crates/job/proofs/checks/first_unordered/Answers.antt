@@ -1,7 +1,6 @@
 -- `first_unordered` meets its contract: by the search, where it is asked for. Assumes nothing.
-use mathlib.Core.Path.{refl, sym, ◌∙◌}
+use mathlib.Core.Path.{refl}
 use Rattle.job.specs.Answer.{rule_of, count_of, asked}
-use borrow.Author.Rules.{rules}
 use Rattle.job.proofs.checks.first_unordered.Goals as goal
 
 pub first_fault-requires : goal.first_fault-requires

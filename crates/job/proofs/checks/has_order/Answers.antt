@@ -1,7 +1,6 @@
 -- `has_order` meets its contract: edition by edition. Assumes nothing.
 use Rattle.rules.specs.Check.{first, unordered, ordered, today}
 use Rattle.job.specs.Answer.{edition_of}
-use borrow.Author.Rules.{rules}
 use Rattle.job.proofs.checks.has_order.Goals as goal
 
 pub returns-in-First : goal.returns-in-First

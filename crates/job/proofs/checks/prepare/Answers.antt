@@ -1,6 +1,5 @@
 -- `prepare` meets its contract: the edition of today. Assumes nothing.
 use Rattle.job.specs.Answer.{edition_of}
-use borrow.Author.Rules.{rules}
 use Rattle.job.proofs.checks.prepare.Goals as goal
 
 pub returns : goal.returns

@@ -2,7 +2,6 @@
 use mathlib.Core.Path.{sym, ◌∙◌}
 use Rattle.job.specs.Answer.{asked}
 use Rattle.job.proofs.Scans.{one_faulty, none_wrong, nodes_right}
-use borrow.Author.Rules.{rules}
 use Rattle.job.proofs.checks.scan_nodes.Goals as goal
 
 pub returns-then-fault-l : goal.returns-then-fault-l

@@ -1,8 +1,6 @@
 -- `scan_records` meets its contract: by the two searches. Assumes nothing.
 use mathlib.Core.Path.{sym, ◌∙◌}
-use borrow.Author.Tests.{not-true, not-false}
 use Rattle.job.proofs.Scans.{not_asked, all_fit, first_unclean, records_right, records_fit}
-use borrow.Author.Rules.{rules}
 use Rattle.job.proofs.checks.scan_records.Goals as goal
 
 pub returns-then-not-has_spare : goal.returns-then-not-has_spare

@@ -1,10 +1,8 @@
 -- `scan_variables` meets its contract: by the two searches. Assumes nothing.
 use mathlib.Core.Path.{refl, sym, ◌∙◌}
 use native.Mathlib.Omega.{arith}
-use borrow.Author.Tests.{not-true, not-false}
 use Rattle.job.specs.Answer.{rule_of, count_of}
 use Rattle.job.proofs.Scans.{not_asked, all_fit, first_unclean, variables_right, variables_fit}
-use borrow.Author.Rules.{rules}
 use Rattle.job.proofs.checks.scan_variables.Goals as goal
 
 pub first_fault-requires : goal.first_fault-requires

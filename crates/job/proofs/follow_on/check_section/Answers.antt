@@ -1,7 +1,6 @@
 -- `check_section` meets its contract: the chain of checks, one link at a time. Assumes nothing.
 use mathlib.Core.Path.{refl, sym, ap, ◌∙◌}
 use native.Mathlib.Omega.{arith}
-use borrow.Author.Tests.{not-true, not-false}
 use Rattle.rules.specs.Limits.{bad_follow_on}
 use Rattle.rules.specs.Check.{first_fault, ordered, today}
 use Rattle.rules.specs.History.{section_count}
@@ -10,7 +9,6 @@ use Rattle.job.specs.Answer.{told, edition_of, asked}
 use Rattle.job.specs.FollowOn.{check_section}
 use Rattle.job.proofs.Answers.{plans_not, plans_along}
 use Rattle.job.proofs.FollowOns.{section_few}
-use borrow.Author.Rules.{rules}
 use Rattle.job.proofs.follow_on.check_section.Goals as goal
 
 pub returns-then-not-section_ok : goal.returns-then-not-section_ok

@@ -1,13 +1,9 @@
 -- `all_fit` meets its contract: each node passed fits. Assumes nothing.
 use mathlib.Core.Path.{refl}
-use Prim.Native.Nat.{◌-◌}
 use native.Mathlib.Omega.{arith}
 use native.Mathlib.Numerals.{add-one}
-use borrow.Author.Tests.{not-false}
 use Rattle.rules.proofs.Tests.{clash}
-use Rattle.job.specs.Hanging.{AllFit}
 use Rattle.job.proofs.Ways.{fit_next}
-use borrow.Author.Rules.{rules}
 use Rattle.job.proofs.preorder.all_fit.Goals as goal
 
 pub loop-i-init : goal.loop-i-init

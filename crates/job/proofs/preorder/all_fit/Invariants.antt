@@ -1,12 +1,5 @@
-use mathlib.Core.Path.{refl}
 use Prim.Native.Nat.{◌-◌}
-use native.Mathlib.Omega.{arith}
-use native.Mathlib.Numerals.{add-one}
-use borrow.Author.Tests.{not-false}
-use Rattle.rules.proofs.Tests.{clash}
 use Rattle.job.specs.Hanging.{AllFit}
-use Rattle.job.proofs.Ways.{fit_next}
-use borrow.Author.Rules.{rules}
 use Rattle.job.proofs.preorder.all_fit.Given as goal
 
 abbrev pub invariant-loop-i : goal.invariant-loop-i

@@ -2,14 +2,13 @@
 -- Assumes nothing.
 use mathlib.Core.Path.{◌≡◌, sym, ap, ◌∙◌}
 use mathlib.Core.List.{List}
-use Prim.Native.Nat.{ℕ, suc, ◌-◌, ◌≤◌, ◌<◌}
+use Prim.Native.Nat.{ℕ, suc, ◌≤◌, ◌<◌}
 use native.Mathlib.Omega.{arith}
 use Rattle.rules.specs.Check.{parent}
 use Rattle.rules.proofs.Accepted.{parent_before}
 use Rattle.fields.specs.Siblings.{Rooted}
 use Rattle.fields.proofs.Siblings.{beside_is}
-use Rattle.job.proofs.Ways.{On, on_start, on_up, on_order, on_left, on_first}
-use borrow.Author.Rules.{rules}
+use Rattle.job.proofs.Ways.{on_start, on_up, on_order, on_left, on_first}
 use Rattle.job.proofs.preorder.left_of.Goals as goal
 
 -- above a record that is not the parent stands an earlier one

@@ -1,13 +1,6 @@
-use mathlib.Core.Path.{◌≡◌, sym, ap, ◌∙◌}
-use mathlib.Core.List.{List}
-use Prim.Native.Nat.{ℕ, suc, ◌-◌, ◌≤◌, ◌<◌}
-use native.Mathlib.Omega.{arith}
-use Rattle.rules.specs.Check.{parent}
-use Rattle.rules.proofs.Accepted.{parent_before}
-use Rattle.fields.specs.Siblings.{Rooted}
-use Rattle.fields.proofs.Siblings.{beside_is}
-use Rattle.job.proofs.Ways.{On, on_start, on_up, on_order, on_left, on_first}
-use borrow.Author.Rules.{rules}
+use mathlib.Core.Path.{◌≡◌}
+use Prim.Native.Nat.{suc, ◌-◌, ◌≤◌, ◌<◌}
+use Rattle.job.proofs.Ways.{On}
 use Rattle.job.proofs.preorder.left_of.Given as goal
 
 abbrev pub invariant-loop-k : goal.invariant-loop-k

@@ -1,13 +1,12 @@
 -- `node_fits` meets its contract: what is asked of the node alone, then its order, then what is asked by its parent and left sibling. Assumes nothing.
 use mathlib.Core.Path.{refl, sym, subst, ◌∙◌}
-use borrow.Author.Tests.{eq-eqb, ne_eqb, not-false}
+use borrow.Author.Tests.{eq-eqb, ne_eqb}
 use Rattle.rules.specs.Check.{order_rule}
 use Rattle.rules.proofs.Tests.{clash}
 use Rattle.job.specs.declared.preorder.Hung.{Hung}
 use Rattle.job.specs.declared.preorder.Hung.TheVariants.{InOrder}
 use Rattle.job.specs.Hanging.{Hangs}
 use Rattle.fields.proofs.Siblings.{rule_parts}
-use borrow.Author.Rules.{rules}
 use Rattle.job.proofs.preorder.node_fits.Goals as goal
 use Rattle.job.proofs.preorder.node_fits.Goals.{In-InOrder}
 

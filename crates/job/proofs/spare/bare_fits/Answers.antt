@@ -1,9 +1,7 @@
 -- `bare_fits` meets its contract: the two words. Assumes nothing.
-use mathlib.Core.Path.{sym}
 use native.Mathlib.Omega.{arith}
 use borrow.Author.Tests.{lt-ltb, le-ltb}
 use Rattle.fields.specs.Fits.{bare_fits}
-use borrow.Author.Rules.{rules}
 use Rattle.job.proofs.spare.bare_fits.Goals as goal
 
 pub returns-then-double_at-gt255 : goal.returns-then-double_at-gt255

@@ -1,6 +1,5 @@
 -- `cover_fits` meets its contract: it is the definition. Assumes nothing.
 use Rattle.fields.specs.Fits.{cover_fits}
-use borrow.Author.Rules.{rules}
 use Rattle.job.proofs.spare.cover_fits.Goals as goal
 
 pub returns : goal.returns

@@ -1,8 +1,7 @@
 -- `expression_fits` meets its contract: the tests in order. Assumes nothing.
 use mathlib.Core.Path.{sym, ◌∙◌}
-use borrow.Author.Tests.{le-leb, lt-leb, not-true, not-false}
+use borrow.Author.Tests.{le-leb, lt-leb}
 use Rattle.fields.specs.Fits.{expression_fits}
-use borrow.Author.Rules.{rules}
 use Rattle.job.proofs.spare.expression_fits.Goals as goal
 
 pub returns-then-operator-gt-MAX_OPERATOR : goal.returns-then-operator-gt-MAX_OPERATOR

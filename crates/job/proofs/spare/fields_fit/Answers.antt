@@ -6,7 +6,6 @@ use lib.Dec.{ltb}
 use borrow.Author.Tests.{lt-ltb, le-ltb}
 use Rattle.fields.specs.Fits.{expression_fits, record_fits}
 use Rattle.fields.proofs.Fits.{held_bare, held_cover, held_expression}
-use borrow.Author.Rules.{rules}
 use Rattle.job.proofs.spare.fields_fit.Goals as goal
 use Rattle.job.proofs.spare.fields_fit.Goals.{After-byte_at}
 

@@ -1,7 +1,5 @@
 -- `kind_word` meets its contract: it is the definition. Assumes nothing.
-use native.Mathlib.Omega.{arith}
 use Rattle.fields.specs.Fits.{kind_word}
-use borrow.Author.Rules.{rules}
 use Rattle.job.proofs.spare.kind_word.Goals as goal
 
 pub returns-then-sets : goal.returns-then-sets

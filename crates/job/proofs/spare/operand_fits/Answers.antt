@@ -1,7 +1,6 @@
 -- `operand_fits` meets its contract: by the limit of the kind. Assumes nothing.
 use mathlib.Core.Path.{sym, ◌∙◌}
 use Rattle.fields.proofs.Fits.{limited, unlimited}
-use borrow.Author.Rules.{rules}
 use Rattle.job.proofs.spare.operand_fits.Goals as goal
 
 pub returns-then-kind-ge-KINDS : goal.returns-then-kind-ge-KINDS

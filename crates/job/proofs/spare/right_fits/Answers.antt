@@ -1,8 +1,6 @@
 -- `right_fits` meets its contract: the tests in order. Assumes nothing.
-use mathlib.Core.Path.{sym}
 use borrow.Author.Tests.{eq-eqb, ne_eqb}
 use Rattle.fields.specs.Fits.{right_fits}
-use borrow.Author.Rules.{rules}
 use Rattle.job.proofs.spare.right_fits.Goals as goal
 
 pub returns-then-kind-ne0 : goal.returns-then-kind-ne0

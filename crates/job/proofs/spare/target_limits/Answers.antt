@@ -1,9 +1,7 @@
 -- `target_limits` meets its contract: the list of the rules, row by row, is one list or the other. Assumes nothing.
 use mathlib.Core.Path.{refl}
-use mathlib.Core.Logic.{⊎_elim}
 use Rattle.rules.specs.Script.{rows}
 use Rattle.fields.specs.Fits.{target_limit}
-use borrow.Author.Rules.{rules}
 use Rattle.job.proofs.spare.target_limits.Goals as goal
 use Rattle.job.proofs.spare.target_limits.Goals.{then-sets, else-sets}
 

@@ -3,7 +3,6 @@ use mathlib.Core.Path.{sym, ◌∙◌}
 use Rattle.job.proofs.Answers.{is_accepted, is_refused}
 use Rattle.actions.proofs.Doing.{refused, allowed}
 use Rattle.monitor.proofs.Answered.{by_bytes, by_budget, by_buffers, all_passed}
-use borrow.Author.Rules.{rules}
 use Rattle.monitor.proofs.entry.admit.Goals as goal
 
 pub returns-then-not-budget_ok : goal.returns-then-not-budget_ok

@@ -5,7 +5,6 @@ use borrow.Author.Tests.{le-leb, lt-leb}
 use Rattle.rules.specs.Limits.{max_nodes}
 use Rattle.table.specs.Cells.{cell_size}
 use Rattle.monitor.specs.Promises.{places_for}
-use borrow.Author.Rules.{rules}
 use Rattle.monitor.proofs.entry.asked.Goals as goal
 
 pub returns-then-smaller-words : goal.returns-then-smaller-words

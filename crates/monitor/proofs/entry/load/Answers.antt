@@ -1,6 +1,5 @@
 -- The variables, then the nodes. Assumes nothing.
 use Rattle.monitor.proofs.Started.{loading, loadable, loaded_by}
-use borrow.Author.Rules.{rules}
 use Rattle.monitor.proofs.entry.load.Goals as goal
 
 pub load_variables-requires : goal.load_variables-requires

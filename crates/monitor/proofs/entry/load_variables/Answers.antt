@@ -1,13 +1,9 @@
 -- `entry::load_variables` meets its contract. The loop's invariant: the first i variables are loaded, and the rest is as it was. Assumes nothing.
 use mathlib.Core.Path.{◌≡◌, refl, ◌∙◌}
-use Prim.Native.Nat.{◌-◌, ◌≤◌}
 use mir.Syntax.{w32}
 use mir.Facts.{to_z-of_z}
 use native.Mathlib.Omega.{arith}
-use borrow.Author.Rules.{rules}
-use lib.ListN.{length}
 use lib.ListN.{length-set}
-use Rattle.monitor.specs.Starting.{VariablesLoaded}
 use Rattle.monitor.proofs.Started.{loaded_more}
 use Rattle.monitor.proofs.entry.load_variables.Goals as goal
 

@@ -1,13 +1,7 @@
-use mathlib.Core.Path.{◌≡◌, refl, ◌∙◌}
+use mathlib.Core.Path.{◌≡◌}
 use Prim.Native.Nat.{◌-◌, ◌≤◌}
-use mir.Syntax.{w32}
-use mir.Facts.{to_z-of_z}
-use native.Mathlib.Omega.{arith}
-use borrow.Author.Rules.{rules}
 use lib.ListN.{length}
-use lib.ListN.{length-set}
 use Rattle.monitor.specs.Starting.{VariablesLoaded}
-use Rattle.monitor.proofs.Started.{loaded_more}
 use Rattle.monitor.proofs.entry.load_variables.Given as goal
 
 abbrev pub invariant-loop-i : goal.invariant-loop-i

@@ -2,7 +2,6 @@
 use mathlib.Core.Path.{refl}
 use Rattle.actions.specs.Shows.{slices}
 use Rattle.monitor.proofs.Started.{roomy, rooted_at, left_of_law}
-use borrow.Author.Rules.{rules}
 use Rattle.monitor.proofs.entry.run_accepted.Goals as goal
 
 pub load-requires : goal.load-requires

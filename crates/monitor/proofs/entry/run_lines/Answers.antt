@@ -4,7 +4,6 @@ use lib.ListN.{length-replicate}
 use Rattle.actions.specs.Shows.{slices}
 use Rattle.monitor.specs.Starting.{AdmitsJob}
 use Rattle.monitor.proofs.Answered.{lines_back, begun_largest, lines_run}
-use borrow.Author.Rules.{rules}
 use Rattle.monitor.proofs.entry.run_lines.Goals as goal
 
 pub run_accepted-requires : goal.run_accepted-requires

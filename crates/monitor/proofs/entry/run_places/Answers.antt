@@ -4,7 +4,6 @@ use Prim.Native.Nat.{◌≤◌}
 use Rattle.actions.specs.Shows.{slices}
 use Rattle.monitor.specs.Starting.{AdmitsJob}
 use Rattle.monitor.proofs.Answered.{turned_back_law, begun, is_run, room_for, counted_so}
-use borrow.Author.Rules.{rules}
 use Rattle.monitor.proofs.entry.run_places.Goals as goal
 
 pub run_accepted-requires : goal.run_accepted-requires

@@ -5,7 +5,6 @@ use native.Mathlib.Omega.{arith}
 use lib.ListN.{length}
 use Rattle.monitor.specs.Promises.{lent, places_in, places_for, Tree}
 use Rattle.monitor.proofs.Answered.{recount, all_places}
-use borrow.Author.Rules.{rules}
 use Rattle.monitor.proofs.entry.run_words.Goals as goal
 
 pub returns : goal.returns

@@ -3,7 +3,6 @@ use mathlib.Core.Path.{sym, ◌∙◌}
 use Rattle.job.proofs.Answers.{is_sound, is_faulty}
 use Rattle.actions.proofs.Doing.{refused, allowed}
 use Rattle.monitor.proofs.Admitted.{by_section, by_budget, by_places, all_passed}
-use borrow.Author.Rules.{rules}
 use Rattle.monitor.proofs.follow.admit.Goals as goal
 
 pub returns-then-not-budget_ok : goal.returns-then-not-budget_ok

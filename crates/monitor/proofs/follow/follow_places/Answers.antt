@@ -2,13 +2,11 @@
 use mathlib.Core.Path.{refl, subst}
 use mathlib.Core.List.{[]}
 use native.Mathlib.Omega.{arith}
-use borrow.Author.Tests.{not-true, not-false}
 use Rattle.table.proofs.Behind.{then_behind}
 use Rattle.actions.specs.Shows.{Slices, slices}
 use Rattle.monitor.specs.Promises.{lent}
 use Rattle.monitor.specs.Follow.{Storable, Admits, by_store, by_script}
 use Rattle.monitor.proofs.Taken.{turned_from, Reached, reached, ready, rooted, taken_over}
-use borrow.Author.Rules.{rules}
 use Rattle.monitor.proofs.follow.follow_places.Goals as goal
 use Rattle.monitor.proofs.follow.follow_places.Goals.{After-reclaim-free, Start}
 

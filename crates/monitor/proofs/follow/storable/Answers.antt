@@ -1,12 +1,7 @@
 -- The invariant: the levels that were passed are levels. Assumes nothing.
-use mathlib.Core.Path.{◌≡◌, sym, ◌∙◌}
-use mathlib.Core.Bool.{true}
-use Prim.Native.Nat.{ℕ, ◌-◌, ◌<◌, ◌≤◌}
+use mathlib.Core.Path.{sym, ◌∙◌}
 use native.Mathlib.Omega.{arith}
-use lib.ListN.{length, get_or}
 use borrow.Author.Count.{below_more}
-use borrow.Author.Tests.{not-true, not-false}
-use Rattle.rules.specs.Level.{is_level}
 use Rattle.monitor.specs.Follow.{treeless, uneven, many, unlevelled, storable}
 use borrow.Author.Rules.{rules}
 use Rattle.monitor.proofs.follow.storable.Goals as goal

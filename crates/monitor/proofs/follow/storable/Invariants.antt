@@ -1,13 +1,8 @@
-use mathlib.Core.Path.{◌≡◌, sym, ◌∙◌}
+use mathlib.Core.Path.{◌≡◌}
 use mathlib.Core.Bool.{true}
 use Prim.Native.Nat.{ℕ, ◌-◌, ◌<◌, ◌≤◌}
-use native.Mathlib.Omega.{arith}
 use lib.ListN.{length, get_or}
-use borrow.Author.Count.{below_more}
-use borrow.Author.Tests.{not-true, not-false}
 use Rattle.rules.specs.Level.{is_level}
-use Rattle.monitor.specs.Follow.{treeless, uneven, many, unlevelled, storable}
-use borrow.Author.Rules.{rules}
 use Rattle.monitor.proofs.follow.storable.Given as goal
 
 abbrev pub invariant-loop-i : goal.invariant-loop-i

@@ -1,6 +1,5 @@
 -- The places that a link can lead to are asked for a tree. Assumes nothing.
 use Rattle.monitor.proofs.Taken.{asked_all}
-use borrow.Author.Rules.{rules}
 use Rattle.monitor.proofs.follow.survey.Goals as goal
 
 pub returns : goal.returns

@@ -1,7 +1,6 @@
 -- The two arms of `outcomeOf`; the steps made fit 32 bits. Assumes nothing.
 use borrow.Author.Tests.{eq-eqb, ne_eqb}
 use Rattle.monitor.specs.Starting.{outcome_of}
-use borrow.Author.Rules.{rules}
 use Rattle.monitor.proofs.start.ended.Goals as goal
 
 pub returns-then-a-eq-FINISHED : goal.returns-then-a-eq-FINISHED

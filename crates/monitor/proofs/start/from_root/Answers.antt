@@ -1,6 +1,5 @@
 -- The run starts at the root, and what it leaves is what the promise says. Assumes nothing.
 use mathlib.Core.Path.{refl, sym, subst}
-use native.Mathlib.Omega.{arith}
 use Rattle.actions.specs.Shows.{slices}
 use Rattle.monitor.specs.FromRoot.{FromRoot}
 use Rattle.monitor.proofs.Begins.{plan_long, startable, within, from_root}

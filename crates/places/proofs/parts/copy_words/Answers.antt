@@ -1,10 +1,8 @@
 -- `parts::copy_words` meets its contract. The loop's invariant: the first i elements are those of the other slice. Assumes nothing.
-use mathlib.Core.Path.{◌≡◌, refl, sym, ◌∙◌}
-use Prim.Native.Nat.{◌-◌, ◌≤◌}
+use mathlib.Core.Path.{refl, sym, ◌∙◌}
 use native.Mathlib.Omega.{arith}
-use lib.ListN.{length, take, length-set}
+use lib.ListN.{length-set}
 use Rattle.places.proofs.Cuts.{copy_more, copy_all}
-use borrow.Author.Rules.{rules}
 use Rattle.places.proofs.parts.copy_words.Goals as goal
 
 pub loop-i-init : goal.loop-i-init

@@ -1,9 +1,6 @@
-use mathlib.Core.Path.{◌≡◌, refl, sym, ◌∙◌}
+use mathlib.Core.Path.{◌≡◌}
 use Prim.Native.Nat.{◌-◌, ◌≤◌}
-use native.Mathlib.Omega.{arith}
-use lib.ListN.{length, take, length-set}
-use Rattle.places.proofs.Cuts.{copy_more, copy_all}
-use borrow.Author.Rules.{rules}
+use lib.ListN.{length, take}
 use Rattle.places.proofs.parts.copy_words.Given as goal
 
 abbrev pub invariant-loop-i : goal.invariant-loop-i

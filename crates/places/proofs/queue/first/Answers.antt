@@ -1,10 +1,9 @@
 -- `queue::first` meets its contract: a whole queue has eight places. Assumes nothing.
 use mathlib.Core.Path.{◌≡◌, sym, subst}
-use Prim.Native.Nat.{◌<◌, ◌-◌}
+use Prim.Native.Nat.{◌<◌}
 use native.Mathlib.Omega.{arith}
 use Rattle.rules.specs.Limits.{max_runs}
 use Rattle.places.specs.Queue.{front}
-use borrow.Author.Rules.{rules}
 use Rattle.places.proofs.queue.first.Goals as goal
 
 pub returns : goal.returns

@@ -1,9 +1,8 @@
 -- `queue::free` meets its contract: a whole queue has eight places. Assumes nothing.
 use mathlib.Core.Path.{◌≡◌, sym, subst}
-use Prim.Native.Nat.{◌<◌, ◌-◌}
+use Prim.Native.Nat.{◌<◌}
 use Rattle.rules.specs.Limits.{max_runs}
 use Rattle.places.specs.Queue.{first_free}
-use borrow.Author.Rules.{rules}
 use Rattle.places.proofs.queue.free.Goals as goal
 
 pub returns : goal.returns

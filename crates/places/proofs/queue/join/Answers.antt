@@ -1,7 +1,6 @@
 -- `queue::join` meets its contract: the first free place is the one behind the last. Assumes nothing.
 use mathlib.Core.Path.{refl}
 use Rattle.places.proofs.Orders.{whole_joined, joined}
-use borrow.Author.Rules.{rules}
 use Rattle.places.proofs.queue.join.Goals as goal
 
 pub returns : goal.returns

@@ -4,7 +4,6 @@ use mathlib.Core.List.{List}
 use Prim.Native.Nat.{ℕ, ◌-◌}
 use native.Mathlib.Omega.{arith}
 use Rattle.places.proofs.Orders.{whole_rotated, left, freed}
-use borrow.Author.Rules.{rules}
 use Rattle.places.proofs.queue.leave.Goals as goal
 
 pub returns : goal.returns

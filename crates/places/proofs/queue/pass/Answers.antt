@@ -3,7 +3,6 @@ use mathlib.Core.Path.{ap}
 use mathlib.Core.List.{List}
 use Prim.Native.Nat.{ℕ}
 use Rattle.places.proofs.Orders.{whole_rotated, passed}
-use borrow.Author.Rules.{rules}
 use Rattle.places.proofs.queue.pass.Goals as goal
 
 pub returns : goal.returns

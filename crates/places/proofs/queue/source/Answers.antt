@@ -2,7 +2,6 @@
 use mathlib.Core.Path.{sym}
 use native.Mathlib.Omega.{arith}
 use Rattle.places.proofs.Orders.{source_next, source_last, source_stays}
-use borrow.Author.Rules.{rules}
 use Rattle.places.proofs.queue.source.Goals as goal
 
 pub returns-then-position-n : goal.returns-then-position-n

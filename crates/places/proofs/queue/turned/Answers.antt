@@ -1,6 +1,5 @@
 -- `queue::turned` meets its contract: entry by entry. Assumes nothing.
 use Rattle.places.proofs.Orders.{rotated_is}
-use borrow.Author.Rules.{rules}
 use Rattle.places.proofs.queue.turned.Goals as goal
 
 pub returns : goal.returns

@@ -1,6 +1,5 @@
 -- `of` meets its contract, variant by variant. Assumes nothing.
-use mathlib.Core.Path.{refl, sym, subst, ap}
-use borrow.Author.Rules.{rules}
+use mathlib.Core.Path.{refl, sym, subst}
 use Rattle.monitor.specs.declared.entry.Outcome.{Outcome}
 use Rattle.monitor.specs.Promises.{answer_of}
 use Rattle.print.specs.Answers.{Says}

@@ -1,6 +1,5 @@
 -- `was_run` meets its contract, variant by variant. Assumes nothing.
 use mathlib.Core.Path.{sym, ap}
-use borrow.Author.Rules.{rules}
 use Rattle.monitor.specs.declared.entry.Outcome.{Outcome}
 use Rattle.print.specs.Answers.{ran}
 use Rattle.print.proofs.answer.was_run.Goals as goal

@@ -1,13 +1,8 @@
 -- `after` meets its contract: each turn stands at a node from which the climb has met no right sibling. Assumes nothing.
-use mathlib.Core.Path.{◌≡◌}
 use native.Mathlib.Omega.{arith}
-use Prim.Native.Nat.{ℕ, ◌≤◌, ◌<◌}
 use borrow.Author.Rules.{rules}
-use Rattle.rules.specs.Tree.{Forest, Place}
-use Rattle.table.specs.Cells.{cells, side_of}
-use Rattle.table.specs.Holds.{Holds}
-use Rattle.print.specs.Preorder as Preorder
-use Rattle.print.proofs.Visiting.{Climb, climb, passes, tops, leaves, rises}
+use Rattle.table.specs.Cells.{side_of}
+use Rattle.print.proofs.Visiting.{climb, passes, tops, leaves, rises}
 use Rattle.print.proofs.preorder.after.Goals as goal
 
 pub loop-places-init : goal.loop-places-init

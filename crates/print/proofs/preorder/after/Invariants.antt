@@ -1,12 +1,10 @@
 use mathlib.Core.Path.{◌≡◌}
-use native.Mathlib.Omega.{arith}
 use Prim.Native.Nat.{ℕ, ◌≤◌, ◌<◌}
-use borrow.Author.Rules.{rules}
 use Rattle.rules.specs.Tree.{Forest, Place}
-use Rattle.table.specs.Cells.{cells, side_of}
+use Rattle.table.specs.Cells.{cells}
 use Rattle.table.specs.Holds.{Holds}
 use Rattle.print.specs.Preorder as Preorder
-use Rattle.print.proofs.Visiting.{Climb, climb, passes, tops, leaves, rises}
+use Rattle.print.proofs.Visiting.{Climb}
 use Rattle.print.proofs.preorder.after.Given as goal
 
 abbrev pub invariant-loop-places : goal.invariant-loop-places

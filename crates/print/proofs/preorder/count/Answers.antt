@@ -1,12 +1,7 @@
 -- `count` meets its contract: n nodes were counted where the walk stands at node number n. Assumes nothing.
 use native.Mathlib.Omega.{arith}
-use Prim.Native.Nat.{ℕ, ◌≤◌, ◌<◌, ◌-◌}
 use borrow.Author.Rules.{rules}
-use Rattle.rules.specs.Tree.{Forest, Place}
-use Rattle.table.specs.Cells.{cells}
-use Rattle.table.specs.Holds.{Holds}
 use Rattle.table.proofs.Unique.{few_nodes}
-use Rattle.print.specs.Preorder.{Stands}
 use Rattle.print.proofs.Visiting.{number_below, counted, goes}
 use Rattle.print.proofs.preorder.count.Goals as goal
 

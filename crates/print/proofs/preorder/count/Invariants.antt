@@ -1,12 +1,8 @@
-use native.Mathlib.Omega.{arith}
 use Prim.Native.Nat.{ℕ, ◌≤◌, ◌<◌, ◌-◌}
-use borrow.Author.Rules.{rules}
 use Rattle.rules.specs.Tree.{Forest, Place}
 use Rattle.table.specs.Cells.{cells}
 use Rattle.table.specs.Holds.{Holds}
-use Rattle.table.proofs.Unique.{few_nodes}
 use Rattle.print.specs.Preorder.{Stands}
-use Rattle.print.proofs.Visiting.{number_below, counted, goes}
 use Rattle.print.proofs.preorder.count.Given as goal
 
 abbrev pub invariant-loop-n : goal.invariant-loop-n

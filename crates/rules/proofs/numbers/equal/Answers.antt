@@ -1,6 +1,5 @@
 -- `numbers::equal` meets its contract: numbers are equal where their bits are. Assumes nothing.
 use mathlib.Core.Path.{ap, ◌∙◌}
-use borrow.Author.Rules.{rules}
 use Rattle.rules.specs.Number.{truth, equal}
 use Rattle.rules.proofs.Number.{equal_fits}
 use Rattle.rules.proofs.Machine.{read_as, in_wide, same_bits}

@@ -1,6 +1,5 @@
 -- `numbers::less` meets its contract: the machine compares the numbers themselves. Assumes nothing.
 use mathlib.Core.Path.{ap, ap₂, ◌∙◌}
-use borrow.Author.Rules.{rules}
 use lib.Signed.{lt_z}
 use mir.Facts.{to_z-of_z}
 use Rattle.rules.specs.Number.{truth, less}

@@ -1,6 +1,5 @@
 -- The link that was read is the record's. Assumes nothing.
 use Prim.Native.Nat.{◌+◌}
-use borrow.Author.Rules.{rules}
 use Rattle.writer.proofs.nodes.enter.Goals as goal
 
 pub returns : goal.returns

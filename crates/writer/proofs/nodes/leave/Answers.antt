@@ -1,6 +1,5 @@
 -- The links that were read are the record's. Assumes nothing.
 use Prim.Native.Nat.{◌-◌}
-use borrow.Author.Rules.{rules}
 use Rattle.writer.proofs.nodes.leave.Goals as goal
 
 pub returns : goal.returns

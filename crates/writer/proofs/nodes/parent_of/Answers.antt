@@ -2,7 +2,6 @@
 use mathlib.Core.Path.{sym, ap}
 use Rattle.writer.specs.Nodes.{parent_in}
 use Rattle.writer.proofs.Walked.{parent_above}
-use borrow.Author.Rules.{rules}
 use Rattle.writer.proofs.nodes.parent_of.Goals as goal
 
 pub returns-then-deep-eq0 : goal.returns-then-deep-eq0

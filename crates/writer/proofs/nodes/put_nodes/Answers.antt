@@ -1,14 +1,10 @@
 -- The invariant: the walk is where the laws say, with the first nodes written. The measure is the turns that are left. Assumes nothing.
-use mathlib.Core.Path.{◌≡◌, refl, ◌∙◌}
+use mathlib.Core.Path.{refl, ◌∙◌}
 use Prim.Native.Nat.{◌<◌, ◌≤◌}
 use native.Mathlib.Omega.{arith}
-use lib.ListN.{length}
-use Rattle.rules.specs.Limits.{max_nodes}
-use Rattle.rules.specs.Tree.{Forest, size}
-use Rattle.table.specs.Cells.{cells, gone}
-use Rattle.lent.specs.Stands.{Stands}
-use Rattle.writer.proofs.Walked.{Writing, writing_start, turned_slots, turns, shallow, ready_above, turned, nodes_put}
-use borrow.Author.Rules.{rules}
+use Rattle.rules.specs.Tree.{size}
+use Rattle.table.specs.Cells.{gone}
+use Rattle.writer.proofs.Walked.{writing_start, turned_slots, shallow, ready_above, turned, nodes_put}
 use Rattle.writer.proofs.nodes.put_nodes.Goals as goal
 
 pub loop-s-init : goal.loop-s-init

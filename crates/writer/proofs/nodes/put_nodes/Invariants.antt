@@ -1,13 +1,10 @@
-use mathlib.Core.Path.{◌≡◌, refl, ◌∙◌}
-use Prim.Native.Nat.{◌<◌, ◌≤◌}
-use native.Mathlib.Omega.{arith}
+use mathlib.Core.Path.{◌≡◌}
 use lib.ListN.{length}
 use Rattle.rules.specs.Limits.{max_nodes}
 use Rattle.rules.specs.Tree.{Forest, size}
-use Rattle.table.specs.Cells.{cells, gone}
+use Rattle.table.specs.Cells.{cells}
 use Rattle.lent.specs.Stands.{Stands}
-use Rattle.writer.proofs.Walked.{Writing, writing_start, turned_slots, turns, shallow, ready_above, turned, nodes_put}
-use borrow.Author.Rules.{rules}
+use Rattle.writer.proofs.Walked.{Writing, turns}
 use Rattle.writer.proofs.nodes.put_nodes.Given as goal
 
 abbrev pub invariant-loop-s : goal.invariant-loop-s

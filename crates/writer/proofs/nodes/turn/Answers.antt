@@ -7,7 +7,6 @@ use Rattle.rules.specs.Write.{node_bytes}
 use Rattle.lent.specs.Lent.{cell_of}
 use Rattle.writer.specs.Area.{replaced, entry}
 use Rattle.writer.specs.Nodes.{enter, leave, left, entered}
-use borrow.Author.Rules.{rules}
 use Rattle.writer.proofs.nodes.turn.Goals as goal
 
 pub node_of-requires : goal.node_of-requires

@@ -11,7 +11,6 @@ use Rattle.rules.specs.Bytes.{two}
 use Rattle.rules.specs.Write.{four, node, node_bytes}
 use Rattle.writer.specs.Area.{replaced}
 use Rattle.writer.proofs.Area.{twelve_put}
-use borrow.Author.Rules.{rules}
 use Rattle.writer.proofs.put.put_node.Goals as goal
 
 pub bounds-area-at-2 : goal.bounds-area-at-2

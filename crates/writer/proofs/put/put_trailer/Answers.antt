@@ -7,7 +7,6 @@ use Rattle.rules.specs.Write.{trailer}
 use Rattle.writer.specs.Area.{replaced}
 use mathlib.Core.Path.{◌∙◌}
 use Rattle.writer.proofs.Area.{eight_put}
-use borrow.Author.Rules.{rules}
 use Rattle.writer.proofs.put.put_trailer.Goals as goal
 
 pub bounds-area-at-2 : goal.bounds-area-at-2

@@ -1,15 +1,13 @@
 -- The invariant: the first variables are written. Assumes nothing.
 use mathlib.Core.Path.{◌≡◌, refl, sym, ap, ◌∙◌}
 use mathlib.Core.List.{flat_map}
-use Prim.Native.Nat.{ℕ, ◌-◌, ◌*◌, ◌<◌, ◌≤◌}
+use Prim.Native.Nat.{◌*◌}
 use native.Mathlib.Omega.{arith}
 use lib.ListN.{length, get_or}
 use borrow.Author.Count.{below_more}
-use lib.IntN.{pos}
 use mir.Syntax.{w32}
 use mir.Facts.{to_z-of_z}
 use Rattle.rules.specs.Limits.{variable_size}
-use Rattle.rules.specs.Number.{Fits}
 use Rattle.rules.specs.Job.{listed}
 use Rattle.rules.specs.Write.{variable, variable_bytes}
 use Rattle.writer.specs.Area.{replaced, lent_variable}

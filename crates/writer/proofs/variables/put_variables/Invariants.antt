@@ -1,18 +1,12 @@
-use mathlib.Core.Path.{◌≡◌, refl, sym, ap, ◌∙◌}
+use mathlib.Core.Path.{◌≡◌}
 use mathlib.Core.List.{flat_map}
-use Prim.Native.Nat.{ℕ, ◌-◌, ◌*◌, ◌<◌, ◌≤◌}
-use native.Mathlib.Omega.{arith}
+use Prim.Native.Nat.{ℕ, ◌-◌, ◌<◌, ◌≤◌}
 use lib.ListN.{length, get_or}
-use borrow.Author.Count.{below_more}
 use lib.IntN.{pos}
-use mir.Syntax.{w32}
-use mir.Facts.{to_z-of_z}
-use Rattle.rules.specs.Limits.{variable_size}
 use Rattle.rules.specs.Number.{Fits}
 use Rattle.rules.specs.Job.{listed}
-use Rattle.rules.specs.Write.{variable, variable_bytes}
+use Rattle.rules.specs.Write.{variable_bytes}
 use Rattle.writer.specs.Area.{replaced, lent_variable}
-use Rattle.writer.proofs.Area.{replaced_none, variables_more}
 use Rattle.writer.proofs.variables.put_variables.Given as goal
 
 abbrev pub invariant-loop-i : goal.invariant-loop-i

@@ -1,11 +1,10 @@
 -- The invariant: so many of the first places have a mark. Assumes nothing.
 use mathlib.Core.Path.{◌≡◌, refl, subst}
-use Prim.Native.Nat.{◌+◌, ◌-◌, ◌≤◌}
+use Prim.Native.Nat.{◌+◌}
 use native.Mathlib.Omega.{arith}
 use Rattle.lent.specs.Stands.{seen}
 use Rattle.table.proofs.Counting.{sum_to}
 use Rattle.writer.proofs.Tally.{counted, tally_more, tally_most}
-use borrow.Author.Rules.{rules}
 use Rattle.writer.proofs.write.count.Goals as goal
 
 pub loop-x-init : goal.loop-x-init

@@ -2,7 +2,6 @@
 use mathlib.Core.Path.{sym}
 use native.Mathlib.Omega.{arith}
 use Rattle.lent.proofs.Walking.{flag_pos}
-use borrow.Author.Rules.{rules}
 use Rattle.writer.proofs.write.one.Goals as goal
 
 pub returns-else-mark-eq0 : goal.returns-else-mark-eq0

@@ -2,7 +2,6 @@
 use mathlib.Core.Path.{sym, subst}
 use Rattle.writer.specs.Nodes.{Listable}
 use Rattle.writer.proofs.Stores.{whole_put}
-use borrow.Author.Rules.{rules}
 use Rattle.writer.proofs.write.put_job.Goals as goal
 
 pub put_nodes-requires : goal.put_nodes-requires

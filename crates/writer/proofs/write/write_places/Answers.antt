@@ -1,12 +1,10 @@
 -- The checks in their order; the marks tell how many nodes there are. Assumes nothing.
 use mathlib.Core.Path.{refl, subst}
 use native.Mathlib.Omega.{arith}
-use borrow.Author.Tests.{not-true, not-false}
 use Rattle.monitor.specs.Promises.{lent}
 use Rattle.monitor.specs.Follow.{Storable}
 use Rattle.writer.specs.Writes.{unstorable, crowded}
 use Rattle.writer.proofs.Checked.{sound, short_over, whole, long_over}
-use borrow.Author.Rules.{rules}
 use Rattle.writer.proofs.write.write_places.Goals as goal
 
 pub returns-then-not-storable : goal.returns-then-not-storable
