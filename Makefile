@@ -37,17 +37,16 @@ test:
 	@bash tests/gate
 
 check:
-	rt check
+	rt all test
 
 fmt:
-	rt fmt
+	@for crate in crates/*/; do (cd "$$crate" && rt fmt) || exit 1; done
 
 programs:
 	@bash tools/build board inspect replay history rounds clean arrange summary
 
 lib:
-	rt staticlib portal
-	cp target/staticlib/libportal.a include/libportal.a
+	@bash tools/build portal
 
 # It proves nothing and builds nothing, so that it can be run by whoever may write to PREFIX.
 install:
@@ -69,5 +68,5 @@ soak:
 	@bash -euc '. tests/harness.sh; "$$harness/soak"; "$$harness/soak" --rounds "$$ROUNDS"'
 
 clean:
-	rm -rf target reference/target include/libportal.a
+	rm -rf target reference/target include/libportal.a crates/*/out
 	find tools tests -name __pycache__ -type d -prune -exec rm -rf '{}' +

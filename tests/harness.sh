@@ -2,10 +2,10 @@
 # After it: $REPLAY, $HISTORY, $ROUNDS, $CLEAN, $ARRANGE, $PORTAL_LIB_DIR and $harness, the folder of the programs. What is built stays for the next test.
 cd "$(dirname "${BASH_SOURCE[0]}")/.."
 export REPLAY=$PWD/target/bin/replay HISTORY=$PWD/target/bin/history ROUNDS=$PWD/target/bin/rounds CLEAN=$PWD/target/bin/clean ARRANGE=$PWD/target/bin/arrange
-export PORTAL_LIB_DIR=$PWD/target/staticlib
+export PORTAL_LIB_DIR=$PWD/include
 
-# A file that is missing or older than a source.
-stale() { [ ! -e "$1" ] || [ -n "$(find crates crates.txt -newer "$1" -print -quit)" ]; }
+# A file that is missing or older than a source. (What rt keeps in crates/*/out is none.)
+stale() { [ ! -e "$1" ] || [ -n "$(find crates crates.txt -name out -prune -o -type f -newer "$1" -print -quit)" ]; }
 
 if stale "$PORTAL_LIB_DIR/libportal.a"; then make --silent lib; fi
 programs=(target/bin/board target/bin/inspect target/bin/summary "$REPLAY" "$HISTORY" "$ROUNDS" "$CLEAN" "$ARRANGE")

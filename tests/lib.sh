@@ -6,7 +6,7 @@ checked=0
 
 # The path of a program, which is built where it is missing.
 program() {
-  [ -x "target/bin/$1" ] || rt check "$1" >&2
+  [ -x "target/bin/$1" ] || bash tools/build "$1" >&2
   echo "$PWD/target/bin/$1"
 }
 

@@ -36,7 +36,7 @@ def program(name):
     """A program of the repository. Without it there is nothing to test."""
     path = HOME / "target" / "bin" / name
     if not path.is_file():
-        raise RuntimeError(f"{path} is missing: run `rt check {name}` first")
+        raise RuntimeError(f"{path} is missing: run `tools/build {name}` first")
     return str(path)
 
 
