@@ -80,7 +80,7 @@ class Source(unittest.TestCase):
 
 class Machine(unittest.TestCase):
     def test_as_it_stands(self):
-        library = WORK / "target" / "staticlib" / "libmean.a"
+        library = WORK / "include" / "libmean.a"
         self.assertEqual(machine_faults(library), [])
         self.assertIn("ret", [one.split()[0] for one in instructions(library)["mean_of"]])
 
