@@ -10,7 +10,7 @@ from support import HOME
 
 TEXT = (HOME / "docs" / "ARCHITECTURE.md").read_text(encoding="utf-8")
 SECTIONS = dict(re.findall(r"^## ([^\n]+)\n(.*?)(?=^## |\Z)", TEXT, re.M | re.S))
-CRATES = re.findall(r"^(\w+):", (HOME / "crates.txt").read_text(encoding="utf-8"), re.M)
+CRATES = re.findall(r"^(\w+)(?: staticlib)?:", (HOME / "crates.txt").read_text(encoding="utf-8"), re.M)
 TICKED = re.findall(r"`([^`\n]+)`", TEXT)
 
 
@@ -111,7 +111,7 @@ class Names(unittest.TestCase):
         """A single word: a name of the sources, the proofs, the tools, the tests, or of a file."""
         folders = ("crates", "tools", "tests", "reference", "include", "examples")
         paths = [path for folder in folders for path in (HOME / folder).rglob("*")
-                 if path.is_file() and "target" not in path.parts and path.suffix not in (".a", ".pyc") and path.parent.name != "must-fail"]
+                 if path.is_file() and not {"target", "out"} & set(path.parts) and path.suffix not in (".a", ".pyc") and path.parent.name != "must-fail"]
         known = {path.stem for path in paths} | {path.name for path in paths} | {path.parent.name for path in paths}
         for path in paths:
             known.update(re.findall(r"[\w-]+", path.read_text(encoding="utf-8", errors="replace")))

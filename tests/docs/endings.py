@@ -103,8 +103,8 @@ class Lists(unittest.TestCase):
                          {(page.rules_name, page.number) for page in PAGES.values()})
 
     def test_definitions(self):
-        refusals = re.findall(r"^(?:bad\w+|noPlace) = (\d+)$", read("crates/rules/specs/Limits.antt"), re.M)
-        stops = re.findall(r"^stopNumber \w+ = (\d+)$", read("crates/rules/specs/Run.antt"), re.M)
+        refusals = re.findall(r"^(?:bad_\w+|no_place) = (\d+)$", read("crates/rules/specs/Limits.antt"), re.M)
+        stops = re.findall(r"^stop_number \w+ = (\d+)$", read("crates/rules/specs/Run.antt"), re.M)
         self.assertEqual([int(number) for number in refusals + stops], NUMBERS)
 
 

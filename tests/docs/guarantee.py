@@ -80,7 +80,7 @@ class Examples(unittest.TestCase):
     def test_leaves_is_what_is_proved(self):
         """The proved pair: the first script stops with 21 in one history alone, and the line behind it differs."""
         trials = (HOME / "crates/rules/proofs/HistoryTrials.antt").read_text(encoding="utf-8")
-        (body,) = re.findall(r"^pub stop-tells :\n(.*?)^unfolding", trials, re.M | re.S)
+        (body,) = re.findall(r"^pub stop_tells :\n(.*?)^unfolding", trials, re.M | re.S)
         (left, right) = (re.findall(r"came (\d+) \d+ (?:\[\]|\(pos (\d+) ∷ \[\]\))", half) for half in body.split("×"))
         self.assertEqual(([ending for ending, _ in left], [ending for ending, _ in right]), (["21", "0"], ["0", "0"]))
         self.assertNotEqual(left[1], right[1])

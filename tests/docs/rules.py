@@ -49,7 +49,7 @@ class Commands(unittest.TestCase):
         self.assertEqual({row[1].strip("`") for row in self.rows if not row[3]}, {"nothing", "if ..", "else", "while ..", "end", "if .. and come back"})
 
     def test_every_command_is_in_the_definitions(self):
-        (count,) = re.findall(r"^commandCount = (\d+)$", read("crates/rules/specs/Limits.antt"), re.M)
+        (count,) = re.findall(r"^command_count = (\d+)$", read("crates/rules/specs/Limits.antt"), re.M)
         self.assertEqual(len(self.rows), int(count))
 
 
@@ -85,16 +85,16 @@ class FollowOn(unittest.TestCase):
 
     def test_a_store_is_kept(self):
         self.assertIn("It is proved that what a job or a script leaves is never a reason for 11.", " ".join(TEXT.split()))
-        self.assertRegex(read("crates/rules/proofs/Stores.antt"), r"(?m)^pub store-kept : StoreKept$")
+        self.assertRegex(read("crates/rules/proofs/Stores.antt"), r"(?m)^pub store_kept : StoreKept$")
 
 
 class Limits(unittest.TestCase):
     def test_most(self):
         """The largest numbers are those of the definitions, and none is left out."""
         rows = {row[0]: number(row[2]) for row in table("what | least | most")}
-        found = dict(re.findall(r"^(max\w+) = (\d+)$", read("crates/rules/specs/Limits.antt"), re.M))
-        names = {"bytes of a job": "maxBytes", "variables": "maxVariables", "nodes": "maxNodes", "script records": "maxRecords",
-                 "nested blocks": "maxDepth", "budget, in steps": "maxBudget", "unended runs that take turns": "maxRuns"}
+        found = dict(re.findall(r"^(max_\w+) = (\d+)$", read("crates/rules/specs/Limits.antt"), re.M))
+        names = {"bytes of a job": "max_bytes", "variables": "max_variables", "nodes": "max_nodes", "script records": "max_records",
+                 "nested blocks": "max_depth", "budget, in steps": "max_budget", "unended runs that take turns": "max_runs"}
         self.assertEqual(set(found), set(names.values()))
         self.assertEqual(rows, {what: int(found[name]) for what, name in names.items()})
 
