@@ -4,8 +4,8 @@ cd "$(dirname "${BASH_SOURCE[0]}")/.."
 export REPLAY=$PWD/target/bin/replay HISTORY=$PWD/target/bin/history ROUNDS=$PWD/target/bin/rounds CLEAN=$PWD/target/bin/clean ARRANGE=$PWD/target/bin/arrange
 export PORTAL_LIB_DIR=$PWD/include
 
-# A file that is missing or older than a source. (What rt keeps in crates/*/out is none.)
-stale() { [ ! -e "$1" ] || [ -n "$(find crates crates.txt -name out -prune -o -type f -newer "$1" -print -quit)" ]; }
+# A file that is missing or older than a source. (What rt keeps in crates/*/out is none, nor is an edit.)
+stale() { [ ! -e "$1" ] || [ -n "$(find crates crates.txt '(' -name out -o -name edits -o -name must-fail ')' -prune -o -type f -newer "$1" -print -quit)" ]; }
 
 if stale "$PORTAL_LIB_DIR/libportal.a"; then make --silent lib; fi
 programs=(target/bin/board target/bin/inspect target/bin/summary "$REPLAY" "$HISTORY" "$ROUNDS" "$CLEAN" "$ARRANGE")
