@@ -3,7 +3,7 @@ ghost use Rattle.std.specs.Prelude.{◌≡◌, ◌%◌, ◌<◌};
 ghost use Rattle.table.specs.Cells.{cell_size, cell, gone, word, word_of, ByteLevels, label_new, cells, Within};
 ghost use Rattle.table.specs.Steps.{with_word, with_label, Put, LedBack, one_more, one_less};
 
-use super::levels::{low, wide};
+use super::levels::low;
 use super::shape::NewNode;
 
 pub const PARENT: usize = 2;
@@ -24,13 +24,6 @@ pub const LAST: usize = 9;
 
 // 2 ^ 32: how many numbers a word has.
 const RANGE: usize = 4294967296;
-
-// A word as a place.
-pub fn index(x: u32) -> usize
-    ensures { result ≡ x }
-{
-    x as usize
-}
 
 // A place as a word.
 pub fn word_of(x: usize) -> u32
@@ -53,7 +46,7 @@ pub fn link(words: &[u32], places: usize, x: usize, j: usize) -> usize
     requires { Within words.now places x × (j < cell_size) }
     ensures { result ≡ word words.now x j }
 {
-    index(get(words, places, x, j))
+    get(words, places, x, j) as usize
 }
 
 // The level in word j of the cell at x.
@@ -90,10 +83,10 @@ fn set_label(words: &mut [u32], places: usize, x: usize, node: NewNode)
     ensures put { Put (cells words.old) (cells words.new) x (with_label (label_new node) (cells words.old x)) }
     ensures byte_levels { ByteLevels (label_new node) }
 {
-    store(words, places, x, EXISTENCE, wide(node.existence));
+    store(words, places, x, EXISTENCE, u32::from(node.existence));
     store(words, places, x, VALUE, node.value);
-    store(words, places, x, CONTENT, wide(node.content));
-    store(words, places, x, STRUCTURE, wide(node.structure));
+    store(words, places, x, CONTENT, u32::from(node.content));
+    store(words, places, x, STRUCTURE, u32::from(node.structure));
 }
 
 // Fills the cell at x but for its children.
@@ -123,7 +116,7 @@ pub fn lead_back(words: &mut [u32], places: usize, next: u32, u: usize, prev: u3
     requires { Within words.old places u }
     ensures { LedBack (cells words.old) places next u prev (cells words.new) }
 {
-    let at = index(next);
+    let at = next as usize;
     if at < places {
         store(words, places, at, LEFT, prev);
     } else {
@@ -135,13 +128,13 @@ pub fn lead_back(words: &mut [u32], places: usize, next: u32, u: usize, prev: u3
 fn one_more(j: u32) -> u32
     ensures { result ≡ one_more j }
 {
-    word_of(index(j) + 1)
+    j.wrapping_add(1)
 }
 
 fn one_less(j: u32) -> u32
     ensures { result ≡ one_less j }
 {
-    word_of(index(j) + (RANGE - 1))
+    j.wrapping_sub(1)
 }
 
 // Counts one child more at x.

@@ -1,11 +1,5 @@
 // A level is a byte; in a cell it has a word of its own.
-ghost use Rattle.std.specs.Prelude.{◌≡◌, ◌%◌, ◌<◌};
-
-pub fn wide(x: u8) -> u32
-    ensures { (result ≡ x) × (result < 256) }
-{
-    x as u32
-}
+ghost use Rattle.std.specs.Prelude.{◌≡◌, ◌%◌};
 
 pub fn low(x: u32) -> u8
     ensures { result ≡ x % 256 }

@@ -11,8 +11,8 @@ pub mod since;
 mod space;
 pub mod walk;
 
-pub use cells::{PARENT, index, store, word_of};
-pub use levels::{low, wide};
+pub use cells::{PARENT, store, word_of};
+pub use levels::low;
 use rules::limits::MAX_NODES;
 
 // How many words a place takes.

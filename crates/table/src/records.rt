@@ -2,7 +2,6 @@
 // front of those children of its parent that are there already.
 ghost use Rattle.std.specs.Prelude.{◌≡◌, ◌+◌, ◌*◌, ◌<◌, ◌≤◌, length};
 ghost use Rattle.rules.specs.Limits.{max_nodes};
-ghost use Rattle.rules.specs.Bytes as Bytes;
 ghost use Rattle.rules.specs.Check.{parent};
 ghost use Rattle.rules.specs.Job.{label_of};
 ghost use Rattle.table.specs.Cells.{cell_size, label_new, cells, Within};
@@ -11,30 +10,9 @@ ghost use Rattle.table.specs.Steps.{Cleared, Entered};
 
 use super::cells;
 use super::cells::word_of;
-use super::levels::wide;
 use super::shape::NewNode;
-
-// How many bytes a node record takes.
-const RECORD: usize = 12;
-
-// The 16-bit number at a place.
-fn half(job: &[u8], at: usize) -> usize
-    requires { at + 2 ≤ length job.now }
-    ensures { result ≡ Bytes.half job.now at }
-{
-    cells::index(wide(job[at]) + wide(job[at + 1]) * 256)
-}
-
-// The 32-bit number at a place.
-fn full(job: &[u8], at: usize) -> u32
-    requires { at + 4 ≤ length job.now }
-    ensures { result ≡ Bytes.full job.now at }
-{
-    wide(job[at])
-        + wide(job[at + 1]) * 256
-        + wide(job[at + 2]) * 65536
-        + wide(job[at + 3]) * 16777216
-}
+use fields::reads::{full_at, half_at};
+use rules::limits::NODE_SIZE;
 
 // Leaves the first n places with no children.
 fn clear(words: &mut [u32], n: usize)
@@ -42,10 +20,8 @@ fn clear(words: &mut [u32], n: usize)
     ensures cleared { Cleared (cells words.new) n }
     ensures behind { Behind n (cells words.old) (cells words.new) }
 {
-    let mut x = 0;
-    while x < n {
+    for x in 0..n {
         cells::clear(words, n, x);
-        x += 1;
     }
 }
 
@@ -72,14 +48,14 @@ fn enter(job: &[u8], base: usize, n: usize, words: &mut [u32], x: usize)
     ensures { Entered n (parent job.now base x) x (label_of job.now base x)
         (cells words.old) (cells words.new) }
 {
-    let at = base + RECORD * x;
+    let at = base + NODE_SIZE * x;
     let node = NewNode {
-        value: full(job, at + 8),
+        value: full_at(job, at + 8),
         existence: job[at + 2],
         content: job[at + 3],
         structure: job[at + 4],
     };
-    place(words, n, x, half(job, at), node);
+    place(words, n, x, half_at(job, at), node);
 }
 
 // Loads n node records, from `base` on in the job: their tree stands in the first n places, the root at place 0, and no place is free but those
@@ -90,9 +66,7 @@ pub fn load(job: &[u8], base: usize, n: usize, words: &mut [u32])
     ensures behind { Behind n (cells words.old) (cells words.new) }
 {
     clear(words, n);
-    let mut x = n;
-    while 1 < x {
-        x -= 1;
+    for x in (1..n).rev() {
         enter(job, base, n, words, x);
     }
     enter(job, base, n, words, 0);

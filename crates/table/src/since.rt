@@ -6,7 +6,7 @@ ghost use Rattle.rules.specs.Limits.{max_nodes};
 ghost use Rattle.table.specs.Cells.{cell_size, cells, Within};
 ghost use Rattle.table.specs.Since.{number, kept, Clears, Clearing};
 
-use super::cells::{index, word_of};
+use super::cells::word_of;
 use super::{cells, space};
 
 // Above every block's number.
@@ -37,14 +37,12 @@ fn clear(words: &mut [u32], places: usize, x: usize, since: &mut [u16])
     ensures { Clears places (cells words.old) (cells words.new) x since.old since.new }
 {
     let mut next = x;
-    let mut left = places;
-    while left > 0 {
+    for _passed in 0..places {
         if next >= places {
             return;
         }
         since[next] = NEVER;
         next = space::pop(words, places, next);
-        left -= 1;
     }
 }
 
@@ -56,5 +54,5 @@ pub(crate) fn forget(words: &mut [u32], places: usize, x: usize, since: &mut [u1
     since[x] = NEVER;
     let first = cells::get(words, places, x, super::FIRST);
     let below = space::push(words, places, first, word_of(super::NIL));
-    clear(words, places, index(below), since);
+    clear(words, places, below as usize, since);
 }

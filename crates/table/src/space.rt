@@ -4,7 +4,6 @@ ghost use Rattle.rules.specs.Limits.{max_nodes};
 ghost use Rattle.table.specs.Cells.{cell_size, cells, Within};
 ghost use Rattle.table.specs.Steps.{Pushed, Popped, Took};
 
-use super::cells::index;
 use super::{Taken, cells};
 
 // Puts the forest whose first place is x, if x is a place, onto the stack that `free` leads to; returns what leads to it then.
@@ -12,7 +11,7 @@ pub fn push(words: &mut [u32], places: usize, x: u32, free: u32) -> u32
     requires { (cell_size * places ≤ length words.old) × (places ≤ max_nodes) }
     ensures { Pushed (cells words.old) places x free (cells words.new) result }
 {
-    let at = index(x);
+    let at = x as usize;
     if at < places {
         cells::store(words, places, at, cells::PARENT, free);
         return x;
@@ -29,7 +28,7 @@ pub fn pop(words: &mut [u32], places: usize, x: usize) -> usize
     let right = cells::get(words, places, x, super::RIGHT);
     let first = cells::get(words, places, x, super::FIRST);
     let beside = push(words, places, right, rest);
-    index(push(words, places, first, beside))
+    push(words, places, first, beside) as usize
 }
 
 // Takes the first free place, or else the first place that was never used.

@@ -3,7 +3,7 @@ use Rattle.table.specs.Steps.{next, final}
 use Rattle.table.proofs.cells.lead_back.Goals as goal
 
 pub returns-then-at-places : goal.returns-then-at-places
-returns-then-at-places c = let e = c.index-at.ensures in next (rw e at c.if-at-places.true) (rw e at c.store.ensures)
+returns-then-at-places c = next c.if-at-places.true c.store.ensures
 
 pub returns-else-at-places : goal.returns-else-at-places
-returns-else-at-places c = final (rw c.index-at.ensures at c.if-at-places.false) c.store-else-at-places.ensures
+returns-else-at-places c = final c.if-at-places.false c.store-else-at-places.ensures

@@ -5,4 +5,4 @@ use Rattle.table.proofs.records.enter.Goals as goal
 
 pub returns : goal.returns
 unfolding parent label_of existence content structure
-returns c = rw (c.half.ensures, c.full.ensures) at c.place.ensures
+returns c = rw (c.half_at.ensures.0, c.full_at.ensures) at c.place.ensures

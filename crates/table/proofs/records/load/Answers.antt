@@ -1,5 +1,4 @@
--- The invariant: the records from x on are linked, if the parent rule holds, and the places behind n are as they were. The measure is x, the
--- records that wait. Assumes nothing.
+-- The invariant: the records from x on are linked, if the parent rule holds, and the places behind n are as they were. Assumes nothing.
 use mathlib.Core.Path.{◌≡◌, refl, ◌∙◌}
 use native.Mathlib.Omega.{arith}
 use Rattle.table.proofs.Behind.{then_behind}
@@ -8,22 +7,21 @@ use Rattle.table.proofs.Jobs.{linking_start, linking_step, loaded}
 use Rattle.table.proofs.records.load.Goals as goal
 
 pub loop-x-init : goal.loop-x-init
-loop-x-init c = (c.requires.some, omega arith, refl, λ _. linking_start c.args.job.now c.args.base c.args.n c.clear.ensures.cleared, record { same = λ _ _. refl })
+loop-x-init c = (c.requires.some, refl, λ _. linking_start c.args.job.now c.args.base c.args.n c.clear.ensures.cleared, record { same = λ _ _. refl })
 
 pub loop-x-preserved : goal.loop-x-preserved
 loop-x-preserved c = let i = c.loop-x.invariant in (
   omega arith,
-  omega arith,
-  c.enter.auto.words ∙ i.2,
+  c.enter.auto.words ∙ i.1,
   λ r.
-      linking_step c.args.job.now c.args.base c.loop-x.x c.requires.few c.loop-x-test.true i.1 r (i.3 r)
+      linking_step c.args.job.now c.args.base c.loop-x.x c.requires.few c.loop-x-test.true c.loop-x.auto.x r (i.2 r)
       c.enter.ensures,
-  then_behind i.4 (entered_behind (omega arith) c.enter.ensures),
+  then_behind i.3 (entered_behind (omega arith) c.enter.ensures),
 )
 
 pub returns : goal.returns
 returns c = let e : c.loop-x.x ≡ 1 = omega arith in
     let i = c.loop-x.invariant in record {
-      loaded = loaded c.args.job.now c.args.base c.args.n c.requires.some (rw e at i.3) c.enter-2.ensures;
-      behind = then_behind (then_behind c.clear.ensures.behind i.4) (entered_behind c.requires.some c.enter-2.ensures);
+      loaded = loaded c.args.job.now c.args.base c.args.n c.requires.some (rw e at i.2) c.enter-2.ensures;
+      behind = then_behind (then_behind c.clear.ensures.behind i.3) (entered_behind c.requires.some c.enter-2.ensures);
     }

@@ -15,7 +15,7 @@ shape_of-since c = c.clear.ensures.size ∙ simp length-set
 pub returns : goal.returns
 unfolding cells
 returns c = let p = rw (c.get-first.ensures, c.word_of.ensures, fits gone (omega arith)) at c.push-below.ensures in
-    let w = rw c.index.ensures at c.clear.ensures in
+    let w = c.clear.ensures in
     record {
       behind = then_behind (pushed_behind p) w.behind;
       done = λ used d room e h once. forgotten d (omega (arith, c.requires.0.few)) room (omega (arith, c.requires)) p w e h once;

@@ -5,5 +5,4 @@ use Rattle.table.proofs.space.pop.Goals as goal
 
 pub returns : goal.returns
 unfolding cells
-returns c = rw c.index.ensures
-    (popped c.get-right.ensures c.get-rest.ensures c.get-first.ensures c.push-beside.ensures c.push.ensures)
+returns c = popped c.get-right.ensures c.get-rest.ensures c.get-first.ensures c.push-beside.ensures c.push.ensures

@@ -4,7 +4,7 @@ use Rattle.table.specs.Steps.{some, none}
 use Rattle.table.proofs.space.push.Goals as goal
 
 pub returns-then-at-places : goal.returns-then-at-places
-returns-then-at-places c = let e = c.index-at.ensures in some (rw e at c.if-at-places.true) (rw e at c.store.ensures) refl
+returns-then-at-places c = some c.if-at-places.true c.store.ensures refl
 
 pub returns : goal.returns
-returns c = none (rw c.index-at.ensures at c.if-at-places.false) (λ y. refl) refl
+returns c = none c.if-at-places.false (λ y. refl) refl
