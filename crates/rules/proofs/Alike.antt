@@ -3,7 +3,8 @@
 use mathlib.Core.Path.{◌≡◌, refl, sym, ◌∙◌, ap, subst}
 use Prim.Native.Nat.{ℕ}
 use mathlib.Core.Bool.{true, false}
-use mathlib.Core.Option.{some, some-injective}
+use mathlib.Core.Option.{some-injective}
+use Rattle.std.specs.Prelude.{Some}
 use mathlib.Core.List.{map}
 use lib.ListN.{get_or, get_or-map}
 use lib.IntN.{pos}
@@ -163,7 +164,7 @@ module _ (o : Level) where
 
     pub expressions : (e : Expression) → Agrees (level_of m₁ e) (level_of m₂ e) (value m₁ e) (value m₂ e)
     unfolding level_of value
-    expressions (alone a) = agree_map some (operands a)
+    expressions (alone a) = agree_map Some (operands a)
     expressions (both f a b) = joined (apply f) (operands a) (operands b)
 
     -- where a move to the last child leads

@@ -6,7 +6,7 @@ use Prim.Native.Nat.{ℕ, zero, suc, ◌+◌, ◌-◌, ◌≤◌, ◌<◌}
 use native.Mathlib.Omega.{arith}
 use native.Mathlib.Decide.{ℕ_discrete}
 use mathlib.Core.Bool.{true, false}
-use mathlib.Core.Option.{Option, none, some}
+use Rattle.std.specs.Prelude.{Option, None, Some}
 use mathlib.Core.List.{List}
 use lib.Dec.{eqb, eqb-suc-zero}
 use borrow.Author.Tests.{eqb-true, ltb-true, eq-eqb, ne_eqb}
@@ -21,8 +21,8 @@ use Rattle.rules.proofs.Accepted.{parent_before}
 module _ (b : List ℕ) (base n : ℕ) (few : n ≤ 512) (parents : (i : ℕ) → i < n → parent_rule b base i ≡ true) where
   -- the existence of the record found to the left, or of the parent p where there is none
   left_of : ℕ → Option ℕ → Level
-  left_of p none = existence b base p
-  left_of p (some j) = existence b base j
+  left_of p None = existence b base p
+  left_of p (Some j) = existence b base j
 
   low_at : ℕ → ℕ → Level
   low_at p i = left_of p (nearest b base p i)
@@ -33,7 +33,7 @@ module _ (b : List ℕ) (base n : ℕ) (few : n ≤ 512) (parents : (i : ℕ) �
   not_parent zero i a h = let e = eqb-true (parent b base 0) 65535 (parents 0 (omega arith)) in ne_eqb _ i (λ q. omega arith)
   not_parent (suc j) i a h = let e = ltb-true (parent b base (suc j)) (suc j) (rw (eqb-suc-zero j) at (parents (suc j) (omega arith))) in ne_eqb _ i (λ q. omega arith)
 
-  none_left : (i k : ℕ) → k ≤ suc i → i < n → nearest b base i k ≡ none
+  none_left : (i k : ℕ) → k ≤ suc i → i < n → nearest b base i k ≡ None
   unfolding nearest
   none_left i zero a h = refl
   none_left i (suc k) a h = rw (not_parent k i (omega arith) h) (none_left i k (omega arith) h)
@@ -72,8 +72,8 @@ module _ (b : List ℕ) (base n : ℕ) (few : n ≤ 512) (parents : (i : ℕ) �
     above_left : (i p : ℕ) (w : Option ℕ) → not_above (existence b base p) (existence b base i) ≡ true → left_rule b base i w ≡ true
         → not_above (left_of p w) (existence b base i) ≡ true
     unfolding left_rule left_of
-    above_left i p none h k = h
-    above_left i p (some j) h k = k
+    above_left i p None h k = h
+    above_left i p (Some j) h k = k
 
     fit_child : (i p : ℕ) → 1 ≤ i → i < n → parent b base i ≡ p → Fit (low_at p i) (structure b base p) (label_of b base i)
     unfolding node_rule child_rule low_at label_of
@@ -120,8 +120,8 @@ module _ (b : List ℕ) (base n : ℕ) (few : n ≤ 512) (parents : (i : ℕ) �
 
   left_rule_law : (i p : ℕ) (w : Option ℕ) → not_above (left_of p w) (existence b base i) ≡ true → left_rule b base i w ≡ true
   unfolding left_rule left_of
-  left_rule_law i p none h = refl
-  left_rule_law i p (some j) h = h
+  left_rule_law i p None h = refl
+  left_rule_law i p (Some j) h = h
 
   -- the rules for a record with the parent p, its children and its right siblings
   record Head (k i p : ℕ) : Type 0 where

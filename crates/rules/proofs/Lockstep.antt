@@ -4,6 +4,8 @@ use mathlib.Core.Path.{◌≡◌, refl, sym, ◌∙◌, ap}
 use Prim.Native.Nat.{ℕ, zero, suc}
 use mathlib.Core.Bool.{true, false}
 use mathlib.Core.Option.{Option, none, some, some-injective}
+use Rattle.std.specs.Prelude.{Some}
+use Rattle.std.proofs.lemmas.Option.{same_Some}
 use mathlib.Core.List.{List, [], ◌∷◌, map}
 use lib.ListN.{set}
 use lib.IntN.{ℤ}
@@ -58,11 +60,11 @@ module _ (o : Level) where
       (lent₁ lent₂ : Buffers) (pc : Level) (light : visible o pc ≡ true) (m₁ m₂ : Memory) (s₁ : Sound m₁) (s₂ : Sound m₂) (v : view o m₁ ≡ view o m₂)
     where
       -- two values that an expression has, one where its level is visible
-      one_value : (e : Expression) (y z : ℤ) → value m₁ e ≡ some y → value m₂ e ≡ some z → visible o (level_of m₁ e) ≡ true → y ≡ z
-      one_value e y z a b k = some-injective y z (sym a ∙ agree_value o (expressions o m₁ m₂ s₁ s₂ v e) k ∙ b)
+      one_value : (e : Expression) (y z : ℤ) → value m₁ e ≡ Some y → value m₂ e ≡ Some z → visible o (level_of m₁ e) ≡ true → y ≡ z
+      one_value e y z a b k = same_Some y z (sym a ∙ agree_value o (expressions o m₁ m₂ s₁ s₂ v e) k ∙ b)
 
       -- and so where that level, joined with another, is not above a visible one
-      value_eq : (e : Expression) (y z : ℤ) → value m₁ e ≡ some y → value m₂ e ≡ some z → (x l : Level)
+      value_eq : (e : Expression) (y z : ℤ) → value m₁ e ≡ Some y → value m₂ e ≡ Some z → (x l : Level)
           → not_above (join (level_of m₁ e) x) l ≡ true → visible o l ≡ true → y ≡ z
       value_eq e y z a b x l h k = one_value e y z a b (vis_left o _ _ (vis_down o _ _ h k))
 
@@ -182,7 +184,7 @@ module _ (o : Level) where
 
       -- 11 and 12
       new_eq : visible o m₁.level ≡ true → m₁.cursor ≡ m₂.cursor → m₁.level ≡ m₂.level → (b k : Level) (e : Expression) (y z : ℤ)
-          → value m₁ e ≡ some y → value m₂ e ≡ some z → cut_label o (new_label pc m₁ b k e y) ≡ cut_label o (new_label pc m₂ b k e z)
+          → value m₁ e ≡ Some y → value m₂ e ≡ Some z → cut_label o (new_label pc m₁ b k e y) ≡ cut_label o (new_label pc m₂ b k e z)
       unfolding cut_label with_value new_label flow_of
       new_eq a p l b k e y z d g =
           let h = position_eq l in

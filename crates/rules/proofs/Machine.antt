@@ -1,14 +1,14 @@
 -- A signed local holds a number's bits, and whoever uses it reads the number back from them. A number that fits comes back as it
 -- was, so that casts, operands and results may be taken for the numbers themselves. Assumes nothing.
 use mathlib.Core.Path.{◌≡◌, sym, ap, ap₂, subst, ◌∙◌}
-use Prim.Native.Nat.{ℕ, ◌<◌}
+use Prim.Native.Nat.{◌<◌}
 use native.Mathlib.Omega.{arith}
 use borrow.Author.Tests.{eqb-true, eqb-false}
-use lib.Dec.{T, eqb}
-use lib.IntN.{ℤ, pos, nat_abs, ◌+ℤ◌, ◌-ℤ◌}
-use lib.Signed.{mag, non_neg}
+use lib.Dec.{eqb}
+use lib.IntN.{ℤ, ◌+ℤ◌, ◌-ℤ◌}
+use lib.Signed.{mag}
 use mir.Syntax.{Width, w32, w64}
-use mir.Val.{Fits, SFits, to_z, of_z}
+use mir.Val.{SFits, to_z, of_z}
 use mir.Facts.{sfits_widen, to_z-of_z}
 use Rattle.rules.specs.Number as Number
 use Rattle.rules.specs.Number.{range, same}
@@ -30,32 +30,6 @@ module _ {w : Width} {x r : ℤ} (e : x ≡ r) (h : SFits w r) where
 -- a number of 32 bits is one of 64
 pub in_wide : {z : ℤ} → SFits w32 z → SFits w64 z
 in_wide h = sfits_widen {w = w32} tt h
-
--- i32 as i64
-module _ {z : ℤ} (h : SFits w32 z) where
-  pub widens : SFits w64 (kept w32 z)
-  widens = fits_as (to_z-of_z h) (in_wide h)
-
-  pub widened : kept w64 (kept w32 z) ≡ z
-  widened = read_as (to_z-of_z h) (in_wide h)
-
--- i64 as i32, where x comes out as r
-module _ {x r : ℤ} (e : x ≡ r) (h : SFits w32 r) where
-  pub fits_wide : SFits w64 x
-  fits_wide = fits_as e (in_wide h)
-
-  read_wide : kept w64 x ≡ r
-  read_wide = read_as e (in_wide h)
-
-  pub narrows : SFits w32 (kept w64 x)
-  narrows = fits_as read_wide h
-
-  pub narrowed : kept w32 (kept w64 x) ≡ r
-  narrowed = read_as read_wide h
-
--- a signed number as u32, where it comes out as n
-pub unsigned_fits : {x : ℤ} {n : ℕ} → x ≡ pos n → n < range → T (non_neg x) × Fits w32 (nat_abs x)
-unsigned_fits e h = subst (λ (z : ℤ). T (non_neg z) × Fits w32 (nat_abs z)) (sym e) (tt, record { fits = h })
 
 -- an operation in 64 bits on two numbers of 32, whose exact result is less than one turn from zero
 pub record Exact (op : ℤ → ℤ → ℤ) (x y : ℤ) : Type 0 where

@@ -2,7 +2,8 @@
 -- `signed` and `bits` read and write as the machine does, whose laws are the library's; the rest is by the signs. Assumes nothing.
 use mathlib.Core.Path.{◌≡◌, refl, sym, ap, subst, ◌∙◌}
 use mathlib.Core.Bool.{Bool, true, false, cond}
-use mathlib.Core.Option.{none, some, some-injective, none-ne-some}
+use Rattle.std.specs.Prelude.{None, Some}
+use Rattle.std.proofs.lemmas.Option.{none-some, same_Some}
 use Prim.Native.Nat.{ℕ, zero, suc, ◌+◌, ◌-◌, ◌<◌, ◌≤◌}
 use native.Mathlib.Omega.{arith}
 use borrow.Author.Tests.{ltb-true, ltb-false, lt-ltb, le-ltb, eq-eqb, ne_eqb}
@@ -10,7 +11,7 @@ use lib.Dec.{ltb}
 use lib.IntN.{ℤ, pos, negsuc, neg_ℤ, nat_abs, sub_ℕ, ◌+ℤ◌, ◌-ℤ◌}
 use lib.Signed.{mag, nat_abs-le, lt_z, shr_z}
 use mir.Syntax.{w32}
-use mir.Val.{SFits, sel, to_z, of_z}
+use mir.Val.{SFits, sel, to_z, of_z, bool_byte}
 use mir.Facts.{sfits_to_z, to_z-of_z, of_z-to_z}
 use Rattle.rules.specs.Number.{Fits, half_range, range, bits, signed, fitting, same, truth, equal, less, mean}
 use Rattle.rules.proofs.Tests.{Test, holds, fails, test}
@@ -57,29 +58,23 @@ bits_signed w h = bits_of_z (signed_fits w h) ∙ ap (of_z w32) (signed_to_z w) 
 
 -- ---- sums and differences
 
-pub sub_less : (a b : ℕ) → a < b → sub_ℕ a b ≡ negsuc (b - suc a)
-sub_less a b h = rw (lt-ltb a b h)
-
-pub sub_more : (a b : ℕ) → b ≤ a → sub_ℕ a b ≡ pos (a - b)
-sub_more a b h = rw (le-ltb a b h)
-
 -- what fits, and what does not
 
-pub fitting_in : (z : ℤ) → SFits w32 z → fitting z ≡ some z
+pub fitting_in : (z : ℤ) → SFits w32 z → fitting z ≡ Some z
 unfolding fitting
 fitting_in z h = rw (lt-ltb (mag z) half_range h.sfits)
 
-pub fitting_out : (z : ℤ) → half_range ≤ mag z → fitting z ≡ none
+pub fitting_out : (z : ℤ) → half_range ≤ mag z → fitting z ≡ None
 unfolding fitting
 fitting_out z h = rw (le-ltb (mag z) half_range h)
 
-pub fitting_fits : (z y : ℤ) → fitting z ≡ some y → SFits w32 y
+pub fitting_fits : (z y : ℤ) → fitting z ≡ Some y → SFits w32 y
 unfolding fitting
 fitting_fits z y e = by (test (ltb (mag z) half_range))
   where
     by : Test (ltb (mag z) half_range) → SFits w32 y
-    by (holds t) = subst (SFits w32) (some-injective z y (rw t at e)) (record { sfits = ltb-true (mag z) half_range t })
-    by (fails t) = let k : none ≡ some y = rw t at e in absurd (none-ne-some y k)
+    by (holds t) = subst (SFits w32) (same_Some z y (rw t at e)) (record { sfits = ltb-true (mag z) half_range t })
+    by (fails t) = let k : None ≡ Some y = rw t at e in absurd (none-some y k)
 
 mag_sub : (a b k : ℕ) → a < k → b ≤ k → mag (sub_ℕ a b) < k
 mag_sub a b k h g = by (ltb a b)
@@ -109,6 +104,12 @@ module _ {a b : ℤ} (ha : SFits w32 a) (hb : SFits w32 b) where
   mag_difference = mag_add a (neg_ℤ b) half_range ha.sfits (rw nat_abs_neg (nat_abs-le b hb.sfits))
 
 -- ---- tests
+
+-- the machine writes a test as 1 or 0
+pub truth_is : (t : Bool) → pos (bool_byte t) ≡ truth t
+unfolding truth
+truth_is true = refl
+truth_is false = refl
 
 pub truth_fits : (t : Bool) → SFits w32 (truth t)
 unfolding truth

@@ -3,8 +3,10 @@ use mathlib.Core.Path.{◌≡◌, refl}
 use Prim.Native.Nat.{ℕ}
 use mathlib.Core.Bool.{Bool, true, false}
 use mathlib.Core.Option.{Option, none, some}
+use Rattle.std.specs.Prelude.{None, Some}
 use mathlib.Core.List.{List}
 use lib.IntN.{ℤ}
+use Rattle.rules.specs.Number.{Value}
 use Rattle.rules.specs.Tree.{Place}
 use Rattle.rules.specs.Run.{Memory, Saved, Block, State, Stop, Result, next, stop, need, given, with_cursor, restore, leave, stepped, onward}
 
@@ -19,10 +21,10 @@ module _ {A : Type 0} where
   good_need P k true r h = h refl
   good_need P k false r h = tt
 
-  pub good_given : (P : A → Type 0) (v : Option ℤ) (r : ℤ → Result A) → ((z : ℤ) → Good P (r z)) → Good P (given v r)
+  pub good_given : (P : A → Type 0) (v : Value) (r : ℤ → Result A) → ((z : ℤ) → Good P (r z)) → Good P (given v r)
   unfolding given
-  good_given P (some z) r h = h z
-  good_given P none r h = tt
+  good_given P (Some z) r h = h z
+  good_given P None r h = tt
 
   pub good_map : (P Q : A → Type 0) → ((a : A) → P a → Q a) → (r : Result A) → Good P r → Good Q r
   good_map P Q f (next a) h = f a h
@@ -48,12 +50,12 @@ module _ {A : Type 0} where
   good₂_need R j k true false r q h = good₂_stop R r k
   good₂_need R j k false c r q h = tt
 
-  pub good₂_given : (R : A → A → Type 0) (v w : Option ℤ) (r q : ℤ → Result A)
-      → ((y z : ℤ) → v ≡ some y → w ≡ some z → Good₂ R (r y) (q z)) → Good₂ R (given v r) (given w q)
+  pub good₂_given : (R : A → A → Type 0) (v w : Value) (r q : ℤ → Result A)
+      → ((y z : ℤ) → v ≡ Some y → w ≡ Some z → Good₂ R (r y) (q z)) → Good₂ R (given v r) (given w q)
   unfolding given
-  good₂_given R (some y) (some z) r q h = h y z refl refl
-  good₂_given R (some y) none r q h = good₂_stop R (r y) _
-  good₂_given R none w r q h = tt
+  good₂_given R (Some y) (Some z) r q h = h y z refl refl
+  good₂_given R (Some y) None r q h = good₂_stop R (r y) _
+  good₂_given R None w r q h = tt
 
   pub good₂_of : (P Q : A → Type 0) (R : A → A → Type 0) → ((a b : A) → P a → Q b → R a b) → (r q : Result A) → Good P r → Good Q q → Good₂ R r q
   good₂_of P Q R f (next a) (next b) h k = f a b h k

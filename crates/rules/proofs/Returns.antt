@@ -6,10 +6,12 @@ use native.Mathlib.Omega.{arith}
 use mathlib.Core.Bool.{true, false}
 use mathlib.Core.Option
 use mathlib.Core.Option.{Option, none, some}
+use Rattle.std.specs.Prelude.{None, Some}
 use mathlib.Core.List.{List, [], ◌∷◌, ◌++◌, map, tail}
 use lib.ListN.{length}
 use lib.IntN.{ℤ}
 use borrow.Author.Tests.{lt-ltb, ltb-false}
+use Rattle.rules.specs.Number.{Value}
 use Rattle.rules.specs.Level.{Level, not_above}
 use Rattle.rules.specs.Tree.{Place}
 use Rattle.rules.specs.Script.{Expression, Command, fetch, number_at}
@@ -198,9 +200,9 @@ module _ (lent : Buffers) (cs : List Command) (closed : Closed cs) where
     unfolding step carried given j
     entered = pick (value s.memory e) (subst (λ c. carried s lent j c ≡ next s') f p)
       where
-        pick : (v : Option ℤ) → given v (λ z. next (enter_back s j e z)) ≡ next s' → Entered
-        pick none q = let z : true ≡ false = cc in clash refl z
-        pick (some z) q = record { value = z; after = cc }
+        pick : (v : Value) → given v (λ z. next (enter_back s j e z)) ≡ next s' → Entered
+        pick None q = let z : true ≡ false = cc in clash refl z
+        pick (Some z) q = record { value = z; after = cc }
 
     opened : Along (length s.blocks) (context (saving s e)) s.memory.level s'
     unfolding enter_back stepped saving

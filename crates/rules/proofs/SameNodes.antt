@@ -3,7 +3,7 @@ use mathlib.Core.Path.{◌≡◌, refl, ap, ap₂}
 use Prim.Native.Nat.{ℕ, zero, suc, ◌+◌, ◌-◌, ◌≤◌, ◌<◌}
 use native.Mathlib.Omega.{arith}
 use mathlib.Core.Bool.{true}
-use mathlib.Core.Option.{Option, none, some}
+use Rattle.std.specs.Prelude.{Option, None, Some}
 use mathlib.Core.List.{List}
 use lib.Dec.{eqb}
 use borrow.Author.Tests.{eqb-false}
@@ -57,10 +57,10 @@ module _
     nearest_same p zero h = refl
     nearest_same p (suc i) h = rw (parents i (omega arith), nearest_same p i (omega arith))
 
-    left_rule_law : (i : ℕ) (w : Option ℕ) → i < n → ((j : ℕ) → w ≡ some j → j < i) → left_rule c base i w ≡ left_rule b base i w
+    left_rule_law : (i : ℕ) (w : Option ℕ) → i < n → ((j : ℕ) → w ≡ Some j → j < i) → left_rule c base i w ≡ left_rule b base i w
     unfolding left_rule
-    left_rule_law i none h g = refl
-    left_rule_law i (some j) h g = let l = g j refl in rw (existence_same i h, existence_same j (omega arith))
+    left_rule_law i None h g = refl
+    left_rule_law i (Some j) h g = let l = g j refl in rw (existence_same i h, existence_same j (omega arith))
 
     child_rule_law : (i : ℕ) → i < n → parent b base i < i → child_rule c base i ≡ child_rule b base i
     unfolding child_rule

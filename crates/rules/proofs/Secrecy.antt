@@ -3,6 +3,8 @@
 use mathlib.Core.Path.{◌≡◌, refl, sym, ◌∙◌, ap, subst}
 use mathlib.Core.Logic.{inl, inr}
 use mathlib.Core.Option.{Option, none, some, some-injective}
+use Rattle.std.specs.Prelude.{Some}
+use Rattle.std.proofs.lemmas.Option.{same_Some}
 use Prim.Native.Nat.{ℕ, zero, suc, ◌+◌, ◌<◌}
 use native.Mathlib.Omega.{arith}
 use mathlib.Core.Bool.{Bool, true, false, cond}
@@ -120,9 +122,9 @@ module _ (o : Level) where
     guard_eq : (e : Expression) → visible o (level_of s.memory e) ≡ true → level_of s.memory e ≡ level_of t.memory e
     guard_eq e = agree_level o (expressions o s.memory t.memory hs.memory ht.memory w.seen e)
 
-    value_eq : (e : Expression) → visible o (level_of s.memory e) ≡ true → (y z : ℤ) → value s.memory e ≡ some y → value t.memory e ≡ some z → y ≡ z
+    value_eq : (e : Expression) → visible o (level_of s.memory e) ≡ true → (y z : ℤ) → value s.memory e ≡ Some y → value t.memory e ≡ Some z → y ≡ z
     value_eq e v y z a b =
-        some-injective y z (sym a ∙ agree_value o (expressions o s.memory t.memory hs.memory ht.memory w.seen e) v ∙ b)
+        same_Some y z (sym a ∙ agree_value o (expressions o s.memory t.memory hs.memory ht.memory w.seen e) v ∙ b)
 
     -- one context
     guards_eq : context s.blocks ≡ context t.blocks

@@ -6,9 +6,11 @@ use native.Mathlib.Nat.{zero-add, suc-add}
 use native.Mathlib.Omega.{arith}
 use mathlib.Core.Bool.{Bool, true, false}
 use mathlib.Core.Option.{Option, none, some}
+use Rattle.std.specs.Prelude.{None, Some}
 use mathlib.Core.List.{List, [], ◌∷◌}
 use lib.IntN.{ℤ}
 use lib.Dec.{eqb}
+use Rattle.rules.specs.Number.{Value}
 use Rattle.rules.specs.Level.{Level}
 use Rattle.rules.specs.Tree.{Place}
 use Rattle.rules.specs.Script.{Expression, Action, Command, act, fetch}
@@ -32,10 +34,10 @@ module _ {A : Type 0} where
     need_unspent k true r q h = h
     need_unspent k false r q h = q
 
-    given_unspent : (v : Option ℤ) (r : ℤ → Result A) → ((z : ℤ) → Unspent P (r z)) → Unspent P (given v r)
+    given_unspent : (v : Value) (r : ℤ → Result A) → ((z : ℤ) → Unspent P (r z)) → Unspent P (given v r)
     unfolding given stop_number
-    given_unspent (some z) r h = h z
-    given_unspent none r h = refl
+    given_unspent (Some z) r h = h z
+    given_unspent None r h = refl
 
     unspent_next : (r : Result A) (a : A) → r ≡ next a → Unspent P r → P a
     unspent_next r a e h = rw e at h

@@ -1,6 +1,5 @@
 -- The checks of a job's bytes, 1 to 8 in order of number with 13 before 6 and 12 before 8, and the editions of them. Assumes nothing.
-use Rattle.std.specs.Prelude.{ℕ, zero, suc, ◌+◌, ◌-◌, ◌%◌, Bool, true, false, ◌&&◌, ◌||◌, not, cond, List, [], ◌∷◌, length, leb, ltb, eqb}
-use Rattle.std.proofs.Math.Option.{Option, none, some}
+use Rattle.std.specs.Prelude.{ℕ, zero, suc, ◌+◌, ◌-◌, ◌%◌, Bool, true, false, ◌&&◌, ◌||◌, not, cond, List, [], ◌∷◌, length, leb, ltb, eqb, Option, None, Some}
 use Rattle.rules.specs.Limits.{max_variables, max_nodes, max_records, max_bytes, trailer_size, variable_size, node_size, record_size, no_parent, command_count, bad_length, bad_offsets, bad_count, bad_variable, bad_parent, bad_node, bad_record, bad_block, bad_spare, bad_order}
 use Rattle.rules.specs.Level.{public, not_above, is_level}
 use Rattle.rules.specs.Script.{Row, row_of}
@@ -58,13 +57,13 @@ module _ (b : List ℕ) (base : ℕ) where
 
   -- "left means the nearest earlier record with the same parent": the nearest record before i with the parent p
   unfoldable pub nearest : ℕ → ℕ → Option ℕ
-  nearest p zero = none
-  nearest p (suc i) = cond (eqb (parent i) p) (some i) (nearest p i)
+  nearest p zero = None
+  nearest p (suc i) = cond (eqb (parent i) p) (Some i) (nearest p i)
 
   -- 6: the existence of node i is "not below that of the sibling to its left"
   unfoldable pub left_rule : ℕ → Option ℕ → Bool
-  left_rule i none = true
-  left_rule i (some j) = not_above (existence j) (existence i)
+  left_rule i None = true
+  left_rule i (Some j) = not_above (existence j) (existence i)
 
   -- 6: "not below its parent's existence, not above its parent's list level", and the rule of its left sibling
   unfoldable pub child_rule : ℕ → Bool

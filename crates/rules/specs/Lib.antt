@@ -2,7 +2,6 @@
 pub mod Limits
 pub mod Level
 pub mod Number
-pub mod Answers
 pub mod Tree
 pub mod Script
 pub mod Blocks

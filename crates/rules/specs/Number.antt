@@ -1,6 +1,5 @@
 -- Signed 32-bit numbers: their bits, and what each operator makes of two of them. Assumes nothing.
-use Rattle.std.specs.Prelude.{ℕ, ◌-◌, ◌%◌, ◌<◌, Bool, false, cond, eqb, ltb, ℤ, pos, negsuc, ◌+ℤ◌, ◌-ℤ◌}
-use Rattle.std.proofs.Math.Option.{Option, none, some}
+use Rattle.std.specs.Prelude.{ℕ, ◌-◌, ◌%◌, ◌<◌, Bool, false, cond, eqb, ltb, ℤ, pos, negsuc, ◌+ℤ◌, ◌-ℤ◌, Option, None, Some}
 use Rattle.std.specs.Int.Signed.{mag, lt_z, shr_z}
 
 -- 2 ^ 31: the first number that is too large
@@ -24,16 +23,20 @@ signed w = cond (ltb w half_range) (pos w) (negsuc (range - 1 - w))
 abbrev pub Fits : ℤ → Type 0
 Fits z = mag z < half_range
 
+-- what an expression comes to: a number, or none
+abbrev pub Value : Type 0
+Value = Option ℤ
+
 -- an exact result, or none where it is "outside signed 32 bits"
-unfoldable pub fitting : ℤ → Option ℤ
-fitting z = cond (ltb (mag z) half_range) (some z) none
+unfoldable pub fitting : ℤ → Value
+fitting z = cond (ltb (mag z) half_range) (Some z) None
 
 -- operator 1
-unfoldable pub sum : ℤ → ℤ → Option ℤ
+unfoldable pub sum : ℤ → ℤ → Value
 sum a b = fitting (a +ℤ b)
 
 -- operator 2: "left minus right"
-unfoldable pub difference : ℤ → ℤ → Option ℤ
+unfoldable pub difference : ℤ → ℤ → Value
 difference a b = fitting (a -ℤ b)
 
 -- whether two numbers are one

@@ -1,9 +1,9 @@
 -- One run of a script over variables and a tree. Assumes nothing.
-use Rattle.std.specs.Prelude.{ℕ, zero, suc, Bool, true, false, cond, List, [], ◌∷◌, ◌++◌, map, length, get_or, set, ℤ, pos, ltb}
+use Rattle.std.specs.Prelude.{ℕ, zero, suc, Bool, true, false, cond, List, [], ◌∷◌, ◌++◌, map, length, get_or, set, ℤ, pos, ltb, None, Some}
 use Rattle.std.proofs.Math.Option
 use Rattle.std.proofs.Math.Option.{Option, none, some, bind}
 use Rattle.rules.specs.Level.{Level, public, join, not_above}
-use Rattle.rules.specs.Number.{is_zero}
+use Rattle.rules.specs.Number.{Value, is_zero}
 use Rattle.rules.specs.Tree.{Label, Forest, nil, tree, child, along, Place, root, to, up, left_of, last_of, label, exists, count, size, sub, change, set_value, after_insert, after_remove}
 use Rattle.rules.specs.Tree as Tree
 use Rattle.rules.specs.Script.{Operand, Expression, alone, both, Action, Command, act, apply, fetch, number_at}
@@ -70,9 +70,9 @@ need k true r = r
 need k false r = stop k
 
 -- "a sum or difference that leaves the range ends the command": the rest with the value of an expression, or the stop 27 where it has none
-unfoldable pub given : {A : Type 0} → Option ℤ → (ℤ → Result A) → Result A
-given (some z) r = r z
-given none r = stop overflow
+unfoldable pub given : {A : Type 0} → Value → (ℤ → Result A) → Result A
+given (Some z) r = r z
+given None r = stop overflow
 
 -- no variable
 unfoldable pub no_variable : Variable
@@ -107,8 +107,8 @@ module _ (m : Memory) where
   operand_level Operand.children = join m.level (label current).structure
 
   -- the value of an expression, if it has one
-  unfoldable pub value : Expression → Option ℤ
-  value (alone a) = some (operand_value a)
+  unfoldable pub value : Expression → Value
+  value (alone a) = Some (operand_value a)
   value (both o a b) = apply o (operand_value a) (operand_value b)
 
   -- E: "the join over the operands read"

@@ -1,6 +1,5 @@
 -- The script: operands, expressions, commands with their numbers, and the table of twenty rows. Assumes nothing.
-use Rattle.std.specs.Prelude.{ℕ, ◌%◌, Bool, true, false, cond, List, [], ◌∷◌, get_or, ℤ, eqb, leb}
-use Rattle.std.proofs.Math.Option.{Option, some}
+use Rattle.std.specs.Prelude.{ℕ, ◌%◌, Bool, true, false, cond, List, [], ◌∷◌, get_or, ℤ, eqb, leb, Some}
 use Rattle.rules.specs.Level.{Level, public, secret, join}
 use Rattle.rules.specs.Number as Number
 use Rattle.rules.specs.Tree.{Side, child, sibling}
@@ -40,12 +39,12 @@ pub data Command : Type 0 where
   else end : Command
 
 -- what an operator makes of two numbers, if that is a number
-unfoldable pub apply : Operator → ℤ → ℤ → Option ℤ
+unfoldable pub apply : Operator → ℤ → ℤ → Number.Value
 apply sum a b = Number.sum a b
 apply difference a b = Number.difference a b
-apply equal a b = some (Number.equal a b)
-apply less a b = some (Number.less a b)
-apply mean a b = some (Number.mean a b)
+apply equal a b = Some (Number.equal a b)
+apply less a b = Some (Number.less a b)
+apply mean a b = Some (Number.mean a b)
 
 -- 1, the first party, where the test holds
 unfoldable pub secret_if : Bool → Level
