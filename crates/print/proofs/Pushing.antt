@@ -5,6 +5,7 @@ use mathlib.Core.Path.{◌≡◌, refl, sym, ◌∙◌, ap, subst}
 use native.Mathlib.Numerals.{add-one}
 use native.Mathlib.Omega.{arith}
 use Prim.Native.Nat.{ℕ, suc, ◌+◌, ◌*◌, ◌≤◌, ◌<◌}
+use Rattle.std.proofs.Common.{lit<}
 use lib.Dec.{eqb}
 use lib.ListN.{length, take, get_or, set}
 use lib.Seq.{length-take-le, take-suc, take-suc-set}
@@ -19,16 +20,19 @@ push_full : (w : List ℕ) (b : ℕ) → size ≤ length w → push w b ≡ b �
 unfolding push
 push_full w b h = rw (le-ltb (length w) size h)
 
-module _ (l : List ℕ) (used b : ℕ) (whole : size ≡ length l) where
-  pub stored : used < size → take (used + 1) (set l used b) ≡ push (take used l) b
-  stored h =
-      let long : length (take used l) ≡ used = length-take-le used l (omega arith) in
-      ap (λ (n : ℕ). take n (set l used b)) (add-one used) ∙ take-suc-set l used b (omega arith) ∙ sym (push_room (take used l) b (omega arith))
+-- what waits at the start of a buffer is as long as is used of it
+pub waiting : (l : List ℕ) (used : ℕ) (w : List ℕ) → size ≡ length l → used ≤ size → take used l ≡ w → length w ≡ used
+waiting l used w whole h e = sym (ap length e) ∙ length-take-le used l (omega arith)
 
-  pub restarted : used ≤ size → size ≤ used → take 1 (set l 0 b) ≡ push (take used l) b
-  restarted h k =
-      let long : length (take used l) ≡ used = length-take-le used l (omega arith) in
-      take-suc-set l 0 b (omega arith) ∙ sym (push_full (take used l) b (omega arith))
+-- a store behind what waits, where there is room
+pub stored : (l : List ℕ) (used b : ℕ) (w : List ℕ) → size ≡ length l → used ≤ size → take used l ≡ w → length w < size → take (used + 1) (set l used b) ≡ push w b
+stored l used b w whole h e room =
+    let long : length w ≡ used = waiting l used w whole h e in
+    ap (λ (n : ℕ). take n (set l used b)) (add-one used) ∙ take-suc-set l used b (omega arith) ∙ ap (λ (v : List ℕ). v ++ (b ∷ [])) e ∙ sym (push_room w b room)
+
+-- a byte more in a buffer that was full is one in an empty buffer
+pub emptied : (w v : List ℕ) (b : ℕ) → size ≤ length w → v ≡ [] → push v b ≡ push w b
+emptied w v b h e = ap (λ (u : List ℕ). push u b) e ∙ push_room [] b (lit< tt) ∙ sym (push_full w b h)
 
 -- a text that ends in a byte
 pushes_end : (w t : List ℕ) (b : ℕ) → pushes w (t ++ (b ∷ [])) ≡ push (pushes w t) b

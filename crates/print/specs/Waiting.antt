@@ -3,6 +3,11 @@ use Rattle.std.specs.Prelude.{Bool, true, false, cond, List, [], ◌∷◌, ◌+
 use Rattle.io.specs.Digits.{last_digits, IsDigitCount}
 use Rattle.rules.specs.Bytes.{byte, full}
 
+-- an output: where it goes, and what waits to be written there
+pub record Output : Type 0 where
+  pub fd : ℕ
+  pub waits : List ℕ
+
 -- how many bytes the buffer has
 abbrev pub size : ℕ
 size = 65536

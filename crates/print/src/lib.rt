@@ -1,16 +1,17 @@
-// Output through a buffer that the caller lends: what is put waits in it until it is full, and is then written out at once.
+// Output through a buffer: what is put waits in it until it is full, and is then written out at once.
 #![tactic(auto)]
 
 pub mod answer;
 pub mod preorder;
 pub mod runner;
 
-ghost use Rattle.std.specs.Prelude.{◌≡◌, ◌+◌, ◌/◌, ◌<◌, ◌≤◌, min, length, set, take};
+ghost use Rattle.std.specs.Prelude.{◌≡◌, ◌+◌, ◌/◌, ◌<◌, ◌≤◌, [], min, length};
 ghost use Rattle.print.specs.Waiting.{push, pushes, Number, Signed, Shown, Lined, Listed, Row};
 
 use fields::reads::{byte_at, full_at};
+use std::marker::Model;
 
-// How many bytes the buffer has: as many as io::large_buffer gives.
+// How many bytes the buffer has.
 pub const SIZE: usize = 65536;
 
 // The file descriptors of standard output and standard error.
@@ -18,174 +19,142 @@ pub const OUTPUT: u8 = 1;
 
 pub const ERRORS: u8 = 2;
 
-// Where the output goes, and how many bytes wait at the start of the buffer.
-#[derive(Clone, Copy)]
+// Where the output goes, and the buffer, in which the first bytes wait.
+#[derive(Drop)]
 pub struct Out {
-    pub fd: u8,
-    pub used: usize,
+    fd: u8,
+    used: usize,
+    buf: [u8; SIZE],
 }
 
-// Output to a file descriptor, of which nothing waits yet.
-pub fn to(fd: u8) -> Out
-    ensures { (result.used ≡ 0) × (result.fd ≡ fd) }
-{
-    Out { fd, used: 0 }
+impl Model for Out {
+    ghost use Rattle.std.specs.Prelude.{◌≤◌, take};
+    ghost use Rattle.print.specs.Waiting.{Output};
+
+    ghost Value = { Output };
+
+    ghost view = { λ o. record { fd = o.fd; waits = take o.used o.buf } };
+
+    ghost invariant = { λ o. o.used ≤ 65536 };
 }
 
-// Writes the first bytes of a buffer.
-fn write_first(fd: u8, buf: &[u8], n: usize)
-    requires { n ≤ length buf.now }
-{
-    io::write_all(fd as i32, &buf[..n]);
-}
-
-// Writes out what waits.
-pub fn flush(buf: &[u8; SIZE], out: Out) -> Out
-    requires { out.used ≤ 65536 }
-    ensures { (result.used ≡ 0) × (result.fd ≡ out.fd) }
-{
-    write_first(out.fd, buf, out.used);
-    to(out.fd)
-}
-
-fn store(buf: &mut [u8], at: usize, b: u8)
-    requires { at < length buf.old }
-    ensures { buf.new ≡ set buf.old at b }
-{
-    buf[at] = b;
-}
-
-// Puts one byte.
-pub fn byte(buf: &mut [u8; SIZE], out: Out, b: u8) -> Out
-    requires { out.used ≤ 65536 }
-    ensures used_bound { (result.used ≤ 65536) × (result.fd ≡ out.fd) }
-    ensures buf_after { take result.used buf.new ≡ push (take out.used buf.old) b }
-{
-    let used = out.used;
-    if used < SIZE {
-        store(buf, used, b);
-        return Out {
-            fd: out.fd,
-            used: used + 1,
-        };
+impl Out {
+    // Output to a file descriptor, of which nothing waits yet.
+    pub fn to(fd: u8) -> Self
+        ensures { (result.fd ≡ fd) × (result.waits ≡ []) }
+    {
+        Out {
+            fd,
+            used: 0,
+            buf: [0; SIZE],
+        }
     }
-    flush(buf, out);
-    store(buf, 0, b);
-    Out {
-        fd: out.fd,
-        used: 1,
+
+    // Writes out what waits.
+    pub fn flush(&mut self)
+        ensures { (self.new.fd ≡ self.old.fd) × (self.new.waits ≡ []) }
+    {
+        io::write_all(i32::from(self.fd), &self.buf[..self.used]);
+        self.used = 0;
     }
-}
 
-// Puts bytes.
-pub fn text(buf: &mut [u8; SIZE], out: Out, bytes: &[u8]) -> Out
-    requires { out.used ≤ 65536 }
-    ensures used_bound { (result.used ≤ 65536) × (result.fd ≡ out.fd) }
-    ensures buf_after { take result.used buf.new ≡ pushes (take out.used buf.old) bytes.now }
-{
-    let mut r = out;
-    let mut i = 0;
-    while i < bytes.len() {
-        r = byte(buf, r, bytes[i]);
-        i += 1;
+    // Puts one byte.
+    pub fn byte(&mut self, b: u8)
+        ensures { (self.new.fd ≡ self.old.fd) × (self.new.waits ≡ push self.old.waits b) }
+    {
+        if self.used == SIZE {
+            self.flush();
+        }
+        self.buf[self.used] = b;
+        self.used += 1;
     }
-    r
-}
 
-// Puts a number in decimal.
-pub fn number(buf: &mut [u8; SIZE], out: Out, n: u64) -> Out
-    requires { out.used ≤ 65536 }
-    ensures used_bound { (result.used ≤ 65536) × (result.fd ≡ out.fd) }
-    ensures number { Number n (take out.used buf.old) (take result.used buf.new) }
-{
-    let mut digits = [0u8; 20];
-    let k = io::decimal(n, &mut digits);
-    text(buf, out, &digits[..k])
-}
-
-// Puts the signed number of 32 bits in decimal: they spell 2^32 more where it is below zero.
-pub fn signed(buf: &mut [u8; SIZE], out: Out, bits: u32) -> Out
-    requires { out.used ≤ 65536 }
-    ensures used_bound { (result.used ≤ 65536) × (result.fd ≡ out.fd) }
-    ensures signed { Signed bits (take out.used buf.old) (take result.used buf.new) }
-{
-    if bits < 2147483648 {
-        return number(buf, out, bits as u64);
+    // Puts bytes.
+    pub fn text(&mut self, bytes: &[u8])
+        ensures { (self.new.fd ≡ self.old.fd) × (self.new.waits ≡ pushes self.old.waits bytes.now) }
+    {
+        for b in bytes {
+            self.byte(*b);
+        }
     }
-    let r = byte(buf, out, b'-');
-    number(buf, r, 4294967296 - (bits as u64))
-}
 
-// Puts bytes and a number behind them.
-pub fn item(buf: &mut [u8; SIZE], out: Out, name: &[u8], n: u64) -> Out
-    requires { out.used ≤ 65536 }
-    ensures used_bound { (result.used ≤ 65536) × (result.fd ≡ out.fd) }
-    ensures number { Number n (pushes (take out.used buf.old) name.now) (take result.used buf.new) }
-{
-    let r = text(buf, out, name);
-    number(buf, r, n)
-}
-
-// Puts a number of 32 bits, as a signed one or not.
-fn shown(buf: &mut [u8; SIZE], out: Out, n: u32, below: bool) -> Out
-    requires { out.used ≤ 65536 }
-    ensures used_bound { (result.used ≤ 65536) × (result.fd ≡ out.fd) }
-    ensures shown { Shown below n (take out.used buf.old) (take result.used buf.new) }
-{
-    if below {
-        return signed(buf, out, n);
+    // Puts a number in decimal.
+    pub fn number(&mut self, n: u64)
+        ensures same { self.new.fd ≡ self.old.fd }
+        ensures number { Number n self.old.waits self.new.waits }
+    {
+        let mut digits = [0u8; 20];
+        let k = io::decimal(n, &mut digits);
+        self.text(&digits[..k]);
     }
-    number(buf, out, n as u64)
-}
 
-// Puts a name and numbers of 32 bits on a line of their own, each number behind a space. The one at `below` is signed.
-pub fn row(buf: &mut [u8; SIZE], out: Out, name: &[u8], numbers: &[u32], below: usize) -> Out
-    requires { out.used ≤ 65536 }
-    ensures used_bound { (result.used ≤ 65536) × (result.fd ≡ out.fd) }
-    ensures row { Row name.now numbers.now below (take out.used buf.old) (take result.used buf.new) }
-{
-    let mut r = text(buf, out, name);
-    let mut i = 0;
-    while i < numbers.len() {
-        r = byte(buf, r, b' ');
-        r = shown(buf, r, numbers[i], i == below);
-        i += 1;
+    // Puts the signed number of 32 bits in decimal: they spell 2^32 more where it is below zero.
+    pub fn signed(&mut self, bits: u32)
+        ensures same { self.new.fd ≡ self.old.fd }
+        ensures signed { Signed bits self.old.waits self.new.waits }
+    {
+        if bits < 2147483648 {
+            self.number(u64::from(bits));
+            return;
+        }
+        self.byte(b'-');
+        self.number(4294967296 - u64::from(bits));
     }
-    byte(buf, r, b'\n')
-}
 
-// The first number, or the second where that is less.
-fn least(n: usize, most: usize) -> usize
-    ensures { (result ≤ most) × (result ≡ min n most) }
-{
-    if n < most { n } else { most }
-}
-
-// Puts the board line at a place of an area: its number, a space and its reader set.
-fn line(buf: &mut [u8; SIZE], out: Out, area: &[u8], at: usize) -> Out
-    requires { (out.used ≤ 65536) × (at + 5 ≤ length area.now) }
-    ensures used_bound { (result.used ≤ 65536) × (result.fd ≡ out.fd) }
-    ensures lined { Lined area.now at (take out.used buf.old) (take result.used buf.new) }
-{
-    let r = signed(buf, out, full_at(area, at));
-    let s = byte(buf, r, b' ');
-    number(buf, s, byte_at(area, at + 4) as u64)
-}
-
-// Puts the first n board lines of an area, as far as it has so many, each behind a name and on a line of its own.
-pub fn lines(buf: &mut [u8; SIZE], out: Out, name: &[u8], area: &[u8], n: usize) -> Out
-    requires { out.used ≤ 65536 }
-    ensures used_bound { (result.used ≤ 65536) × (result.fd ≡ out.fd) }
-    ensures listed { Listed name.now area.now (take out.used buf.old) (min n (length area.now / 5)) (take result.used buf.new) }
-{
-    let count = least(n, area.len() / 5);
-    let mut r = out;
-    let mut i = 0;
-    while i < count {
-        r = text(buf, r, name);
-        r = line(buf, r, area, 5 * i);
-        r = byte(buf, r, b'\n');
-        i += 1;
+    // Puts bytes and a number behind them.
+    pub fn item(&mut self, name: &[u8], n: u64)
+        ensures same { self.new.fd ≡ self.old.fd }
+        ensures number { Number n (pushes self.old.waits name.now) self.new.waits }
+    {
+        self.text(name);
+        self.number(n);
     }
-    r
+
+    // Puts a number of 32 bits, as a signed one or not.
+    fn shown(&mut self, n: u32, below: bool)
+        ensures same { self.new.fd ≡ self.old.fd }
+        ensures shown { Shown below n self.old.waits self.new.waits }
+    {
+        if below {
+            self.signed(n);
+        } else {
+            self.number(u64::from(n));
+        }
+    }
+
+    // Puts a name and numbers of 32 bits on a line of their own, each number behind a space. The one at `below` is signed.
+    pub fn row(&mut self, name: &[u8], numbers: &[u32], below: usize)
+        ensures same { self.new.fd ≡ self.old.fd }
+        ensures row { Row name.now numbers.now below self.old.waits self.new.waits }
+    {
+        self.text(name);
+        for (i, n) in numbers.iter().enumerate() {
+            self.byte(b' ');
+            self.shown(*n, i == below);
+        }
+        self.byte(b'\n');
+    }
+
+    // Puts the board line at a place of an area: its number, a space and its reader set.
+    fn line(&mut self, area: &[u8], at: usize)
+        requires { at + 5 ≤ length area.now }
+        ensures same { self.new.fd ≡ self.old.fd }
+        ensures lined { Lined area.now at self.old.waits self.new.waits }
+    {
+        self.signed(full_at(area, at));
+        self.byte(b' ');
+        self.number(byte_at(area, at + 4) as u64);
+    }
+
+    // Puts the first n board lines of an area, as far as it has so many, each behind a name and on a line of its own.
+    pub fn lines(&mut self, name: &[u8], area: &[u8], n: usize)
+        ensures same { self.new.fd ≡ self.old.fd }
+        ensures listed { Listed name.now area.now self.old.waits (min n (length area.now / 5)) self.new.waits }
+    {
+        for i in 0..n.min(area.len() / 5) {
+            self.text(name);
+            self.line(area, 5 * i);
+            self.byte(b'\n');
+        }
+    }
 }
