@@ -4,7 +4,7 @@ ghost use Rattle.table.specs.Cells.{cell_size, cells};
 ghost use Rattle.lent.specs.Lent.{node_of, put_node, blank};
 
 use rules::numbers;
-use table::{low, wide};
+use table::low;
 
 // A place of a lent table, as a record: it says what the place's cell says.
 #[repr(C)]
@@ -48,10 +48,10 @@ pub fn put(words: &mut [u32], x: usize, node: Node)
     ensures { words.new ≡ put_node words.old x node }
 {
     let at = table::CELL * x;
-    let existence = wide(node.existence);
+    let existence = u32::from(node.existence);
     let value = numbers::bits(node.value);
-    let content = wide(node.content);
-    let structure = wide(node.structure);
+    let content = u32::from(node.content);
+    let structure = u32::from(node.structure);
     words[at] = node.first;
     words[at + 1] = node.right;
     words[at + 2] = node.parent;

@@ -12,7 +12,7 @@ ghost use Rattle.table.specs.Steps.{Put, with_word};
 use super::node::{Node, node_of};
 use rules::levels::{PUBLIC, is_level, not_above};
 use rules::limits::MAX_NODES;
-use table::{PARENT, index, store, word_of};
+use table::{PARENT, store, word_of};
 
 // Where the walk is: at a link under the node at `up` and right of the one at `prev`, which is to lead to `due` siblings. Their existence is not below
 // `lo` and not above `hi`. There are `deep` nodes above the link, and so many were entered.
@@ -49,7 +49,7 @@ pub fn ask(s: Spot, places: usize) -> usize
     requires { places ≤ gone }
     ensures { Asked s places result }
 {
-    let y = index(s.link);
+    let y = s.link as usize;
     if y == table::NIL {
         if s.due > 0 {
             return places;
@@ -57,7 +57,7 @@ pub fn ask(s: Spot, places: usize) -> usize
         if s.deep == 0 {
             return places + 1;
         }
-        return index(s.up);
+        return s.up as usize;
     }
     if s.entered >= MAX_NODES {
         return places;
@@ -149,7 +149,7 @@ fn mark(marks: &mut [u8], y: u32)
     requires { max_nodes ≤ length marks.old }
     ensures { marks.new ≡ Stands.mark marks.old y }
 {
-    let at = index(y);
+    let at = y as usize;
     if at < MAX_NODES {
         marks[at] = 1;
     }
@@ -160,7 +160,7 @@ pub fn turn(s: Spot, d: Node, dues: &mut [u32], bounds: &mut [u8], marks: &mut [
     requires { Ready s × Rooms dues.old bounds.old marks.old }
     ensures { Turned s d dues.old bounds.old marks.old dues.new bounds.new marks.new result }
 {
-    if index(s.link) == table::NIL {
+    if s.link as usize == table::NIL {
         if !closes(s, d) {
             return stuck(s);
         }
@@ -197,7 +197,7 @@ fn readable(words: &[u32], link: u32, x: usize) -> bool
     requires { cell_size * x + cell_size ≤ length words.now }
     ensures { (result ≡ true → (link ≡ gone → ⊥) → ByteLevels (cells words.now x).label) × (ByteLevels (cells words.now x).label → result ≡ true) }
 {
-    if index(link) == table::NIL {
+    if link as usize == table::NIL {
         return true;
     }
     plain(words, x)
@@ -208,11 +208,7 @@ fn clear(marks: &mut [u8])
     requires { max_nodes ≤ length marks.old }
     ensures { (z : ℕ) → z < max_nodes → get_or marks.new z 0 ≡ 0 }
 {
-    let mut x = 0;
-    while x < MAX_NODES {
-        marks[x] = 0;
-        x += 1;
-    }
+    marks[..MAX_NODES].fill(0);
 }
 
 // Whether a tree stands in the words; if so, its places have a mark then, if they are among the first 512, and no others.
@@ -259,9 +255,7 @@ pub fn reclaim(words: &mut [u32], places: usize, marks: &[u8]) -> usize
     ensures behind { Behind places (cells words.old) (cells words.new) }
 {
     let mut free = table::NIL;
-    let mut x = places;
-    while x > 0 {
-        x -= 1;
+    for x in (0..places).rev() {
         if marks[x] == 0 {
             spare(words, places, x, free);
             free = x;

@@ -47,5 +47,5 @@ returns c = let a = c.args in
     let at = cell_size * a.x in
     let value = c.bits-value.ensures ∙ ap bits (to_z-of_z {w = w32} (record { sfits = c.struct_told-1.given.1.1.1.1.1.1.0.1 })) in
     λ i.
-    set (set (set (set (set (set (set (set (set (set a.words.now at d.first) (at + 1) d.right) (at + 2) d.parent) (at + 3) (c.wide-existence.ensures.0 i))
-    (at + 4) (value i)) (at + 5) d.children) (at + 6) (c.wide-content.ensures.0 i)) (at + 7) (c.wide-structure.ensures.0 i)) (at + 8) d.left) (at + 9) d.last
+    set (set (set (set (set (set (set (set (set (set a.words.now at d.first) (at + 1) d.right) (at + 2) d.parent) (at + 3) (c.from-existence.ensures i))
+    (at + 4) (value i)) (at + 5) d.children) (at + 6) (c.from-content.ensures i)) (at + 7) (c.from-structure.ensures i)) (at + 8) d.left) (at + 9) d.last

@@ -1,19 +1,13 @@
--- The invariant: the places before x have no mark, and the slice keeps its length. The measure is what is left. Assumes nothing.
-use mathlib.Core.Path.{refl}
+-- The first places are filled; the others stand behind them. Assumes nothing.
+use mathlib.Core.Path.{refl, ◌∙◌}
+use Prim.Native.Nat.{◌<◌}
 use native.Mathlib.Omega.{arith}
-use lib.ListN.{length-set}
-use Rattle.lent.proofs.Walking.{unmarked_more}
+use lib.ListN.{length}
+use Rattle.rules.specs.Limits.{max_nodes}
+use Rattle.std.proofs.lemmas.List.{get_or_append_left, length-take-le}
 use Rattle.lent.proofs.standing.clear.Goals as goal
 
-pub loop-x-init : goal.loop-x-init
-loop-x-init c = (omega arith, refl, λ z lt. absurd (omega arith))
-
-pub bounds-marks-x : goal.bounds-marks-x
-bounds-marks-x c = omega (arith, c.loop-x-test.true, c.loop-x.invariant.1, c.requires)
-
-pub loop-x-preserved : goal.loop-x-preserved
-loop-x-preserved c = let s = c.loop-x in
-    (omega arith, simp length-set s.invariant.1, unmarked_more s.marks s.x (omega (arith, c.loop-x-test.true, s.invariant.1, c.requires)) s.invariant.2)
-
 pub returns : goal.returns
-returns c = λ z lt. c.loop-x.invariant.2 z (omega arith)
+returns c = let first = length-take-le max_nodes c.args.marks.now c.requires in
+    λ z lt. let in_first : z < length c.fill.new.self = omega (arith, c.fill.ensures.len, first) in
+    get_or_append_left _ _ 0 z in_first ∙ c.fill.ensures.clones z 0 (omega (arith, first)) refl

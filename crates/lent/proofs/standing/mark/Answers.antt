@@ -6,8 +6,8 @@ use Rattle.lent.proofs.standing.mark.Goals as goal
 
 pub returns-then-at-lt-MAX_NODES : goal.returns-then-at-lt-MAX_NODES
 unfolding mark
-returns-then-at-lt-MAX_NODES c = let e = c.index-at.ensures in rw (e, lt-ltb c.args.y max_nodes (rw e at c.if-at-lt-MAX_NODES.true))
+returns-then-at-lt-MAX_NODES c = rw (lt-ltb c.args.y max_nodes c.if-at-lt-MAX_NODES.true)
 
 pub returns-else-at-lt-MAX_NODES : goal.returns-else-at-lt-MAX_NODES
 unfolding mark
-returns-else-at-lt-MAX_NODES c = rw (le-ltb c.args.y max_nodes (rw c.index-at.ensures at c.if-at-lt-MAX_NODES.false))
+returns-else-at-lt-MAX_NODES c = rw (le-ltb c.args.y max_nodes c.if-at-lt-MAX_NODES.false)

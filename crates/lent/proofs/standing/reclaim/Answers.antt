@@ -1,4 +1,4 @@
--- The invariant: the places with no mark from x on are free, and those with one keep their cells. The measure is x. Assumes nothing.
+-- The invariant: the places with no mark from x on are free, and those with one keep their cells. Assumes nothing.
 use mathlib.Core.Path.{◌≡◌, refl, subst, ◌∙◌}
 use Prim.Native.Nat.{◌+◌, ◌-◌}
 use native.Mathlib.Omega.{arith}
@@ -7,45 +7,43 @@ use Rattle.lent.proofs.Reclaiming.{Spared, spared_none, spared_pass, spared_more
 use Rattle.lent.proofs.standing.reclaim.Goals as goal
 
 pub loop-x-init : goal.loop-x-init
-loop-x-init c = (omega arith, refl, spared_none c.args.places c.args.marks.now)
+loop-x-init c = (refl, spared_none c.args.places c.args.marks.now)
 
 pub bounds-marks-x : goal.bounds-marks-x
-bounds-marks-x c = omega (arith, c.loop-x-test.true, c.loop-x.invariant.0, c.requires.0.1, c.requires.1)
+bounds-marks-x c = omega (arith, c.loop-x-test.true, c.loop-x.auto.x, c.requires.0.1, c.requires.1)
 
 pub spare-requires : goal.spare-requires
 spare-requires c = let i = c.loop-x.invariant in
     let p = c.requires.0 in
-    record { long = omega (arith, i.1, p.0); few = p.1; inside = omega (arith, c.loop-x-test.true, i.0) }
+    record { long = omega (arith, i.0, p.0); few = p.1; inside = omega (arith, c.loop-x-test.true, c.loop-x.auto.x) }
 
 pub loop-x-preserved-then-marks-x-eq0 : goal.loop-x-preserved-then-marks-x-eq0
 loop-x-preserved-then-marks-x-eq0 c = let s = c.loop-x in
     let a = c.args in
     let lt = c.loop-x-test.true in
     let e : s.x ≡ (s.x - 1) + 1 = omega (arith, lt) in (
-      omega (arith, s.invariant.0),
-      c.spare.auto.words ∙ s.invariant.1,
-      spared_more (subst (λ v. Spared (cells a.words.now) (cells s.words) a.places a.marks.now v s.free) e s.invariant.2)
-          c.requires.0.1 (omega (arith, lt, s.invariant.0)) c.if-marks-x-eq0.true c.spare.ensures,
+      c.spare.auto.words ∙ s.invariant.0,
+      spared_more (subst (λ v. Spared (cells a.words.now) (cells s.words) a.places a.marks.now v s.free) e s.invariant.1)
+          c.requires.0.1 (omega (arith, lt, s.auto.x)) c.if-marks-x-eq0.true c.spare.ensures,
     )
 
 pub loop-x-preserved : goal.loop-x-preserved
 loop-x-preserved c = let s = c.loop-x in
     let a = c.args in
     let e : s.x ≡ (s.x - 1) + 1 = omega (arith, c.loop-x-test.true) in (
-      omega (arith, s.invariant.0),
-      s.invariant.1,
-      spared_pass (subst (λ v. Spared (cells a.words.now) (cells s.words) a.places a.marks.now v s.free) e s.invariant.2)
+      s.invariant.0,
+      spared_pass (subst (λ v. Spared (cells a.words.now) (cells s.words) a.places a.marks.now v s.free) e s.invariant.1)
           (omega (arith, c.if-marks-x-eq0.false)),
     )
 
 pub shape_of-words : goal.shape_of-words
-shape_of-words c = c.loop-x.invariant.1
+shape_of-words c = c.loop-x.invariant.0
 
 pub returns : goal.returns
 returns c = let s = c.loop-x in
     let a = c.args in
     let e : s.x ≡ 0 = omega (arith, c.loop-x-test.false) in record {
       reclaimed = spared_all c.requires.0.1
-          (subst (λ v. Spared (cells a.words.now) (cells s.words) a.places a.marks.now v s.free) e s.invariant.2);
-      behind = s.invariant.2.behind;
+          (subst (λ v. Spared (cells a.words.now) (cells s.words) a.places a.marks.now v s.free) e s.invariant.1);
+      behind = s.invariant.1.behind;
     }
