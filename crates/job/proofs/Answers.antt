@@ -18,22 +18,21 @@ use Rattle.rules.proofs.SameNumbers.{nest_agree}
 use Rattle.rules.proofs.Checks.{long_enough, sections, counts}
 use Rattle.rules.proofs.Accepted.{Right, section_numbered, section_jumps}
 use Rattle.fields.specs.declared.sections.Layout.{Layout}
-use Rattle.job.specs.declared.checks.Checked.{Checked}
-use Rattle.job.specs.declared.checks.Checked.TheVariants.{Accepted, Refused}
+use Rattle.std.specs.Prelude.{Result, Ok, Err}
+use Rattle.job.specs.declared.checks.Refusal.{Refusal}
 use Rattle.fields.specs.Layout.{layout_of, Inside}
-use Rattle.job.specs.declared.checks.Script.TheVariants.{Sound, Faulty}
 use Rattle.job.specs.Plan.{entry, plan_code, Partly, Whole, Plans}
 use Rattle.job.specs.Answer.{answer, told, JobTold, from_variables}
 
-pub is_accepted : (l m : Layout) (c : Check.Checked) → answer l c ≡ Accepted m → (c ≡ Check.accepted) × (m ≡ l)
+pub is_accepted : (l m : Layout) (c : Check.Checked) → answer l c ≡ Ok m → (c ≡ Check.accepted) × (m ≡ l)
 unfolding answer
 is_accepted l m Check.accepted e = (refl, cc)
 is_accepted l m (Check.refused k i) e = let z : ◌≡◌ {A = ℕ} 0 1 = cc in absurd (omega arith)
 
-pub is_refused : (l : Layout) (k i : ℕ) (c : Check.Checked) → answer l c ≡ Refused k i → c ≡ Check.refused k i
+pub is_refused : (l : Layout) (r : Refusal) (c : Check.Checked) → answer l c ≡ Err r → c ≡ Check.refused r.number r.index
 unfolding answer
-is_refused l k i Check.accepted e = let z : ◌≡◌ {A = ℕ} 0 1 = cc in absurd (omega arith)
-is_refused l k i (Check.refused m j) e = cc
+is_refused l r Check.accepted e = let z : ◌≡◌ {A = ℕ} 0 1 = cc in absurd (omega arith)
+is_refused l r (Check.refused m j) e = let z : ◌≡◌ {A = Refusal} (record { number = m; index = j }) r = cc in rw (← z)
 
 pub never_both : {P : Type 0} (k i : ℕ) (c : Check.Checked) → c ≡ Check.accepted → c ≡ Check.refused k i → P
 never_both k i c e h = let z : ◌≡◌ {A = ℕ} 0 1 = cc in absurd (omega arith)
@@ -74,15 +73,15 @@ pub script_plan : (b p p' : List ℕ) → Right b → Whole (code b (script_at b
 unfolding script_by
 script_plan b p p' r w = section_plan b (variable_count b) (script_at b) (record_count b) r.records r.blocks p p' w
 
-pub is_sound : (c : Check.Checked) → told c ≡ Sound → c ≡ Check.accepted
+pub is_sound : (u : Unit {0}) (c : Check.Checked) → told c ≡ Ok u → c ≡ Check.accepted
 unfolding told
-is_sound Check.accepted e = refl
-is_sound (Check.refused k i) e = let z : ◌≡◌ {A = ℕ} 0 1 = cc in absurd (omega arith)
+is_sound u Check.accepted e = refl
+is_sound u (Check.refused k i) e = let z : ◌≡◌ {A = ℕ} 0 1 = cc in absurd (omega arith)
 
-pub is_faulty : (k i : ℕ) (c : Check.Checked) → told c ≡ Faulty k i → c ≡ Check.refused k i
+pub is_faulty : (r : Refusal) (c : Check.Checked) → told c ≡ Err r → c ≡ Check.refused r.number r.index
 unfolding told
-is_faulty k i Check.accepted e = let z : ◌≡◌ {A = ℕ} 0 1 = cc in absurd (omega arith)
-is_faulty k i (Check.refused m j) e = cc
+is_faulty r Check.accepted e = let z : ◌≡◌ {A = ℕ} 0 1 = cc in absurd (omega arith)
+is_faulty r (Check.refused m j) e = let z : ◌≡◌ {A = Refusal} (record { number = m; index = j }) r = cc in rw (← z)
 
 -- what the checks have made of the words of a plan, by what they say
 module _ (code : ℕ → ℕ) (n : ℕ) (c : Check.Checked) (p p' : List ℕ) where
@@ -110,6 +109,6 @@ module _ (code : ℕ → ℕ) (n : ℕ) (c : Check.Checked) (p p' : List ℕ) wh
 pub plans_along : {code : ℕ → ℕ} {n : ℕ} {c d : Check.Checked} {p p' : List ℕ} → d ≡ c → Plans code n c p p' → Plans code n d p p'
 plans_along {code} {n} {c} {d} {p} {p'} e w = subst (λ (v : Check.Checked). Plans code n v p p') (sym e) w
 
-pub told_along : (rules : Check.Edition) {b p p' : List ℕ} {l m : Layout} {r : Checked} → l ≡ m → JobTold b l (from_variables b l rules) p p' r
+pub told_along : (rules : Check.Edition) {b p p' : List ℕ} {l m : Layout} {r : Result Layout Refusal} → l ≡ m → JobTold b l (from_variables b l rules) p p' r
     → JobTold b m (from_variables b m rules) p p' r
 told_along rules {b} {p} {p'} {l} {m} {r} e w = subst (λ (k : Layout). JobTold b k (from_variables b k rules) p p' r) e w

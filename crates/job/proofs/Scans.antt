@@ -19,63 +19,64 @@ use Rattle.rules.proofs.Search.{fault_agree, all_pass, none_faulty}
 use Rattle.rules.proofs.Checks.{stopped, through}
 use Rattle.job.specs.declared.checks.Edition as Named
 use Rattle.job.specs.declared.checks.Edition.TheVariants.{First, Unordered, Today}
-use Rattle.job.specs.declared.checks.Scan.TheVariants.{Faulty, Passed}
+use Rattle.std.specs.Prelude.{Result, Ok, Err}
+use Rattle.job.specs.declared.checks.Refusal.{Refusal}
 use Rattle.fields.specs.Fields.{known_rule}
 use Rattle.fields.specs.Fits.{variable_in, label_in, node_in, record_fits}
 use Rattle.job.specs.Hanging.{AllFit}
 use Rattle.job.specs.Answer.{edition_of, highest_of, record_rules, asked, scan_of, scanned}
 use Rattle.fields.proofs.Fits.{same_tests}
 
-module _ (rules : Edition) (right clean : ℕ → Bool) (n : ℕ) where
-  -- right and clean
-  abbrev pub fit : ℕ → Bool
-  fit i = right i && clean i
+-- right and clean
+abbrev pub fit : (ℕ → Bool) → (ℕ → Bool) → ℕ → Bool
+fit right clean i = right i && clean i
 
-  pub not_asked : rules.spare ≡ false → {k : ℕ} → k ≡ first_fault right n 0 → scan_of k n n ≡ scanned rules right clean n
+module _ (number : ℕ) (rules : Edition) (right clean : ℕ → Bool) (n : ℕ) where
+  pub not_asked : rules.spare ≡ false → {k : ℕ} → k ≡ first_fault right n 0 → scan_of number k n n ≡ scanned number rules right clean n
   unfolding scanned asked
   not_asked a {k} e = rw (a, ← e)
 
-  pub all_fit : rules.spare ≡ true → {r : ℕ} → r ≡ first_fault fit n 0 → r ≡ n → Passed n ≡ scanned rules right clean n
+  pub all_fit : rules.spare ≡ true → {r : ℕ} → r ≡ first_fault (fit right clean) n 0 → r ≡ n → Ok n ≡ scanned number rules right clean n
   unfolding scanned asked scan_of
   all_fit a {r} e h =
-      let all = all_pass fit n e (omega arith) in
+      let all = all_pass (fit right clean) n e (omega arith) in
       rw (a, none_faulty right n (λ i l. (both (right i) (clean i) (all i l)).0), none_faulty clean n (λ i l. (both (right i) (clean i) (all i l)).1), le-ltb n n (omega arith))
 
-  pub first_unclean : rules.spare ≡ true → {r k : ℕ} → r ≡ first_fault fit n 0 → k ≡ first_fault right n 0 → scan_of k r n ≡ scanned rules right clean n
+  pub first_unclean : rules.spare ≡ true → {r k : ℕ} → r ≡ first_fault (fit right clean) n 0 → k ≡ first_fault right n 0 → scan_of number k r n ≡ scanned number rules right clean n
   unfolding scanned asked scan_of
   first_unclean a {r} {k} e f = by (test (ltb k n))
     where
-      by : Test (ltb k n) → scan_of k r n ≡ scanned rules right clean n
+      by : Test (ltb k n) → scan_of number k r n ≡ scanned number rules right clean n
       by (holds t) = rw (a, ← f, t)
       by (fails t) =
           let all = all_pass right n f (ltb-false k n t) in
-          rw (a, ← f, t, e ∙ fault_agree fit clean n 0 (λ i l m. rw (all i (omega arith))))
+          rw (a, ← f, t, e ∙ fault_agree (fit right clean) clean n 0 (λ i l m. rw (all i (omega arith))))
 
-  pub one_faulty : {k : ℕ} → k ≡ first_fault right n 0 → k < n → Faulty k ≡ scanned rules right clean n
+  pub one_faulty : {k : ℕ} → k ≡ first_fault right n 0 → k < n → Err (record { number = number; index = k }) ≡ scanned number rules right clean n
   unfolding scanned scan_of
   one_faulty {k} e h = rw (← e, lt-ltb k n h)
 
-  pub none_wrong : {k u : ℕ} → k ≡ first_fault right n 0 → n ≤ k → u ≡ asked rules.spare clean n → Passed u ≡ scanned rules right clean n
+  pub none_wrong : {k u : ℕ} → k ≡ first_fault right n 0 → n ≤ k → u ≡ asked rules.spare clean n → Ok u ≡ scanned number rules right clean n
   unfolding scanned scan_of
   none_wrong {k} {u} e h a = rw (← e, le-ltb k n h, ← a)
 
 -- what a scan that has come to something says
-module _ (fault unclean n i : ℕ) where
-  pub was_faulty : scan_of fault unclean n ≡ Faulty i → (i ≡ fault) × (i < n)
+module _ (number fault unclean n : ℕ) where
+  pub was_faulty : (r : Refusal) → scan_of number fault unclean n ≡ Err r → (r ≡ record { number = number; index = fault }) × (fault < n)
   unfolding scan_of
-  was_faulty e = by (test (ltb fault n))
+  was_faulty r e = by (test (ltb fault n))
     where
-      by : Test (ltb fault n) → (i ≡ fault) × (i < n)
-      by (holds t) = let f : Faulty fault ≡ Faulty i = rw t at e in let g : i ≡ fault = cc in (g, let h = ltb-true fault n t in omega arith)
-      by (fails t) = let f : Passed unclean ≡ Faulty i = rw t at e in let z : ◌≡◌ {A = ℕ} 0 1 = cc in absurd (omega arith)
+      by : Test (ltb fault n) → (r ≡ record { number = number; index = fault }) × (fault < n)
+      by (holds t) = let f : Err (record { number = number; index = fault }) ≡ Err r = rw t at e in (cc, ltb-true fault n t)
+      by (fails t) = let f : Ok unclean ≡ Err r = rw t at e in let z : ◌≡◌ {A = ℕ} 0 1 = cc in absurd (omega arith)
 
-  pub was_passed : scan_of fault unclean n ≡ Passed i → (n ≤ fault) × (i ≡ unclean)
+  pub was_passed : (i : ℕ) → scan_of number fault unclean n ≡ Ok i → (n ≤ fault) × (i ≡ unclean)
   unfolding scan_of
-  was_passed e = by (test (ltb fault n))
+  was_passed i e = by (test (ltb fault n))
     where
       by : Test (ltb fault n) → (n ≤ fault) × (i ≡ unclean)
-      by (holds t) = let f : Faulty fault ≡ Passed i = rw t at e in let z : ◌≡◌ {A = ℕ} 0 1 = cc in absurd (omega arith)
-      by (fails t) = let f : Passed unclean ≡ Passed i = rw t at e in let g : i ≡ unclean = cc in (ltb-false fault n t, g)
+      by (holds t) = let f : ◌≡◌ {A = Result ℕ Refusal} (Err (record { number = number; index = fault })) (Ok i) = rw t at e in let z : ◌≡◌ {A = ℕ} 0 1 = cc in absurd (omega arith)
+      by (fails t) = let f : ◌≡◌ {A = Result ℕ Refusal} (Ok unclean) (Ok i) = rw t at e in (ltb-false fault n t, cc)
 
 -- a check that an edition may not have, by the first record that fails it
 module _ (number : ℕ) (on : Bool) (good : ℕ → Bool) (n : ℕ) (c : Checked) {k : ℕ} (e : k ≡ asked on good n) where
@@ -147,7 +148,7 @@ module _ (rules : Edition) (b : List ℕ) (n : ℕ) {top : ℕ} (e : top ≡ hig
   pub variables_right : first_fault (variable_in top b) n 0 ≡ first_fault (variable_rule_in rules b) n 0
   variables_right = fault_agree _ _ n 0 (λ i l m. rw e (variable_top rules b i))
 
-  pub variables_fit : first_fault (λ i. variable_in top b i && variable_clean b i) n 0 ≡ first_fault (fit rules (variable_rule_in rules b) (variable_clean b) n) n 0
+  pub variables_fit : first_fault (λ i. variable_in top b i && variable_clean b i) n 0 ≡ first_fault (fit (variable_rule_in rules b) (variable_clean b)) n 0
   variables_fit = fault_agree _ _ n 0 (λ i l m. rw (e, variable_top rules b i))
 
   pub nodes_right : (base : ℕ) → first_fault (node_in top b base) n 0 ≡ first_fault (node_rule_in rules b base) n 0
@@ -172,7 +173,7 @@ module _ (rules : Named.Edition) (b : List ℕ) (vars base n : ℕ) where
 
   pub records_fit : {sets : Bool} → sets ≡ (edition_of rules).sets → (edition_of rules).spare ≡ true
       → first_fault (λ i. record_fits sets b vars (record_place base i)) n 0
-      ≡ first_fault (fit (edition_of rules) (record_rules (edition_of rules) b vars base) (record_clean (edition_of rules).sets b base) n) n 0
+      ≡ first_fault (fit (record_rules (edition_of rules) b vars base) (record_clean (edition_of rules).sets b base)) n 0
   unfolding record_fits record_clean
   records_fit e s = fault_agree _ _ n 0 (λ i l m. rw (e, all_known rules b vars (record_place base i) s))
 

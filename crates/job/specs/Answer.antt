@@ -1,5 +1,5 @@
 -- What the checks hand back, from the rules' definition of the checks. Assumes nothing.
-use Rattle.std.specs.Prelude.{◌≡◌, Bool, true, ◌&&◌, cond, List, ℕ, suc, ◌≤◌, ◌<◌, ltb, eqb, length}
+use Rattle.std.specs.Prelude.{◌≡◌, Bool, true, ◌&&◌, cond, List, ℕ, suc, ◌≤◌, ◌<◌, ltb, eqb, length, Result, Ok, Err}
 use Rattle.rules.specs.Limits.{max_records, bad_variable, bad_parent, bad_node, bad_block, bad_spare, bad_order}
 use Rattle.rules.specs.Bytes.{script_at, record_count, record_place}
 use Rattle.rules.specs.Blocks.{block_rule}
@@ -7,13 +7,9 @@ use Rattle.rules.specs.Check as Check
 use Rattle.rules.specs.Check.{variable_rule_in, parent_rule, order_rule, node_rule_in, record_rule_in, variable_clean, node_clean, record_clean, code, first_fault, require_each, require_if, first, unordered, today}
 use Rattle.rules.specs.Check.{check_script, check_records, check_bytes_by}
 use Rattle.fields.specs.declared.sections.Layout.{Layout}
-use Rattle.job.specs.declared.checks.Checked.{Checked}
-use Rattle.job.specs.declared.checks.Checked.TheVariants.{Accepted, Refused}
-use Rattle.job.specs.declared.checks.Script.{Script}
-use Rattle.job.specs.declared.checks.Script.TheVariants.{Sound, Faulty}
+use Rattle.job.specs.declared.checks.Refusal.{Refusal}
 use Rattle.job.specs.declared.checks.Edition.{Edition}
 use Rattle.job.specs.declared.checks.Edition.TheVariants.{First, Unordered, Today}
-use Rattle.job.specs.declared.checks.Scan.{Scan}
 use Rattle.job.specs.declared.checks.Unclean.{Unclean}
 use Rattle.fields.specs.Layout.{layout_of, Inside}
 use Rattle.fields.specs.Fits.{variable_in}
@@ -26,9 +22,9 @@ edition_of Unordered = unordered
 edition_of Today = today
 
 -- an accepted job with a layout; a refused one with the paper's number and index
-unfoldable pub answer : Layout → Check.Checked → Checked
-answer l Check.accepted = Accepted l
-answer l (Check.refused k i) = Refused k i
+unfoldable pub answer : Layout → Check.Checked → Result Layout Refusal
+answer l Check.accepted = Ok l
+answer l (Check.refused k i) = Err (record { number = k; index = i })
 
 -- the highest level of an edition: all eight parties, or before R-12 the house
 unfoldable pub highest_of : Check.Edition → ℕ
@@ -64,13 +60,13 @@ record_rules rules b vs base i = record_rule_in rules b vs (record_place base i)
 unfoldable pub asked : Bool → (ℕ → Bool) → ℕ → ℕ
 asked on good n = cond on (first_fault good n 0) n
 
--- a scan of n records that found a first fault, or else a first record that is not clean
-unfoldable pub scan_of : ℕ → ℕ → ℕ → Scan
-scan_of fault unclean n = cond (ltb fault n) (Scan.Faulty fault) (Scan.Passed unclean)
+-- a scan of n records by the check k, which found a first fault, or else a first record that is not clean
+unfoldable pub scan_of : ℕ → ℕ → ℕ → ℕ → Result ℕ Refusal
+scan_of k fault unclean n = cond (ltb fault n) (Err (record { number = k; index = fault })) (Ok unclean)
 
 -- what the scan of n records comes to
-unfoldable pub scanned : Check.Edition → (ℕ → Bool) → (ℕ → Bool) → ℕ → Scan
-scanned rules right clean n = scan_of (first_fault right n 0) (asked rules.spare clean n) n
+unfoldable pub scanned : ℕ → Check.Edition → (ℕ → Bool) → (ℕ → Bool) → ℕ → Result ℕ Refusal
+scanned k rules right clean n = scan_of k (first_fault right n 0) (asked rules.spare clean n) n
 
 -- what is not clean, section by section
 unfoldable pub unclean_of : Check.Edition → List ℕ → Layout → Unclean
@@ -93,9 +89,9 @@ pub record Fitted (b : List ℕ) (l : Layout) (p : List ℕ) : Type 0 where
   pub room : l.records < length p
 
 -- what the checks of a script hand back
-unfoldable pub told : Check.Checked → Script
-told Check.accepted = Sound
-told (Check.refused k i) = Faulty k i
+unfoldable pub told : Check.Checked → Result (Unit {0}) Refusal
+told Check.accepted = Ok tt
+told (Check.refused k i) = Err (record { number = k; index = i })
 
 module _ (b : List ℕ) (l : Layout) where
   -- what is left of the checks from 8 on, for the sections of a layout
@@ -126,16 +122,16 @@ module _ (b : List ℕ) (l : Layout) where
     from_variables = check_records rules b l.variables l.tree l.nodes l.script l.records
 
   -- what checks that come to c hand back of a script, and what they make of the words p
-  pub record ScriptTold (c : Check.Checked) (p p' : List ℕ) (r : Script) : Type 0 where
+  pub record ScriptTold (c : Check.Checked) (p p' : List ℕ) (r : Result (Unit {0}) Refusal) : Type 0 where
     pub answered : r ≡ told c
     pub plans : Plans (code b l.script) l.records c p p'
 
   -- the same of a job
-  pub record JobTold (c : Check.Checked) (p p' : List ℕ) (r : Checked) : Type 0 where
+  pub record JobTold (c : Check.Checked) (p p' : List ℕ) (r : Result Layout Refusal) : Type 0 where
     pub answered : r ≡ answer l c
     pub plans : Plans (code b l.script) l.records c p p'
 
 -- what the checks of an edition make of a job's bytes and the words p: their answer, and the plan of the script
-pub record Prepared (rules : Check.Edition) (b p p' : List ℕ) (r : Checked) : Type 0 where
+pub record Prepared (rules : Check.Edition) (b p p' : List ℕ) (r : Result Layout Refusal) : Type 0 where
   pub answered : r ≡ answer (layout_of b) (check_bytes_by rules b)
   pub plans : Plans (code b (script_at b)) (record_count b) (check_bytes_by rules b) p p'

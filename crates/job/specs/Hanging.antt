@@ -1,15 +1,12 @@
 -- What the one pass over the nodes goes by. Assumes nothing.
-use Rattle.std.specs.Prelude.{◌≡◌, true, List, ℕ, ◌<◌}
+use Rattle.std.specs.Prelude.{◌≡◌, true, List, ℕ, ◌<◌, Option, MatchOption, ⊤}
 use Rattle.rules.specs.Check.{order_rule, node_clean}
-use Rattle.job.specs.declared.preorder.Hung.{Hung}
-use Rattle.job.specs.declared.preorder.Hung.TheVariants.{InOrder, Astray}
 use Rattle.fields.specs.Fits.{node_in}
 use Rattle.fields.specs.Siblings.{beside}
 
--- what is known of node i; of one that is out of order nothing
-abbrev pub Hangs : List ℕ → ℕ → ℕ → Hung → Type 0
-Hangs b base i (InOrder k) = (order_rule b base i ≡ true) × (k ≡ beside b base i)
-Hangs b base i Astray = Unit {0}
+-- what is known of node i, by its left sibling or its parent; of one that is out of order nothing
+abbrev pub Hangs : List ℕ → ℕ → ℕ → Option ℕ → Type 0
+Hangs b base i o = MatchOption o ⊤ (λ k. (order_rule b base i ≡ true) × (k ≡ beside b base i))
 
 -- the first n nodes are in order
 pub record Ordered (b : List ℕ) (base n : ℕ) : Type 0 where

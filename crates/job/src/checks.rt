@@ -1,7 +1,7 @@
 // The checks of a job's bytes: 1 to 8 in order of number, with 13 between 5 and 6 and 12 between 7 and 8. An accepted job takes a pass for 4 with 12, for 5, for 13 with 6 and
 // 12, for 7 with 12, and for 8; where a pass finds a record that fails, its checks are made one by one.
 ghost use Rattle.std.specs.Prelude.{◌≡◌, ◌≤◌, ◌<◌, length};
-ghost use Rattle.rules.specs.Limits.{command_count, max_records};
+ghost use Rattle.rules.specs.Limits.{command_count, max_records, bad_variable, bad_node, bad_record};
 ghost use Rattle.rules.specs.Bytes.{record_place};
 ghost use Rattle.rules.specs.Check.{variable_rule_in, order_rule, node_rule_in, variable_clean, node_clean, record_clean, first_fault, today, check_bytes_by, check_bytes};
 ghost use Rattle.fields.specs.Layout.{layout_of, Inside};
@@ -20,11 +20,11 @@ use rules::limits::{
     BAD_SPARE, BAD_VARIABLE, COMMANDS,
 };
 
-// An accepted job with its layout, or the number that turns a job back, with the index of the first faulty record.
-#[derive(Drop)]
-pub enum Checked {
-    Accepted(Layout),
-    Refused { number: u8, index: usize },
+// The number that turns a job or a script back, with the index of the first faulty record.
+#[derive(Clone, Copy, Debug, PartialEq, Eq)]
+pub struct Refusal {
+    pub number: u8,
+    pub index: usize,
 }
 
 // The rules that are checked: paper 01 with R-1 to R-3, which the cleaner keeps, or with R-1 to R-9, which the rearranger keeps, or those of today.
@@ -118,39 +118,46 @@ fn first_fault(job: &[u8], l: Layout, top: u8, number: u8, count: usize) -> usiz
     i
 }
 
-// What a scan of a section comes to: its first faulty record, or where none is faulty the first with a spare byte that is not zero. Where there is none, or none is asked
-// for, that is the count.
-#[derive(Drop)]
-pub enum Scan {
-    Faulty(usize),
-    Passed(usize),
-}
-
-fn scan_of(fault: usize, unclean: usize, count: usize) -> Scan
-    ensures { result ≡ scan_of fault unclean count }
+// What a scan of a section comes to: its first faulty record turns it back, with the number of the check; where none is faulty, the first with a spare byte that is not zero.
+// Where there is none, or none is asked for, that is the count.
+fn scan_of(number: u8, fault: usize, unclean: usize, count: usize) -> Result<usize, Refusal>
+    ensures { result ≡ scan_of number fault unclean count }
 {
     if fault < count {
-        Scan::Faulty(fault)
+        Err(Refusal {
+            number,
+            index: fault,
+        })
     } else {
-        Scan::Passed(unclean)
+        Ok(unclean)
     }
 }
 
 // The checks 4 and 12, of the variables.
-fn scan_variables(job: &[u8], l: Layout, rules: Edition) -> Scan
+fn scan_variables(job: &[u8], l: Layout, rules: Edition) -> Result<usize, Refusal>
     requires { Inside job.now l }
-    ensures { result ≡ scanned (edition_of rules) (variable_rule_in (edition_of rules) job.now) (variable_clean job.now) l.variables }
+    ensures { result ≡ scanned bad_variable (edition_of rules) (variable_rule_in (edition_of rules) job.now) (variable_clean job.now) l.variables }
 {
     let count = l.variables;
     let top = highest(rules);
     if !has_spare(rules) {
-        return scan_of(first_fault(job, l, top, BAD_VARIABLE, count), count, count);
+        return scan_of(
+            BAD_VARIABLE,
+            first_fault(job, l, top, BAD_VARIABLE, count),
+            count,
+            count,
+        );
     }
     let unfit = first_fault(job, l, top, BAD_SPARE, count);
     if unfit == count {
-        return Scan::Passed(count);
+        return Ok(count);
     }
-    scan_of(first_fault(job, l, top, BAD_VARIABLE, count), unfit, count)
+    scan_of(
+        BAD_VARIABLE,
+        first_fault(job, l, top, BAD_VARIABLE, count),
+        unfit,
+        count,
+    )
 }
 
 // Check 13, where it is asked for: the first node that fails it, or the count.
@@ -165,29 +172,33 @@ fn first_unordered(job: &[u8], l: Layout, rules: Edition) -> usize
 }
 
 // The checks 6 and 12, of the nodes.
-fn scan_nodes(job: &[u8], l: Layout, rules: Edition) -> Scan
+fn scan_nodes(job: &[u8], l: Layout, rules: Edition) -> Result<usize, Refusal>
     requires { Linked job.now l.tree l.nodes }
-    ensures { result ≡ scanned (edition_of rules) (node_rule_in (edition_of rules) job.now l.tree) (node_clean job.now l.tree) l.nodes }
+    ensures { result ≡ scanned bad_node (edition_of rules) (node_rule_in (edition_of rules) job.now l.tree) (node_clean job.now l.tree) l.nodes }
 {
     let top = highest(rules);
     let fault = nodes::first_fault(job, l.tree, l.nodes, top);
     if fault < l.nodes {
-        return Scan::Faulty(fault);
+        return Err(Refusal {
+            number: BAD_NODE,
+            index: fault,
+        });
     }
     if has_spare(rules) {
-        return Scan::Passed(nodes::first_unclean(job, l.tree, l.nodes));
+        return Ok(nodes::first_unclean(job, l.tree, l.nodes));
     }
-    Scan::Passed(l.nodes)
+    Ok(l.nodes)
 }
 
 // The checks 7 and 12, of the script.
-fn scan_records(bytes: &[u8], l: Layout, variables: usize, rules: Edition) -> Scan
+fn scan_records(bytes: &[u8], l: Layout, variables: usize, rules: Edition) -> Result<usize, Refusal>
     requires { record_place l.script l.records ≤ length bytes.now }
-    ensures { result ≡ scanned (edition_of rules) (record_rules (edition_of rules) bytes.now variables l.script) (record_clean (edition_of rules).sets bytes.now l.script) l.records }
+    ensures { result ≡ scanned bad_record (edition_of rules) (record_rules (edition_of rules) bytes.now variables l.script) (record_clean (edition_of rules).sets bytes.now l.script) l.records }
 {
     let count = l.records;
     if !has_spare(rules) {
         return scan_of(
+            BAD_RECORD,
             records::first_fault(bytes, l.script, count, variables, commands(rules)),
             count,
             count,
@@ -195,35 +206,29 @@ fn scan_records(bytes: &[u8], l: Layout, variables: usize, rules: Edition) -> Sc
     }
     let unfit = spare::first_unfit(bytes, l.script, count, variables, has_sets(rules));
     if unfit == count {
-        return Scan::Passed(count);
+        return Ok(count);
     }
     scan_of(
+        BAD_RECORD,
         records::first_fault(bytes, l.script, count, variables, commands(rules)),
         unfit,
         count,
     )
 }
 
-// A sound script, or the number that turns it back, with the index of the first faulty record.
-#[derive(Drop)]
-pub enum Script {
-    Sound,
-    Faulty { number: u8, index: usize },
-}
-
 // Check 8, and the plan of the script.
-fn check_blocks(bytes: &[u8], l: Layout, plan: &mut [u32]) -> Script
+fn check_blocks(bytes: &[u8], l: Layout, plan: &mut [u32]) -> Result<(), Refusal>
     requires { Fitted bytes.now l plan.old }
     ensures { ScriptTold bytes.now l (from_blocks bytes.now l) plan.old plan.new result }
 {
     let index = blocks::first_fault(bytes, l.script, l.records, plan);
     if index <= l.records {
-        return Script::Faulty {
+        return Err(Refusal {
             number: BAD_BLOCK,
             index,
-        };
+        });
     }
-    Script::Sound
+    Ok(())
 }
 
 // Of each section the first record with a spare byte that is not zero, or the count.
@@ -241,27 +246,27 @@ fn check_spare(
     unclean: Unclean,
     rules: Edition,
     plan: &mut [u32],
-) -> Script
+) -> Result<(), Refusal>
     requires { Fitted bytes.now l plan.old × (unclean ≡ unclean_of (edition_of rules) bytes.now l) }
     ensures { ScriptTold bytes.now l (from_spare bytes.now l (edition_of rules)) plan.old plan.new result }
 {
     if unclean.variables < l.variables {
-        return Script::Faulty {
+        return Err(Refusal {
             number: BAD_SPARE,
             index: unclean.variables,
-        };
+        });
     }
     if unclean.nodes < l.nodes {
-        return Script::Faulty {
+        return Err(Refusal {
             number: BAD_SPARE,
             index: unclean.nodes,
-        };
+        });
     }
     if unclean.records < l.records {
-        return Script::Faulty {
+        return Err(Refusal {
             number: BAD_SPARE,
             index: unclean.records,
-        };
+        });
     }
     check_blocks(bytes, l, plan)
 }
@@ -275,28 +280,17 @@ pub fn check_script(
     node: usize,
     rules: Edition,
     plan: &mut [u32],
-) -> Script
+) -> Result<(), Refusal>
     requires { Fitted bytes.now l plan.old × Fronted (edition_of rules) bytes.now l variable node }
     ensures { ScriptTold bytes.now l (from_script bytes.now l (edition_of rules) variables) plan.old plan.new result }
 {
-    let scan = scan_records(bytes, l, variables, rules);
-    match scan {
-        Scan::Faulty(index) => Script::Faulty {
-            number: BAD_RECORD,
-            index,
-        },
-        Scan::Passed(records) => check_spare(
-            bytes,
-            l,
-            Unclean {
-                variables: variable,
-                nodes: node,
-                records,
-            },
-            rules,
-            plan,
-        ),
-    }
+    let records = scan_records(bytes, l, variables, rules)?;
+    let unclean = Unclean {
+        variables: variable,
+        nodes: node,
+        records,
+    };
+    check_spare(bytes, l, unclean, rules, plan)
 }
 
 // From check 7 on, of a job.
@@ -307,28 +301,31 @@ fn check_job_script(
     node: usize,
     rules: Edition,
     plan: &mut [u32],
-) -> Checked
+) -> Result<Layout, Refusal>
     requires { Fitted job.now l plan.old × Fronted (edition_of rules) job.now l variable node }
     ensures { JobTold job.now l (from_script job.now l (edition_of rules) l.variables) plan.old plan.new result }
 {
-    let script = check_script(job, l, l.variables, variable, node, rules, plan);
-    match script {
-        Script::Sound => Checked::Accepted(l),
-        Script::Faulty { number, index } => Checked::Refused { number, index },
-    }
+    check_script(job, l, l.variables, variable, node, rules, plan)?;
+    Ok(l)
 }
 
 // From check 5 on.
-fn check_nodes(job: &[u8], l: Layout, variable: usize, rules: Edition, plan: &mut [u32]) -> Checked
+fn check_nodes(
+    job: &[u8],
+    l: Layout,
+    variable: usize,
+    rules: Edition,
+    plan: &mut [u32],
+) -> Result<Layout, Refusal>
     requires { Inside job.now l × (max_records < length plan.old) × (variable ≡ asked (edition_of rules).spare (variable_clean job.now) l.variables) }
     ensures { JobTold job.now l (from_nodes job.now l (edition_of rules)) plan.old plan.new result }
 {
     let index = first_fault(job, l, ALL, BAD_PARENT, l.nodes);
     if index < l.nodes {
-        return Checked::Refused {
+        return Err(Refusal {
             number: BAD_PARENT,
             index,
-        };
+        });
     }
     // Nodes that pass 13, 6 and 12 have no fault, also where 13 and 12 are not asked for.
     if preorder::all_fit(job, l.tree, l.nodes, highest(rules)) {
@@ -336,73 +333,61 @@ fn check_nodes(job: &[u8], l: Layout, variable: usize, rules: Edition, plan: &mu
     }
     let index = first_unordered(job, l, rules);
     if index < l.nodes {
-        return Checked::Refused {
+        return Err(Refusal {
             number: BAD_ORDER,
             index,
-        };
+        });
     }
-    let scan = scan_nodes(job, l, rules);
-    match scan {
-        Scan::Faulty(index) => Checked::Refused {
-            number: BAD_NODE,
-            index,
-        },
-        Scan::Passed(node) => check_job_script(job, l, variable, node, rules, plan),
-    }
+    let node = scan_nodes(job, l, rules)?;
+    check_job_script(job, l, variable, node, rules, plan)
 }
 
 // From check 4 on.
-fn check_records(job: &[u8], l: Layout, rules: Edition, plan: &mut [u32]) -> Checked
+fn check_records(job: &[u8], l: Layout, rules: Edition, plan: &mut [u32]) -> Result<Layout, Refusal>
     requires { Inside job.now l × (max_records < length plan.old) }
     ensures { JobTold job.now l (from_variables job.now l (edition_of rules)) plan.old plan.new result }
 {
-    let scan = scan_variables(job, l, rules);
-    match scan {
-        Scan::Faulty(index) => Checked::Refused {
-            number: BAD_VARIABLE,
-            index,
-        },
-        Scan::Passed(variable) => check_nodes(job, l, variable, rules, plan),
-    }
+    let variable = scan_variables(job, l, rules)?;
+    check_nodes(job, l, variable, rules, plan)
 }
 
 // All of them. For 1 to 3 the index is 0; for an unclosed block it is the number of records.
-fn check_bytes(job: &[u8], rules: Edition, plan: &mut [u32]) -> Checked
+fn check_bytes(job: &[u8], rules: Edition, plan: &mut [u32]) -> Result<Layout, Refusal>
     requires { max_records < length plan.old }
     ensures { Prepared (edition_of rules) job.now plan.old plan.new result }
 {
     if !length_ok(job.len()) {
-        return Checked::Refused {
+        return Err(Refusal {
             number: BAD_LENGTH,
             index: 0,
-        };
+        });
     }
     if !offsets_ok(job) {
-        return Checked::Refused {
+        return Err(Refusal {
             number: BAD_OFFSETS,
             index: 0,
-        };
+        });
     }
     let l = layout_of(job);
     if !counts_ok(l) {
-        return Checked::Refused {
+        return Err(Refusal {
             number: BAD_COUNT,
             index: 0,
-        };
+        });
     }
     check_records(job, l, rules, plan)
 }
 
 // The checks of today, and for an accepted job the plan of its script. Where 8 refuses a record, the plan holds the words of those before it; a job that is refused
 // before leaves it alone.
-pub fn prepare(job: &[u8], plan: &mut [u32; WORDS]) -> Checked
+pub fn prepare(job: &[u8], plan: &mut [u32; WORDS]) -> Result<Layout, Refusal>
     ensures { Prepared today job.now plan.old plan.new result }
 {
     check_bytes(job, Edition::Today, plan)
 }
 
 // The checks of an edition alone.
-pub fn check_by(job: &[u8], rules: Edition) -> Checked
+pub fn check_by(job: &[u8], rules: Edition) -> Result<Layout, Refusal>
     ensures { result ≡ answer (layout_of job.now) (check_bytes_by (edition_of rules) job.now) }
 {
     let mut plan = [0u32; WORDS];
@@ -410,7 +395,7 @@ pub fn check_by(job: &[u8], rules: Edition) -> Checked
 }
 
 // The checks of today alone.
-pub fn check(job: &[u8]) -> Checked
+pub fn check(job: &[u8]) -> Result<Layout, Refusal>
     ensures { result ≡ answer (layout_of job.now) (check_bytes job.now) }
 {
     check_by(job, Edition::Today)

@@ -4,7 +4,7 @@ ghost use Rattle.rules.specs.Limits.{max_records};
 ghost use Rattle.rules.specs.History.{section_rule};
 ghost use Rattle.job.specs.FollowOn.{SectionPrepared};
 
-use crate::checks::{Edition, Script, check_script};
+use crate::checks::{Edition, Refusal, check_script};
 use crate::plan::WORDS;
 use fields::sections::Layout;
 use rules::limits::{BAD_FOLLOW_ON, MAX_RECORDS, RECORD_SIZE};
@@ -16,15 +16,15 @@ fn section_ok(section: &[u8]) -> bool
     (section.len() % RECORD_SIZE == 0) & (section.len() / RECORD_SIZE <= MAX_RECORDS)
 }
 
-fn check_section(section: &[u8], variables: usize, plan: &mut [u32]) -> Script
+fn check_section(section: &[u8], variables: usize, plan: &mut [u32]) -> Result<(), Refusal>
     requires { max_records < length plan.old }
     ensures { SectionPrepared section.now variables plan.old plan.new result }
 {
     if !section_ok(section) {
-        return Script::Faulty {
+        return Err(Refusal {
             number: BAD_FOLLOW_ON,
             index: 0,
-        };
+        });
     }
     let l = Layout {
         variables: 0,
@@ -37,7 +37,11 @@ fn check_section(section: &[u8], variables: usize, plan: &mut [u32]) -> Script
 }
 
 // The checks of a section's bytes where so many variables stand, and for a sound one its plan, as `prepare` has it for a job.
-pub fn prepare_section(section: &[u8], variables: usize, plan: &mut [u32; WORDS]) -> Script
+pub fn prepare_section(
+    section: &[u8],
+    variables: usize,
+    plan: &mut [u32; WORDS],
+) -> Result<(), Refusal>
     ensures { SectionPrepared section.now variables plan.old plan.new result }
 {
     check_section(section, variables, plan)

@@ -8,5 +8,5 @@ pub mod plan;
 mod preorder;
 mod spare;
 
-pub use checks::{Checked, Edition, Script, check, check_by, prepare};
+pub use checks::{Edition, Refusal, check, check_by, prepare};
 pub use follow_on::prepare_section;

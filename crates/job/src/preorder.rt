@@ -6,35 +6,27 @@ ghost use Rattle.job.specs.Hanging.{Hangs, Ordered, Fit, AllFit};
 
 use fields::nodes::{child_ok, clean_ok, own_ok, parent_at};
 
-// A node in order, with its left sibling, or with its parent where it has none; or one that is not in order.
-#[derive(Drop)]
-pub enum Hung {
-    InOrder(usize),
-    Astray,
-}
-
-// The search for the left sibling of node i, where the nodes before it are in order. Each step up leaves a subtree for good, so the walks of all nodes together are no longer
-// than there are nodes.
-fn left_of(job: &[u8], base: usize, i: usize) -> Hung
+// The left sibling of node i, or its parent where it has none, if node i is in order, where the nodes before it are. Each step up leaves a subtree for good, so the walks of
+// all nodes together are no longer than there are nodes.
+fn left_of(job: &[u8], base: usize, i: usize) -> Option<usize>
     requires { (i ≡ 0 → ⊥) × Rooted job.now base i × Ordered job.now base i }
     ensures { Hangs job.now base i result }
 {
     let p = parent_at(job, base, i);
     let mut k = i - 1;
-    let found = loop {
+    loop {
         if k == p {
-            break Hung::InOrder(p);
+            break Some(p);
         }
         let q = parent_at(job, base, k);
         if q == p {
-            break Hung::InOrder(k);
+            break Some(k);
         }
         if q < p {
-            break Hung::Astray;
+            break None;
         }
         k = q;
-    };
-    found
+    }
 }
 
 // Whether node i passes, where `top` is the highest level.
@@ -51,8 +43,7 @@ fn node_fits(job: &[u8], base: usize, i: usize, top: u8) -> bool
     if i == 0 {
         return true;
     }
-    let found = left_of(job, base, i);
-    let Hung::InOrder(k) = found else {
+    let Some(k) = left_of(job, base, i) else {
         return false;
     };
     child_ok(job, base, i, k)

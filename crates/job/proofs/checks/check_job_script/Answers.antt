@@ -1,18 +1,17 @@
--- `check_job_script` meets its contract: what the script's checks say, said of the job. Assumes nothing.
+use Rattle.std.proofs.lemmas.Result.{err_from_is_err_and}
 use mathlib.Core.Path.{sym, ap, ◌∙◌}
 use Rattle.job.specs.Answer.{answer}
 use Rattle.job.proofs.Answers.{is_sound, is_faulty}
 use Rattle.job.proofs.checks.check_job_script.Goals as goal
 
-pub returns-in-Sound : goal.returns-in-Sound
+pub returns-in_err-check_script : goal.returns-in_err-check_script
 unfolding answer
-returns-in-Sound c = let s = c.check_script-script.ensures in
-    let e = is_sound _ (sym s.answered ∙ c.in-Sound.is) in record { answered = sym (ap (answer _) e); plans = s.plans }
+returns-in_err-check_script c = let p = err_from_is_err_and c.from_residual.result c.from_residual.ensures.1 in
+    let s = c.check_script.ensures in
+    let e = is_faulty _ _ (sym s.answered ∙ c.in_err-check_script.was) in
+    rw (p.1, p.2) (record { answered = sym (ap (answer _) e); plans = s.plans })
 
-pub returns-in-Faulty : goal.returns-in-Faulty
+pub returns : goal.returns
 unfolding answer
-returns-in-Faulty c = let s = c.check_script-script.ensures in
-    let e = is_faulty _ _ _ (sym s.answered ∙ c.in-Faulty.is) in record { answered = sym (ap (answer _) e); plans = s.plans }
-
-pub check_script-script-requires : goal.check_script-script-requires
-check_script-script-requires c = c.requires
+returns c = let s = c.check_script.ensures in
+    let e = is_sound _ _ (sym s.answered ∙ c.in_ok-check_script.was) in record { answered = sym (ap (answer _) e); plans = s.plans }

@@ -2,6 +2,7 @@
 use mathlib.Core.Path.{◌≡◌, refl, sym, ap, subst, ◌∙◌}
 use Prim.Native.Nat.{ℕ}
 use native.Mathlib.Omega.{arith}
+use Rattle.std.proofs.lemmas.Result.{err_from_is_err_and}
 use Rattle.rules.specs.Limits.{bad_parent, bad_node, bad_order}
 use Rattle.rules.specs.Check.{require_each, require_if, order_rule, node_rule_in}
 use Rattle.rules.proofs.Search.{all_pass}
@@ -71,24 +72,25 @@ unfolding answer
 returns-then-index-l-2 c = let e = past5 (goal.at.returns-then-index-l-2 c).Else-index-l ∙ asked_stopped bad_order _ _ _ _ c.first_unordered-index.ensures c.if-index-l-2.true in
     record { answered = sym (ap (answer _) e); plans = plans_not _ _ _ _ _ bad_order _ (λ q. omega arith) e refl }
 
-pub scan_nodes-scan-requires : goal.scan_nodes-scan-requires
-scan_nodes-scan-requires c = linked (goal.at.scan_nodes-scan-requires c).Else-index-l
+pub scan_nodes-requires : goal.scan_nodes-requires
+scan_nodes-requires c = linked (goal.at.scan_nodes-requires c).Else-index-l
 
-pub check_job_script-requires-in-Passed : goal.check_job_script-requires-in-Passed
+pub check_job_script-requires-2 : goal.check_job_script-requires-2
 unfolding scanned
-check_job_script-requires-in-Passed c = let q = c.requires in
-    let w = was_passed _ _ _ _ (sym c.scan_nodes-scan.ensures ∙ c.in-Passed.is) in
+check_job_script-requires-2 c = let q = c.requires in
+    let w = was_passed _ _ _ _ _ (sym c.scan_nodes.ensures ∙ c.in_ok-node.was) in
     (record { inside = q.0.records; short = q.0.short; room = omega (arith, q.0.short, q.1) }, record { variables = q.2; nodes = w.1 })
 
-pub returns-in-Faulty : goal.returns-in-Faulty
+pub returns-in_err-node : goal.returns-in_err-node
 unfolding scanned answer
-returns-in-Faulty c = let w = was_faulty _ _ _ _ (sym c.scan_nodes-scan.ensures ∙ c.in-Faulty.is) in
-    let e = past13 (goal.at.returns-in-Faulty c).Else-index-l-2 ∙ stopped bad_node _ _ _ w.0 w.1 in
-    record { answered = sym (ap (answer _) e); plans = plans_not _ _ _ _ _ bad_node _ (λ q. omega arith) e refl }
+returns-in_err-node c = let p = err_from_is_err_and c.from_residual.result c.from_residual.ensures.1 in
+    let w = was_faulty _ _ _ _ _ (sym c.scan_nodes.ensures ∙ c.in_err-node.was) in
+    let e = past13 (goal.at.returns-in_err-node c).Else-index-l-2 ∙ stopped bad_node _ _ _ refl w.1 in
+    rw (p.1, p.2, w.0) (record { answered = sym (ap (answer _) e); plans = plans_not _ _ _ _ _ bad_node _ (λ q. omega arith) e refl })
 
-pub returns-in-Passed : goal.returns-in-Passed
+pub returns : goal.returns
 unfolding scanned
-returns-in-Passed c = let w = was_passed _ _ _ _ (sym c.scan_nodes-scan.ensures ∙ c.in-Passed.is) in
-    let e = past13 (goal.at.returns-in-Passed c).Else-index-l-2 ∙ through bad_node _ _ _ refl w.0 in
-    let s = c.check_job_script-in-Passed.ensures in
+returns c = let w = was_passed _ _ _ _ _ (sym c.scan_nodes.ensures ∙ c.in_ok-node.was) in
+    let e = past13 (goal.at.returns c).Else-index-l-2 ∙ through bad_node _ _ _ refl w.0 in
+    let s = c.check_job_script-2.ensures in
     record { answered = s.answered ∙ sym (ap (answer _) e); plans = plans_along e s.plans }

@@ -19,14 +19,14 @@ first_fault-requires-2 c = record { inside = c.requires; count = refl; parents =
 
 pub returns-then-not-has_spare : goal.returns-then-not-has_spare
 unfolding rule_of
-returns-then-not-has_spare c = c.scan_of.ensures ∙ not_asked _ _ _ _ (sym c.has_spare.ensures ∙ c.if-not-has_spare.true) (c.first_fault.ensures ∙ variables_right _ _ _ c.highest-top.ensures)
+returns-then-not-has_spare c = c.scan_of.ensures ∙ not_asked _ _ _ _ _ (sym c.has_spare.ensures ∙ c.if-not-has_spare.true) (c.first_fault.ensures ∙ variables_right _ _ _ c.highest-top.ensures)
 
 pub returns-then-unfit-count : goal.returns-then-unfit-count
 unfolding rule_of
-returns-then-unfit-count c = all_fit _ _ _ _ (sym c.has_spare.ensures ∙ c.if-not-has_spare.false) (c.first_fault-unfit.ensures ∙ variables_fit _ _ _ c.highest-top.ensures) c.if-unfit-count.true
+returns-then-unfit-count c = all_fit _ _ _ _ _ (sym c.has_spare.ensures ∙ c.if-not-has_spare.false) (c.first_fault-unfit.ensures ∙ variables_fit _ _ _ c.highest-top.ensures) c.if-unfit-count.true
 
 pub returns : goal.returns
 unfolding rule_of
 returns c = c.scan_of-2.ensures
-    ∙ first_unclean _ _ _ _ (sym c.has_spare.ensures ∙ c.if-not-has_spare.false) (c.first_fault-unfit.ensures ∙ variables_fit _ _ _ c.highest-top.ensures)
+    ∙ first_unclean _ _ _ _ _ (sym c.has_spare.ensures ∙ c.if-not-has_spare.false) (c.first_fault-unfit.ensures ∙ variables_fit _ _ _ c.highest-top.ensures)
     (c.first_fault-2.ensures ∙ variables_right _ _ _ c.highest-top.ensures)

@@ -1,19 +1,10 @@
 -- `node_fits` meets its contract: what is asked of the node alone, then its order, then what is asked by its parent and left sibling. Assumes nothing.
-use mathlib.Core.Path.{refl, sym, subst, ◌∙◌}
+use mathlib.Core.Path.{refl, sym, ◌∙◌}
 use borrow.Author.Tests.{eq-eqb, ne_eqb}
 use Rattle.rules.specs.Check.{order_rule}
 use Rattle.rules.proofs.Tests.{clash}
-use Rattle.job.specs.declared.preorder.Hung.{Hung}
-use Rattle.job.specs.declared.preorder.Hung.TheVariants.{InOrder}
-use Rattle.job.specs.Hanging.{Hangs}
 use Rattle.fields.proofs.Siblings.{rule_parts}
 use Rattle.job.proofs.preorder.node_fits.Goals as goal
-use Rattle.job.proofs.preorder.node_fits.Goals.{In-InOrder}
-
-hangs : (c : In-InOrder) → let a = c.args in Hangs a.job.now a.base a.i (InOrder c.in-InOrder.k)
-hangs c =
-    let a = c.args in
-    subst (λ (h : Hung). Hangs a.job.now a.base a.i h) c.in-InOrder.is c.left_of-found.ensures
 
 pub returns-then-i-eq0 : goal.returns-then-i-eq0
 unfolding order_rule
@@ -26,16 +17,16 @@ returns-then-i-eq0 c e = let a = c.args in
     }
 
 -- the nodes before are in order
-pub left_of-found-requires : goal.left_of-found-requires
-left_of-found-requires c = let q = c.requires in (c.if-i-eq0.false, q.0, record { each = λ k l. (q.1.each k l).order })
+pub left_of-requires : goal.left_of-requires
+left_of-requires c = let q = c.requires in (c.if-i-eq0.false, q.0, record { each = λ k l. (q.1.each k l).order })
 
 pub child_ok-requires : goal.child_ok-requires
-child_ok-requires c = (c.if-i-eq0.false, c.requires.0, (hangs c).1)
+child_ok-requires c = (c.if-i-eq0.false, c.requires.0, c.in-Some.ensures.1)
 
 pub returns : goal.returns
 returns c e = let a = c.args in
     record {
-      order = (hangs (goal.at.returns c).In-InOrder).0;
+      order = c.in-Some.ensures.0;
       node =
           rw (
             rule_parts a.top a.job.now a.base a.i,
