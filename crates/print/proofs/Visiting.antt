@@ -1,8 +1,10 @@
 -- Laws of the preorder: what comes from a node on follows from its place alone, so that each node comes once; and what comes behind it is what its
 -- links lead to. Assumes nothing.
-use mathlib.Core.Bool.{Bool, true, false, not, true≢false}
+use mathlib.Core.Bool.{Bool, true, false, true≢false}
 use mathlib.Core.List.{List, [], ◌∷◌, ◌++◌, append_assoc, append-nil}
-use mathlib.Core.Option.{Option, none, some}
+use mathlib.Core.Option.{none, some}
+use mathlib.Core.Option as Places
+use Rattle.std.specs.Prelude.{Option, Some, None}
 use mathlib.Core.Path.{◌≡◌, refl, sym, ◌∙◌, ap, subst}
 use native.Mathlib.Numerals.{add-one}
 use native.Mathlib.Omega.{arith}
@@ -15,8 +17,9 @@ use Rattle.rules.specs.Tree.{Forest, nil, tree, Side, child, sibling, along, Pla
 use Rattle.table.specs.Cells.{Table}
 use Rattle.table.specs.Holds.{Holds}
 use Rattle.table.specs.Promises.{Leads, outside, missing, found}
+use Rattle.print.specs.declared.preorder.Visit.{Visit}
 use Rattle.table.proofs.Moves.{stands, to_root}
-use Rattle.print.specs.Preorder.{Stop, stop, preorder, Stands, Goes, on, over, depth, later, from, First}
+use Rattle.print.specs.Preorder.{Stop, stop, preorder, Stands, depth, later, from, Goes, First, Begins}
 
 -- there are as many as the tree has nodes
 pub length_preorder : (p : Place) (d : ℕ) (f : Forest) → length (preorder p d f) ≡ size f
@@ -160,13 +163,13 @@ pub record Climb (m : Table) (n used free : ℕ) (t : Forest) (p : Place) (x d :
 
 module _ {m : Table} {n used free : ℕ} {t : Forest} where
   -- a move that leads to a place of the table has come to a node
-  moved : {o : Option Place} {r : ℕ} → Leads m n used free t o r → r < n → (q : Place) × (o ≡ some q) × Holds m n used free r t q
+  moved : {o : Places.Option Place} {r : ℕ} → Leads m n used free t o r → r < n → (q : Place) × (o ≡ some q) × Holds m n used free r t q
   moved (outside ge e) lt = absurd (omega arith)
   moved (missing q ge e x) lt = absurd (omega arith)
   moved (found q le e h) lt = (q, e, h)
 
   -- one that leads to none would have come to no node
-  stuck : {o : Option Place} {r : ℕ} (q : Place) → Leads m n used free t o r → n ≤ r → o ≡ some q → exists (sub q t) ≡ false
+  stuck : {o : Places.Option Place} {r : ℕ} (q : Place) → Leads m n used free t o r → n ≤ r → o ≡ some q → exists (sub q t) ≡ false
   stuck q (outside ge e) le i = absurd (let z : ◌≡◌ {A = ℕ} 0 1 = cc in omega arith)
   stuck q (missing q' ge e x) le i = let same : q' ≡ q = cc in subst (λ z. exists (sub z t) ≡ false) same x
   stuck q (found q' lt e h) le i = absurd (omega arith)
@@ -185,12 +188,12 @@ module _ {m : Table} {n used free : ℕ} {t : Forest} where
 
   module _ {p : Place} {x d r : ℕ} (c : Climb m n used free t p x d) (right : Leads m n used free t (some (to sibling c.place)) r) where
     -- there is a right sibling
-    pub passes : r < n → First m n used free t (from t (to sibling p)) true r d
+    pub passes : r < n → Begins m n used free t (from t (to sibling p)) r d
     unfolding depth
     passes lt =
         let w = moved right lt in
         let same : to sibling c.place ≡ w.0 = cc w.1 in
-        First.some w.0 refl w.2 (c.deep ∙ ap depth same) (c.same ∙ ap (from t) same)
+        record { place = w.0; holds = w.2; deep = c.deep ∙ ap depth same; same = c.same ∙ ap (from t) same }
 
     module _ (last : n ≤ r) where
       remains : from t (to sibling p) ≡ later t c.place
@@ -198,14 +201,14 @@ module _ {m : Table} {n used free : ℕ} {t : Forest} where
       remains = c.same ∙ skips t (to sibling c.place) (stuck (to sibling c.place) right last refl)
 
       -- there is none, and no parent
-      pub tops : {found : Bool} {y e : ℕ} → found ≡ false → d ≡ 0 → First m n used free t (from t (to sibling p)) found y e
-      tops hid z = First.none hid (remains ∙ ends t c.place (top t c.place (sym c.deep ∙ z)))
+      pub tops : d ≡ 0 → from t (to sibling p) ≡ []
+      tops z = remains ∙ ends t c.place (top t c.place (sym c.deep ∙ z))
 
       module _ {s : ℕ} (parent : Leads m n used free t (up c.place) s) where
-        pub leaves : {found : Bool} {y e : ℕ} → found ≡ false → n ≤ s → First m n used free t (from t (to sibling p)) found y e
-        leaves hid le = First.none hid (remains ∙ ends t c.place (orphan (up c.place) refl))
+        pub leaves : n ≤ s → from t (to sibling p) ≡ []
+        leaves le = remains ∙ ends t c.place (orphan (up c.place) refl)
           where
-            orphan : (o : Option Place) → up c.place ≡ o → up c.place ≡ none
+            orphan : (o : Places.Option Place) → up c.place ≡ o → up c.place ≡ none
             orphan none e = e
             orphan (some q) e = absurd (true≢false (sym (above t c.place q e (stands c.holds)) ∙ stuck q parent le e))
 
@@ -233,33 +236,27 @@ module _ {m : Table} {n used free : ℕ} {t : Forest} where
 
     module _ {r : ℕ} (first : Leads m n used free t (some (to child s.place)) r) where
       -- there is one
-      pub goes_down : r < n → Goes m n used free t (suc k) true r (d + 1)
+      pub goes_down : r < n → Stands m n used free t (suc k) r (d + 1)
       unfolding depth
       goes_down lt =
           let w = moved first lt in
           let same : to child s.place ≡ w.0 = cc w.1 in
-          on refl (arrives w.0 (behind ∙ ap (from t) same) w.2 (omega (arith, deep, ap depth same)))
+          arrives w.0 (behind ∙ ap (from t) same) w.2 (omega (arith, deep, ap depth same))
 
       -- there is none
       passed : n ≤ r → drop (suc k) (preorder root 0 t) ≡ from t (to sibling s.place)
       unfolding later from depth sub
       passed le = behind ∙ skips t (to child s.place) (stuck (to child s.place) first le refl)
 
-      pub goes_on_law : {found : Bool} {y e : ℕ} → n ≤ r → First m n used free t (from t (to sibling s.place)) found y e → Goes m n used free t (suc k) found y e
-      goes_on_law le (First.some q hit h deep e) = on hit (arrives q (passed le ∙ e) h deep)
-      goes_on_law le (First.none miss e) =
-          over miss (omega (arith, number_below, length_preorder root 0 t, length-drop (suc k) (preorder root 0 t), ap length (passed le ∙ e)))
+      pub goes_on_law : n ≤ r → (o : Option Visit) → First m n used free t (from t (to sibling s.place)) o → Goes m n used free t (suc k) o
+      goes_on_law le (Some v) b = arrives b.place (passed le ∙ b.same) b.holds b.deep
+      goes_on_law le None e =
+          omega (arith, number_below, length_preorder root 0 t, length-drop (suc k) (preorder root 0 t), ap length (passed le ∙ e))
 
   -- the walk starts at the root
   pub begun : {x : ℕ} {p : Place} → Holds m n used free x t p → Stands m n used free t 0 0 0
   unfolding from later depth sub
   begun h = arrives root (sym (append-nil _)) (to_root h) refl
 
-  -- where the walk is over, all nodes are counted
-  pub counted : {k x d : ℕ} {found : Bool} → Goes m n used free t k found x d → not found ≡ true → size t ≡ k
-  counted (on hit s) miss = absurd (true≢false (sym miss ∙ ap not hit))
-  counted (over hid e) miss = e
-
-  pub goes : {k x d : ℕ} {found : Bool} → Goes m n used free t (suc k) found x d → not found ≡ false → Stands m n used free t (k + 1) x d
-  goes {k} {x} {d} (on hit s) come = subst (λ j. Stands m n used free t j x d) (sym (add-one k)) s
-  goes (over hid e) come = absurd (true≢false (sym (ap not hid) ∙ come))
+  pub goes : {k x d : ℕ} → Stands m n used free t (suc k) x d → Stands m n used free t (k + 1) x d
+  goes {k} {x} {d} s = subst (λ j. Stands m n used free t j x d) (sym (add-one k)) s

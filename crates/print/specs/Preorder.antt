@@ -1,8 +1,9 @@
 -- The nodes of a tree in preorder, and a walk over a table that visits them. Assumes nothing.
-use Rattle.std.specs.Prelude.{Bool, true, false, List, [], ◌∷◌, ◌++◌, ◌≡◌, ℕ, suc, drop}
+use Rattle.std.specs.Prelude.{List, [], ◌∷◌, ◌++◌, ◌≡◌, ℕ, suc, drop, Option, Some, None}
 use Rattle.rules.specs.Tree.{Forest, nil, tree, child, sibling, Place, root, to, sub, size}
 use Rattle.table.specs.Cells.{Table}
 use Rattle.table.specs.Holds.{Holds}
+use Rattle.print.specs.declared.preorder.Visit.{Visit}
 
 -- a node: its place, and how many steps it stands below the root
 pub data Stop : Type 0 where
@@ -21,9 +22,9 @@ pub record Stands (m : Table) (n used free : ℕ) (t : Forest) (k x d : ℕ) : T
   pub holds : Holds m n used free x t place
 
 -- the walk goes on to node number k, or it is over, since the tree has k nodes
-pub data Goes (m : Table) (n used free : ℕ) (t : Forest) (k : ℕ) (found : Bool) (x d : ℕ) : Type 0 where
-  on : found ≡ true → Stands m n used free t k x d → Goes m n used free t k found x d
-  over : found ≡ false → size t ≡ k → Goes m n used free t k found x d
+abbrev pub Goes : Table → ℕ → ℕ → ℕ → Forest → ℕ → Option Visit → Type 0
+Goes m n used free t k (Some v) = Stands m n used free t k v.place v.depth
+Goes m n used free t k None = size t ≡ k
 
 -- the depth of a place
 unfoldable pub depth : Place → ℕ
@@ -41,7 +42,14 @@ later t (to sibling p) = later t p
 unfoldable pub from : Forest → Place → List Stop
 from t p = preorder p (depth p) (sub p t) ++ later t p
 
--- of these nodes the first, if there is one, was found at the table's place x and at the depth d
-pub data First (m : Table) (n used free : ℕ) (t : Forest) (stops : List Stop) (found : Bool) (x d : ℕ) : Type 0 where
-  some : (p : Place) → found ≡ true → Holds m n used free x t p → d ≡ depth p → stops ≡ from t p → First m n used free t stops found x d
-  none : found ≡ false → stops ≡ [] → First m n used free t stops found x d
+-- the first of these nodes stands at the table's place x and at the depth d
+pub record Begins (m : Table) (n used free : ℕ) (t : Forest) (stops : List Stop) (x d : ℕ) : Type 0 where
+  pub place : Place
+  pub holds : Holds m n used free x t place
+  pub deep : d ≡ depth place
+  pub same : stops ≡ from t place
+
+-- of these nodes the first, if there is one
+abbrev pub First : Table → ℕ → ℕ → ℕ → Forest → List Stop → Option Visit → Type 0
+First m n used free t stops (Some v) = Begins m n used free t stops v.place v.depth
+First m n used free t stops None = stops ≡ []

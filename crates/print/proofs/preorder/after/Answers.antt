@@ -20,20 +20,20 @@ returns-then-right-places c = record {
 pub returns-then-d-eq0 : goal.returns-then-d-eq0
 unfolding side_of
 returns-then-d-eq0 c = record {
-  place_lt_places = (search rules, search rules);
+  place_lt_places = search rules;
   by_index = λ used free t p h e.
       let w = c.loop-places.invariant.2 used free t p h e in
-      tops w (c.beside-right.ensures used free t w.place w.holds) (omega (arith, c.if-right-places.false)) c.nothing.ensures.2 c.if-d-eq0.true;
+      tops w (c.beside-right.ensures used free t w.place w.holds) (omega (arith, c.if-right-places.false)) c.if-d-eq0.true;
 }
 
 pub returns-then-x-places : goal.returns-then-x-places
 unfolding side_of
 returns-then-x-places c = record {
-  place_lt_places = (search rules, search rules);
+  place_lt_places = search rules;
   by_index = λ used free t p h e.
       let w = c.loop-places.invariant.2 used free t p h e in
       leaves w (c.beside-right.ensures used free t w.place w.holds) (omega (arith, c.if-right-places.false))
-      (c.parent-x.ensures used free t w.place w.holds) c.nothing-then-x-places.ensures.2 c.if-x-places.true;
+      (c.parent-x.ensures used free t w.place w.holds) c.if-x-places.true;
 }
 
 pub loop-places-preserved : goal.loop-places-preserved

@@ -12,8 +12,8 @@ returns-then-down-places c = record { place_lt_places = (search rules, search ru
 pub returns : goal.returns
 unfolding side_of
 returns c = record {
-  place_lt_places = (search rules, search rules);
+  place_lt_places = search rules;
   by_index = λ used free k t s.
-      goes_on_law s (c.beside-down.ensures used free t s.place s.holds) (omega (arith, c.if-down-places.false))
+      goes_on_law s (c.beside-down.ensures used free t s.place s.holds) (omega (arith, c.if-down-places.false)) _
       (c.after.ensures.by_index used free t s.place s.holds (deep s));
 }
