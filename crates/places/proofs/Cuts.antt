@@ -4,10 +4,10 @@ use mathlib.Core.Path.{◌≡◌, refl, sym, ◌∙◌, ap, ap₂}
 use Prim.Native.Nat.{ℕ, suc, ◌+◌, ◌-◌, ◌*◌, ◌<◌, ◌≤◌}
 use native.Mathlib.Nat.{mul-le-mul_left, mul-suc}
 use native.Mathlib.Omega.{arith}
-use mathlib.Core.List.{List, [], ◌∷◌, ◌++◌}
-use lib.ListN.{length, get_or, drop, take, set, length-append, length-take, length-drop, get_or-append}
+use mathlib.Core.List.{List, ◌++◌}
+use lib.ListN.{length, get_or, drop, take, length-append, length-take, length-drop, get_or-append}
 use lib.Dec.{ltb}
-use lib.Seq.{take_at, drop_at, length-take-le, get_or-take, get_or-drop, get_or-append-add, ext_get_or, take-suc, take-suc-set, take_all}
+use lib.Seq.{take_at, drop_at, length-take-le, get_or-take, get_or-drop, get_or-append-add, ext_get_or}
 use borrow.Author.Tests.{ltb-true, ltb-false}
 use Rattle.rules.specs.Limits.{max_runs}
 use Rattle.rules.proofs.Tests.{Test, holds, fails, test}
@@ -50,17 +50,6 @@ module _ {A : Type 0} where
       let t = length-take m (drop (n * i) xs) in
       let d = length-drop (n * i) xs in
       omega (arith, a, t, d, l, e)
-
-  -- one element more is copied, and in the end all are
-  pub copy_more : (d : A) (from to : List A) (i : ℕ) → i < length from → length to ≡ length from → take i to ≡ take i from
-      → take (i + 1) (set to i (get_or from i d)) ≡ take (i + 1) from
-  copy_more d from to i h l e =
-      let s : i + 1 ≡ suc i = omega arith in
-      ap (λ k. take k (set to i (get_or from i d))) s ∙ take-suc-set to i (get_or from i d) (omega (arith, h, l))
-      ∙ ap (λ (z : List A). z ++ (get_or from i d ∷ [])) e ∙ sym (take-suc from i d h) ∙ sym (ap (λ k. take k from) s)
-
-  pub copy_all : (from to : List A) (i : ℕ) → length from ≤ i → length to ≡ length from → take i to ≡ take i from → to ≡ from
-  copy_all from to i h l e = sym (take_all i to (omega (arith, h, l))) ∙ e ∙ take_all i from h
 
   pub beside_same : (n i : ℕ) (xs : List A) → Beside n i xs xs
   beside_same n i xs = record { long = refl; others = λ j k h l. refl }

@@ -4,10 +4,11 @@ use mathlib.Core.Path.{◌≡◌, refl, sym, ◌∙◌, ap, subst}
 use Prim.Native.Nat.{ℕ, zero, suc, ◌+◌, ◌-◌, ◌<◌, ◌≤◌}
 use native.Mathlib.Omega.{arith}
 use mathlib.Core.List.{List, [], ◌∷◌, ◌++◌}
-use lib.ListN.{length, get_or, take, length-append, get_or-append}
+use lib.ListN.{length, get_or, take, drop, length-append, length-drop, get_or-append}
 use lib.Dec.{eqb, ltb}
-use lib.Seq.{get_or-take, get_or-append_seam, ext_get_or, length-take-le, take-suc}
-use borrow.Author.Tests.{ltb-true, ltb-false, eqb-true, eqb-false, lt-ltb}
+use lib.Seq.{get_or-take, get_or-drop, get_or-append-add, get_or-append_seam, ext_get_or, length-take-le, take-suc}
+use borrow.Author.Tests.{ltb-true, ltb-false, eqb-true, eqb-false}
+use Rattle.std.specs.List.{RotatedLeft}
 use Rattle.rules.specs.Limits.{max_runs}
 use Rattle.rules.proofs.Tests.{Test, holds, fails, test}
 use Rattle.places.specs.declared.queue.Queue.{Queue}
@@ -229,26 +230,36 @@ pub moved_cons : (x : ℕ) (xs : List ℕ) → moved_back (x ∷ xs) ≡ xs ++ (
 unfolding moved_back
 moved_cons x xs = refl
 
--- the positions by the code's tests
-pub source_next : (n k : ℕ) → k + 1 < n → source n k ≡ k + 1
-unfolding source
-source_next n k h = rw (lt-ltb (k + 1) n h)
-
-pub source_last : (n k : ℕ) → (k + 1 < n → ⊥) → k + 1 ≡ n → source n k ≡ 0
-source_last n k h e = pick (comes n k)
+-- the first of n, turned by one, stand as they do after that
+pub rotated_left : (n : ℕ) (xs ys : List ℕ) → length xs ≡ max_runs → 0 < n → n ≤ max_runs → length ys ≡ length (take n xs)
+    → RotatedLeft (take n xs) ys (length (take n xs)) 1 → ys ++ drop n xs ≡ rotated n xs
+rotated_left n xs ys e z h m r = ext_get_or 0 (ys ++ drop n xs) (rotated n xs) (all ∙ sym (rotated_eight n xs)) (λ k l. by k (omega (arith, all, l)) (comes n k))
   where
-    pick : Comes n k → source n k ≡ 0
-    pick (next a f) = absurd (h a)
-    pick (last a f) = f
-    pick (stays a f) = absurd (omega (arith, a, e))
+    long : length (take n xs) ≡ n
+    long = length-take-le n xs (omega (arith, h, e))
 
-pub source_stays : (n k : ℕ) → (k + 1 < n → ⊥) → (k + 1 ≡ n → ⊥) → source n k ≡ k
-source_stays n k h e = pick (comes n k)
-  where
-    pick : Comes n k → source n k ≡ k
-    pick (next a f) = absurd (h a)
-    pick (last a f) = absurd (e a)
-    pick (stays a f) = f
+    all : length (ys ++ drop n xs) ≡ max_runs
+    all = let a = length-append ys (drop n xs) in let d = length-drop n xs in let t = long in omega (arith, a, d, m, t, e, h)
+
+    by : (k : ℕ) → k < max_runs → Comes n k → get_or (ys ++ drop n xs) k 0 ≡ get_or (rotated n xs) k 0
+    by k l c = at c ∙ sym (rotated_at n xs k l)
+      where
+        t : length (take n xs) ≡ n
+        t = long
+
+        at : Comes n k → get_or (ys ++ drop n xs) k 0 ≡ get_or xs (source n k) 0
+        at (next a f) =
+            get_or-append ys (drop n xs) 0 k (omega (arith, m, t, a)) ∙ r.0 k 0 (omega (arith, t, a)) ∙ get_or-take n xs (k + 1) 0 a
+            ∙ sym (ap (λ j. get_or xs j 0) f)
+        at (last a f) =
+            let s : k + 1 - length (take n xs) ≡ 0 = omega (arith, t, a) in
+            get_or-append ys (drop n xs) 0 k (omega (arith, m, t, a)) ∙ r.1 k 0 (omega (arith, t, a)) (omega (arith, t, a))
+            ∙ ap (λ j. get_or (take n xs) j 0) s ∙ get_or-take n xs 0 0 z ∙ sym (ap (λ j. get_or xs j 0) f)
+        at (stays a f) =
+            let s : k ≡ length ys + (k - n) = omega (arith, m, t, a) in
+            let u : n + (k - n) ≡ k = omega (arith, a) in
+            ap (λ j. get_or (ys ++ drop n xs) j 0) s ∙ get_or-append-add ys (drop n xs) (k - n) 0 ∙ get_or-drop n xs (k - n) 0
+            ∙ ap (λ j. get_or xs j 0) u ∙ sym (ap (λ j. get_or xs j 0) f)
 
 -- every place is free
 in_turn : (i : ℕ) → i < max_runs → get_or (0 ∷ 1 ∷ 2 ∷ 3 ∷ 4 ∷ 5 ∷ 6 ∷ 7 ∷ []) i 0 ≡ i
@@ -273,9 +284,3 @@ whole_none =
 
 pub whole_joined : (q : Queue) → Whole q → q.count < max_runs → Whole (record { order = q.order; count = q.count + 1 })
 whole_joined q w h = record { few = omega (arith, h); eight = w.eight; places = w.places; apart = w.apart }
-
-pub rotated_is : (n : ℕ) (xs : List ℕ) (a b c d e f g h : ℕ) → a ≡ get_or xs (source n 0) 0 → b ≡ get_or xs (source n 1) 0 → c ≡ get_or xs (source n 2) 0
-    → d ≡ get_or xs (source n 3) 0 → e ≡ get_or xs (source n 4) 0 → f ≡ get_or xs (source n 5) 0 → g ≡ get_or xs (source n 6) 0 → h ≡ get_or xs (source n 7) 0
-    → (a ∷ b ∷ c ∷ d ∷ e ∷ f ∷ g ∷ h ∷ []) ≡ rotated n xs
-unfolding rotated
-rotated_is n xs a b c d e f g h p₀ p₁ p₂ p₃ p₄ p₅ p₆ p₇ = rw (p₀, p₁, p₂, p₃, p₄, p₅, p₆, p₇)

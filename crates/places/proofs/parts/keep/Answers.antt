@@ -11,24 +11,6 @@ use Rattle.places.proofs.Cuts.{Cut, filled}
 use borrow.Author.Rules.{rules}
 use Rattle.places.proofs.parts.keep.Goals as goal
 
-pub copy_bytes-requires : goal.copy_bytes-requires
-copy_bytes-requires c = let i = c.args.i in
-    let b = c.args.job.now in
-    let l = c.requires.0 in
-    let s = c.requires.1 in
-    let e = c.requires.2 in
-    let h : max_bytes * i + length b ≤ length c.args.jobs.now = omega (arith, l, s, e) in
-    let w = mid_len (max_bytes * i) (max_bytes * i + length b) c.args.jobs.now h in
-    omega (arith, w)
-
-pub copy_words-requires : goal.copy_words-requires
-copy_words-requires c = let i = c.args.i in
-    let l = c.requires.0 in
-    let e = c.requires.3 in
-    let h : plan_size * i + plan_size ≤ length c.args.plans.now = omega (arith, l, e) in
-    let w = mid_len (plan_size * i) (plan_size * i + plan_size) c.args.plans.now h in
-    search (rules, w)
-
 pub returns : goal.returns
 returns c = let i = c.args.i in
     let b = c.args.job.now in
@@ -40,4 +22,4 @@ returns c = let i = c.args.i in
     let k : plan_size * i + plan_size ≤ length c.args.plans.now = omega (arith, l, f) in
     let cj : Cut max_bytes i (length b) (max_bytes * i) (max_bytes * i + length b) = record { from = refl; to = refl; short = s } in
     let cp : Cut plan_size i plan_size (plan_size * i) (plan_size * i + plan_size) = record { from = refl; to = refl; short = le_refl _ } in
-    (filled 0 _ i _ _ _ _ _ cj h (c.jobs-1.given.0 ∙ mid_len _ _ _ h) _ c.copy_bytes.ensures refl, filled 0 _ i _ _ _ _ _ cp k (c.plans-1.given.0 ∙ mid_len _ _ _ k) _ c.copy_words.ensures (search rules), search rules)
+    (filled 0 _ i _ _ _ _ _ cj h (c.copy_from_slice.ensures.len ∙ mid_len _ _ _ h) _ c.copy_from_slice.ensures.after refl, filled 0 _ i _ _ _ _ _ cp k (c.copy_from_slice-2.ensures.len ∙ mid_len _ _ _ k) _ c.copy_from_slice-2.ensures.after (search rules), search rules)

@@ -10,5 +10,5 @@ pub returns : goal.returns
 returns c = let w = c.requires.0 in
     let z = c.requires.1 in
     let f = w.few in
-    let t = c.turned-order.ensures in
+    let t = c.turned.ensures in
     (whole_rotated _ w _ t _ (omega (arith, f)), left _ w _ t z, freed _ w _ t z, omega (arith, f, z), ap (λ (xs : List ℕ). record { order = xs; count = c.args.q.count - 1 }) t)

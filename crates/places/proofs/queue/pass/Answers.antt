@@ -6,4 +6,4 @@ use Rattle.places.proofs.Orders.{whole_rotated, passed}
 use Rattle.places.proofs.queue.pass.Goals as goal
 
 pub returns : goal.returns
-returns c = (whole_rotated _ c.requires.0 _ c.turned-order.ensures _ c.requires.0.few, passed _ c.requires.0 _ c.turned-order.ensures, ap (λ (xs : List ℕ). record { order = xs; count = c.args.q.count }) c.turned-order.ensures)
+returns c = (whole_rotated _ c.requires.0 _ c.turned.ensures _ c.requires.0.few, passed _ c.requires.0 _ c.turned.ensures, ap (λ (xs : List ℕ). record { order = xs; count = c.args.q.count }) c.turned.ensures)

@@ -1,7 +1,6 @@
--- `queue::turned` meets its contract: entry by entry. Assumes nothing.
-use Rattle.places.proofs.Orders.{rotated_is}
+-- `queue::turned` meets its contract: the entries of the unended runs move up, and the first goes behind them. Assumes nothing.
+use Rattle.places.proofs.Orders.{rotated_left}
 use Rattle.places.proofs.queue.turned.Goals as goal
 
 pub returns : goal.returns
-returns c = rotated_is _ _ _ _ _ _ _ _ _ _ c.moved.ensures c.moved-2.ensures c.moved-3.ensures c.moved-4.ensures c.moved-5.ensures c.moved-6.ensures
-    c.moved-7.ensures c.moved-8.ensures
+returns c = let w = c.requires.0 in rotated_left _ _ _ w.eight c.requires.1 w.few c.rotate_left.ensures.len c.rotate_left.ensures.by_index
