@@ -2,8 +2,8 @@
 -- comes after its parent; and the last child is the nearest. What check 6 asks of the left sibling it asks of the parent in any case. Assumes nothing.
 use mathlib.Core.Path.{◌≡◌, refl, sym, ap, ◌∙◌}
 use mathlib.Core.Bool.{Bool, true, false, ◌&&◌, cond}
-use mathlib.Core.Option
-use mathlib.Core.Option.{Option, none, some}
+use Rattle.std.specs.Prelude.{Option, None, Some}
+use Rattle.std.specs.Option.{unwrap_or}
 use mathlib.Core.List.{List}
 use Prim.Native.Nat.{ℕ, zero, suc, ◌≤◌, ◌<◌}
 use native.Mathlib.Omega.{arith}
@@ -27,25 +27,25 @@ module _ (b : List ℕ) (base p : ℕ) where
   other few (suc k) l h e = let z = parent_before b base (suc k) (λ q. omega arith) h in omega arith
 
   -- no record up to p has the parent p
-  pub none_before : p < max_nodes → (k : ℕ) → k ≤ suc p → ((j : ℕ) → j < k → parent_rule b base j ≡ true) → nearest b base p k ≡ none
+  pub none_before : p < max_nodes → (k : ℕ) → k ≤ suc p → ((j : ℕ) → j < k → parent_rule b base j ≡ true) → nearest b base p k ≡ None
   unfolding nearest
   none_before few zero l h = refl
   none_before few (suc k) l h =
       rw (ne_eqb (parent b base k) p (other few k (omega arith) (h k (omega arith)))) (none_before few k (omega arith) (λ j m. h j (omega arith)))
 
   -- what is found has the parent p
-  near_parent : (k : ℕ) {j : ℕ} → nearest b base p k ≡ some j → parent b base j ≡ p
+  near_parent : (k : ℕ) {j : ℕ} → nearest b base p k ≡ Some j → parent b base j ≡ p
   unfolding nearest
   near_parent zero {j} e = let z : ◌≡◌ {A = ℕ} 0 1 = cc in absurd (omega arith)
   near_parent (suc k) {j} e = go (test (eqb (parent b base k) p)) (near_parent k)
     where
-      go : Test (eqb (parent b base k) p) → (nearest b base p k ≡ some j → parent b base j ≡ p) → parent b base j ≡ p
+      go : Test (eqb (parent b base k) p) → (nearest b base p k ≡ Some j → parent b base j ≡ p) → parent b base j ≡ p
       go (holds q) r =
-          let f : some k ≡ some j = rw (q, nearest) at e in
+          let f : Some k ≡ Some j = rw (q, nearest) at e in
           let z : k ≡ j = cc in ap (parent b base) (sym z) ∙ eqb-true _ _ q
-      go (fails q) r = let f : nearest b base p k ≡ some j = rw (q, nearest) at e in r f
+      go (fails q) r = let f : nearest b base p k ≡ Some j = rw (q, nearest) at e in r f
 
-  pub near_here : (k : ℕ) → parent b base k ≡ p → nearest b base p (suc k) ≡ some k
+  pub near_here : (k : ℕ) → parent b base k ≡ p → nearest b base p (suc k) ≡ Some k
   unfolding nearest
   near_here k e = rw (eq-eqb (parent b base k) p e)
 
@@ -53,7 +53,7 @@ module _ (b : List ℕ) (base p : ℕ) where
   unfolding nearest
   near_past k n = rw (ne_eqb (parent b base k) p n)
 
-child_some : (i : ℕ) → (i ≡ 0 → ⊥) → child i ≡ some i
+child_some : (i : ℕ) → (i ≡ 0 → ⊥) → child i ≡ Some i
 unfolding child
 child_some zero n = absurd (n refl)
 child_some (suc i) n = refl
@@ -112,16 +112,16 @@ module _ (b : List ℕ) (base i : ℕ) (r : Rooted b base i) (xs : List ℕ) (w 
     search_start e = rw e (from _ (w.each _ (omega (arith, parent_below, r.few))))
 
 module _ (b : List ℕ) (base i : ℕ) where
-  pub beside_is : {w : Option ℕ} → left b base i ≡ w → beside b base i ≡ Option.get_or w (parent b base i)
+  pub beside_is : {w : Option ℕ} → left b base i ≡ w → beside b base i ≡ unwrap_or w (parent b base i)
   unfolding beside
-  beside_is e = ap (λ w. Option.get_or w (parent b base i)) e
+  beside_is e = ap (λ w. unwrap_or w (parent b base i)) e
 
   pub beside_below : (i ≡ 0 → ⊥) → Rooted b base i → beside b base i < i
   beside_below n r = go (left b base i) refl
     where
       go : (w : Option ℕ) → left b base i ≡ w → beside b base i < i
-      go none e = rw (beside_is e) (parent_before b base i n (r.parents i (omega arith)))
-      go (some j) e = rw (beside_is e) (near_below b base _ i e)
+      go None e = rw (beside_is e) (parent_before b base i n (r.parents i (omega arith)))
+      go (Some j) e = rw (beside_is e) (near_below b base _ i e)
 
   -- what check 6 asks by the parent, and by what stands beside node i
   abbrev bounded : Bool
@@ -136,9 +136,9 @@ module _ (b : List ℕ) (base i : ℕ) where
       again true false = refl
       again false q = refl
 
-      go : (w : Option ℕ) → (bounded && left_rule b base i w) ≡ (bounded && not_above (existence b base (Option.get_or w (parent b base i))) (existence b base i))
-      go none = again (not_above (existence b base (parent b base i)) (existence b base i)) (not_above (existence b base i) (structure b base (parent b base i)))
-      go (some j) = refl
+      go : (w : Option ℕ) → (bounded && left_rule b base i w) ≡ (bounded && not_above (existence b base (unwrap_or w (parent b base i))) (existence b base i))
+      go None = again (not_above (existence b base (parent b base i)) (existence b base i)) (not_above (existence b base i) (structure b base (parent b base i)))
+      go (Some j) = refl
 
 -- check 6 by what it asks of a node alone and by its parent and left sibling
 parts : (l e r c : Bool) → (l && cond e r c) ≡ ((l && cond e r true) && cond e true c)

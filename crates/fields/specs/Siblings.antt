@@ -1,13 +1,10 @@
 -- What check 6 goes by: the node itself, the nodes before it and the last child of each, and its left sibling. Assumes nothing.
-use Rattle.std.specs.Prelude.{◌≡◌, Bool, true, ◌&&◌, cond, List, ℕ, zero, suc, ◌+◌, ◌≤◌, ◌<◌, eqb, ltb, length, get_or}
-use Rattle.std.proofs.Math.Option
-use Rattle.std.proofs.Math.Option.{Option, none, some}
+use Rattle.std.specs.Prelude.{◌≡◌, Bool, true, ◌&&◌, cond, List, ℕ, zero, suc, ◌+◌, ◌≤◌, ◌<◌, eqb, ltb, length, get_or, Option, None, Some}
+use Rattle.std.specs.Option.{unwrap_or}
 use Rattle.rules.specs.Limits.{max_nodes, node_size}
 use Rattle.rules.specs.Level.{public, not_above}
 use Rattle.rules.specs.Bytes.{node_place}
 use Rattle.rules.specs.Check.{parent, existence, parent_rule, nearest}
-use Rattle.fields.specs.declared.nodes.Found.{Found}
-use Rattle.fields.specs.declared.nodes.Found.TheVariants.{At, Nothing}
 use Rattle.fields.specs.Fits.{label_in}
 
 -- n nodes lie within the bytes, and their parents are right
@@ -24,8 +21,8 @@ pub record Rooted (b : List ℕ) (base i : ℕ) : Type 0 where
 
 -- a child by its record; 0, which is the root's, stands for none
 unfoldable pub child : ℕ → Option ℕ
-child zero = none
-child (suc k) = some (suc k)
+child zero = None
+child (suc k) = Some (suc k)
 
 -- the list has for each node the last of its children among the first i nodes
 pub record Lasts (b : List ℕ) (base i : ℕ) (xs : List ℕ) : Type 0 where
@@ -44,11 +41,6 @@ own_rule top b base i = label_in top b base i && cond (eqb i 0) (not_above (exis
 abbrev pub left : List ℕ → ℕ → ℕ → Option ℕ
 left b base i = nearest b base (parent b base i) i
 
--- what the search for it comes to
-unfoldable pub left_of : Found → Option ℕ
-left_of (At j) = some j
-left_of Nothing = none
-
 -- the left sibling of node i, or its parent where it has none
 unfoldable pub beside : List ℕ → ℕ → ℕ → ℕ
-beside b base i = Option.get_or (left b base i) (parent b base i)
+beside b base i = unwrap_or (left b base i) (parent b base i)

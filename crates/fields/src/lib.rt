@@ -5,5 +5,6 @@ pub mod nodes;
 pub mod reads;
 pub mod records;
 pub mod rows;
+pub mod scan;
 pub mod sections;
 pub mod variables;

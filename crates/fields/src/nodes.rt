@@ -5,9 +5,10 @@ ghost use Rattle.rules.specs.Bytes.{node_place};
 ghost use Rattle.rules.specs.Check.{parent, parent_rule, order_rule, child_rule, node_clean, first_fault};
 ghost use Rattle.fields.specs.Fields.{levels_of};
 ghost use Rattle.fields.specs.Fits.{label_in, node_in};
-ghost use Rattle.fields.specs.Siblings.{Linked, Rooted, Lasts, own_rule, behind, left, left_of, beside};
+ghost use Rattle.fields.specs.Siblings.{Linked, Rooted, Lasts, own_rule, behind, left, beside};
 
 use crate::reads::{half_at, rest_at};
+use crate::scan::first_that_fails;
 use rules::levels::{PUBLIC, not_above};
 use rules::limits::{MAX_NODES, NO_PARENT, NODE_SIZE};
 
@@ -77,46 +78,31 @@ fn label_ok(job: &[u8], base: usize, i: usize, top: u8) -> bool
         & not_above(own.existence, own.structure)
 }
 
-// What the search for a left sibling comes to.
-#[derive(Drop)]
-enum Found {
-    At(usize),
-    Nothing,
-}
-
-fn wide(x: u16) -> usize
-    ensures { (result ≡ x) × (result < 65536) }
-{
-    x as usize
-}
-
 // Where the search for a child of p starts: behind the last one that was passed, or behind p where none was.
 fn start(last: &[u16], p: usize) -> usize
     requires { p < length last.now }
     ensures { result ≡ behind (get_or last.now p 0) p }
 {
-    let child = wide(last[p]);
-    if child < p { p + 1 } else { child + 1 }
+    usize::from(last[p]).max(p) + 1
 }
 
 // The left sibling of node i: the nearest earlier record with the same parent, which comes after the parent. The records between it and node i are not searched, since
 // the last child of each node is known: the search takes one turn whatever the order is.
-fn left_of(job: &[u8], base: usize, last: &[u16], i: usize) -> Found
+fn left_of(job: &[u8], base: usize, last: &[u16], i: usize) -> Option<usize>
     requires { (i ≡ 0 → ⊥) × Rooted job.now base i × Lasts job.now base i last.now }
-    ensures { left job.now base i ≡ left_of result }
+    ensures { result ≡ left job.now base i }
 {
     let p = parent_at(job, base, i);
     let mut k = start(last, p);
-    let left = loop {
+    loop {
         k -= 1;
         if k == p {
-            break Found::Nothing;
+            break None;
         }
         if parent_at(job, base, k) == p {
-            break Found::At(k);
+            break Some(k);
         }
-    };
-    left
+    }
 }
 
 // The left sibling of node i, or its parent where it has none.
@@ -124,11 +110,7 @@ fn beside(job: &[u8], base: usize, last: &[u16], i: usize) -> usize
     requires { (i ≡ 0 → ⊥) × Rooted job.now base i × Lasts job.now base i last.now }
     ensures { result ≡ beside job.now base i }
 {
-    let left = left_of(job, base, last, i);
-    match left {
-        Found::At(k) => k,
-        Found::Nothing => parent_at(job, base, i),
-    }
+    left_of(job, base, last, i).unwrap_or_else(|| parent_at(job, base, i))
 }
 
 // What check 6 asks of node i by its parent and its left sibling k. Where it has none, k is its parent, of which the same is asked anyway: so there is no branch.
@@ -197,15 +179,13 @@ pub fn first_fault(job: &[u8], base: usize, count: usize, top: u8) -> usize
     ensures { result ≡ first_fault (node_in top job.now base) count 0 }
 {
     let mut last = [0u16; MAX_NODES];
-    let mut i = 0;
-    while i < count {
+    for i in 0..count {
         if !node_ok(job, base, &last, i, top) {
             return i;
         }
         pass(job, base, &mut last, i);
-        i += 1;
     }
-    i
+    count
 }
 
 // Check 12: the first of `count` nodes that fails, or the count.
@@ -213,12 +193,5 @@ pub fn first_unclean(job: &[u8], base: usize, count: usize) -> usize
     requires { Linked job.now base count }
     ensures { result ≡ first_fault (node_clean job.now base) count 0 }
 {
-    let mut i = 0;
-    while i < count {
-        if !clean_ok(job, base, i) {
-            return i;
-        }
-        i += 1;
-    }
-    i
+    first_that_fails(count, |i| clean_ok(job, base, i))
 }

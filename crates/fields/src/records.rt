@@ -1,14 +1,15 @@
 // The script's records, 16 bytes each from `base` on: check 7, and the fields.
-ghost use Rattle.std.specs.Prelude.{◌≡◌, ◌+◌, ◌≤◌, length};
+ghost use Rattle.std.specs.Prelude.{◌≡◌, ◌+◌, ◌≤◌, length, map};
 ghost use Rattle.rules.specs.Limits.{command_count, record_size};
 ghost use Rattle.rules.specs.Bytes.{full, record_place};
-ghost use Rattle.rules.specs.Script.{row};
+ghost use Rattle.rules.specs.Script.{row, rows};
 ghost use Rattle.rules.specs.Check.{operand_rule, expression_rule, fields_rule, code, first_fault};
-ghost use Rattle.fields.specs.Fields.{known_rule, fields_of};
+ghost use Rattle.fields.specs.Fields.{known_rule, fields_of, row_held};
 
 use crate::reads::{byte_at, full_at};
 use crate::rows::{Row, table};
-use rules::limits::RECORD_SIZE;
+use crate::scan::first_that_fails;
+use rules::limits::{COMMANDS, RECORD_SIZE};
 
 // The commands that say which record comes next.
 pub const IF: u8 = 2;
@@ -120,6 +121,23 @@ fn fields_ok(job: &[u8], at: usize, reads: Row, variables: usize) -> bool
     true
 }
 
+// Check 7, of the record at a place, where there are so many commands, each with its row.
+fn record_ok(
+    job: &[u8],
+    at: usize,
+    reads: &[Row; COMMANDS],
+    variables: usize,
+    commands: usize,
+) -> bool
+    requires inside { at + record_size ≤ length job.now }
+    requires known { commands ≤ command_count }
+    requires table { reads.now ≡ map row_held rows }
+    ensures { result ≡ known_rule commands job.now variables at }
+{
+    let command = byte_at(job, at);
+    command < commands && fields_ok(job, at, reads[command], variables)
+}
+
 // Check 7, where there are so many commands: the first of `count` records that fails it, or the count.
 pub fn first_fault(
     job: &[u8],
@@ -132,17 +150,7 @@ pub fn first_fault(
     ensures { result ≡ first_fault (λ i. known_rule commands job.now variables (record_place base i)) count 0 }
 {
     let rows = table();
-    let mut i = 0;
-    while i < count {
-        let at = base + RECORD_SIZE * i;
-        let command = byte_at(job, at);
-        if commands <= command {
-            return i;
-        }
-        if !fields_ok(job, at, rows[command], variables) {
-            return i;
-        }
-        i += 1;
-    }
-    i
+    first_that_fails(count, |i| {
+        record_ok(job, base + RECORD_SIZE * i, &rows, variables, commands)
+    })
 }

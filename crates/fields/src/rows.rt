@@ -27,57 +27,34 @@ const NOTHING: Row = Row {
 };
 
 const EXPRESSION: Row = Row {
-    target: false,
-    mark: false,
     expression: true,
-    readers: false,
-    fifth: false,
-    sixth: false,
+    ..NOTHING
 };
 
 const ASSIGNMENT: Row = Row {
     target: true,
-    mark: false,
-    expression: true,
-    readers: false,
-    fifth: false,
-    sixth: false,
+    ..EXPRESSION
 };
 
 const LINE: Row = Row {
-    target: false,
-    mark: false,
-    expression: true,
     readers: true,
-    fifth: false,
-    sixth: false,
-};
-
-const INSERTION: Row = Row {
-    target: false,
-    mark: true,
-    expression: true,
-    readers: false,
-    fifth: true,
-    sixth: true,
+    ..EXPRESSION
 };
 
 const MARKED: Row = Row {
-    target: false,
     mark: true,
-    expression: true,
-    readers: false,
-    fifth: false,
-    sixth: false,
+    ..EXPRESSION
+};
+
+const INSERTION: Row = Row {
+    fifth: true,
+    sixth: true,
+    ..MARKED
 };
 
 const COVER: Row = Row {
-    target: false,
-    mark: false,
-    expression: false,
-    readers: false,
     fifth: true,
-    sixth: false,
+    ..NOTHING
 };
 
 const ROWS: [Row; COMMANDS] = [

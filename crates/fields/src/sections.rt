@@ -31,11 +31,7 @@ fn is_whole(size: usize, from: usize, to: usize) -> bool
     requires { 0 < size }
     ensures { result ≡ whole size from to }
 {
-    if from <= to {
-        (to - from) % size == 0
-    } else {
-        false
-    }
+    from <= to && (to - from) % size == 0
 }
 
 // The four offsets of the trailer.

@@ -1,5 +1,5 @@
 -- `first_fault` meets its contract: each node passed is right, and is its parent's last child so far. Assumes nothing.
-use mathlib.Core.Path.{sym, ◌∙◌}
+use mathlib.Core.Path.{◌≡◌, sym, ◌∙◌}
 use native.Mathlib.Omega.{arith}
 use native.Mathlib.Numerals.{add-one}
 use Rattle.rules.proofs.Search.{scan_start, scan_next, scan_stop, scan_end}
@@ -32,4 +32,4 @@ loop-i-preserved c = (
 )
 
 pub returns : goal.returns
-returns c = scan_end _ _ c.loop-i.invariant.0 c.loop-i-test.false
+returns c = let e : c.args.count ≡ c.loop-i.i = omega arith in e ∙ scan_end _ _ c.loop-i.invariant.0 c.loop-i-test.false

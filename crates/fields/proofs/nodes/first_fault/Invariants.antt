@@ -1,4 +1,3 @@
-use Prim.Native.Nat.{◌-◌}
 use Rattle.rules.proofs.Search.{Scan}
 use Rattle.fields.specs.Fits.{node_in}
 use Rattle.fields.specs.Siblings.{Lasts}
@@ -6,6 +5,3 @@ use Rattle.fields.proofs.nodes.first_fault.Given as goal
 
 abbrev pub invariant-loop-i : goal.invariant-loop-i
 invariant-loop-i l = Scan (node_in l.top l.job l.base) l.count l.i × Lasts l.job l.base l.i l.last
-
-abbrev pub decreases-loop-i : goal.decreases-loop-i
-decreases-loop-i l = l.count - l.i

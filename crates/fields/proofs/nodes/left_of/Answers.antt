@@ -3,7 +3,6 @@
 use mathlib.Core.Path.{sym, ◌∙◌}
 use native.Mathlib.Omega.{arith}
 use Rattle.rules.proofs.Nearest.{near_found, near_passed}
-use Rattle.fields.specs.Siblings.{left_of}
 use Rattle.fields.proofs.Siblings.{none_before, parent_below, search_start}
 use borrow.Author.Rules.{rules}
 use Rattle.fields.proofs.nodes.left_of.Goals as goal
@@ -25,15 +24,13 @@ loop-k-preserved c = let v = c.loop-k.invariant in
     )
 
 pub returns-then-k-p : goal.returns-then-k-p
-unfolding left_of
 returns-then-k-p c = let q = c.requires.1 in
     let v = c.loop-k.invariant in
     let e = c.if-k-p.true in
     rw (← c.parent_at-p.ensures.0)
-    (v.2 ∙ none_before _ _ _ (omega (arith, q.few)) _ (omega arith) (λ j l. q.parents j (omega arith)))
+    (sym (v.2 ∙ none_before _ _ _ (omega (arith, q.few)) _ (omega arith) (λ j l. q.parents j (omega arith))))
 
 pub returns-then-parent_at-p : goal.returns-then-parent_at-p
-unfolding left_of
 returns-then-parent_at-p c = let v = c.loop-k.invariant in
     rw (← c.parent_at-p.ensures.0)
-    (v.2 ∙ near_found _ _ _ _ (λ z. omega arith) (sym c.parent_at.ensures.0 ∙ c.if-parent_at-p.true))
+    (sym (v.2 ∙ near_found _ _ _ _ (λ z. omega arith) (sym c.parent_at.ensures.0 ∙ c.if-parent_at-p.true)))

@@ -1,13 +1,20 @@
--- `start` meets its contract: it is the definition. Assumes nothing.
-use native.Mathlib.Numerals.{add-one}
-use borrow.Author.Tests.{lt-ltb, le-ltb}
+-- `start` meets its contract: behind the later of the two. Assumes nothing.
+use mathlib.Core.Path.{◌≡◌}
+use Prim.Native.Nat.{ℕ, ◌+◌, max}
+use native.Mathlib.Omega.{arith}
+use borrow.Author.Tests.{ltb-true, ltb-false}
+use lib.Dec.{ltb}
+use Rattle.rules.proofs.Tests.{Test, holds, fails, test}
 use Rattle.fields.specs.Siblings.{behind}
 use Rattle.fields.proofs.nodes.start.Goals as goal
 
-pub returns-then-child-p : goal.returns-then-child-p
+later : (l p : ℕ) → max l p + 1 ≡ behind l p
 unfolding behind
-returns-then-child-p c = rw (← c.wide-child.ensures.0, lt-ltb _ _ c.if-child-p.true) (add-one _)
+later l p = go (test (ltb l p))
+  where
+    go : Test (ltb l p) → max l p + 1 ≡ behind l p
+    go (holds t) = let h = ltb-true l p t in rw t (omega arith)
+    go (fails t) = let h = ltb-false l p t in rw t (omega arith)
 
-pub returns-else-child-p : goal.returns-else-child-p
-unfolding behind
-returns-else-child-p c = rw (← c.wide-child.ensures.0, le-ltb _ _ c.if-child-p.false) (add-one _)
+pub returns : goal.returns
+returns c = rw (c.max.ensures, c.from.ensures) (later _ _)
