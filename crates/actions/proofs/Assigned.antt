@@ -11,8 +11,7 @@ use lib.ListN.{length, get_or, set, length-set}
 use lib.Seq.{get_or-set_same, get_or-set_other}
 use lib.IntN.{ℤ, pos}
 use Rattle.rules.specs.Level.{join, not_above}
-use Rattle.rules.specs.Answers.{value_of}
-use Rattle.rules.specs.declared.numbers.Number.{Number}
+use Rattle.std.specs.Prelude.{None, Some}
 use Rattle.rules.specs.Script.{Expression}
 use Rattle.rules.specs.Job.{Variable}
 use Rattle.rules.specs.Run as Run
@@ -69,14 +68,14 @@ module _ {words levels : List ℕ} {values : List ℤ} {places vars l : ℕ} (r 
     unfolding Run.assign
     no_assign h is = stays inside is (λ z. omega arith) (λ μ s. refuses flow _ (context_test pc x flows (level_at_law s) h b μ s) flow_number s)
 
-    pub over_assign : {a : Stepped} → v.value ≡ Number.Over → not_above l (get_or levels j 0) ≡ true → a ≡ stepped 27 r
+    pub over_assign : {a : Stepped} → v.value ≡ None → not_above l (get_or levels j 0) ≡ true → a ≡ stepped 27 r
         → Acts places vars (slices words levels values b) (slices words levels values b) r a (λ μ. Run.assign pc μ i (variable_at μ.variables i) e)
     unfolding Run.assign
     over_assign none h is =
         stays inside is (λ z. omega arith)
-        (λ μ s. passes flow (context_test pc x flows (level_at_law s) h b μ s) (given_stops _ (x.value b μ s ∙ ap value_of none) overflow_number s))
+        (λ μ s. passes flow (context_test pc x flows (level_at_law s) h b μ s) (given_stops _ (x.value b μ s ∙ none) overflow_number s))
 
-    pub did_assign : {a : Stepped} → (u : ℤ) → v.value ≡ Number.Fits u → vars ≤ length values → not_above l (get_or levels j 0) ≡ true → a ≡ went r r.memory
+    pub did_assign : {a : Stepped} → (u : ℤ) → v.value ≡ Some u → vars ≤ length values → not_above l (get_or levels j 0) ≡ true → a ≡ went r r.memory
         → Acts places vars (slices words levels values b) (slices words levels (set values j u) b) r a
         (λ μ. Run.assign pc μ i (variable_at μ.variables i) e)
     unfolding Run.assign with_variables
@@ -85,7 +84,7 @@ module _ {words levels : List ℕ} {values : List ℤ} {places vars l : ℕ} (r 
         (record { grown = omega arith; cells = record { same = λ y h. refl }; values = λ n k. get_or-set_other values j n u (pos 0) (λ p. omega arith); board = refl }) refl refl refl
         (λ μ s.
         passes flow (context_test pc x flows (level_at_law s) h b μ s)
-        (given_passes _ (x.value b μ s ∙ ap value_of has)
+        (given_passes _ (x.value b μ s ∙ has)
         (does_next _ refl (record { tree = s.tree; level = s.level; variables = variables_set u s.variables lt at long; lines = s.lines }))))
 
   -- command 6
@@ -94,23 +93,23 @@ module _ {words levels : List ℕ} {values : List ℤ} {places vars l : ℕ} (r 
   unfolding Run.output
   no_output d h is = stays inside is (λ z. omega arith) (λ μ s. refuses flow _ (context_test pc x flows refl h b μ s) flow_number s)
 
-  pub over_output : (d : ℕ) {a : Stepped} → v.value ≡ Number.Over → not_above l d ≡ true → a ≡ stepped 27 r
+  pub over_output : (d : ℕ) {a : Stepped} → v.value ≡ None → not_above l d ≡ true → a ≡ stepped 27 r
       → Acts places vars (slices words levels values b) (slices words levels values b) r a (λ μ. Run.output pc μ (capacity b) d e)
   unfolding Run.output
   over_output d none h is =
       stays inside is (λ z. omega arith)
-      (λ μ s. passes flow (context_test pc x flows refl h b μ s) (given_stops _ (x.value b μ s ∙ ap value_of none) overflow_number s))
+      (λ μ s. passes flow (context_test pc x flows refl h b μ s) (given_stops _ (x.value b μ s ∙ none) overflow_number s))
 
-  pub full_output : (d : ℕ) {a : Stepped} → (u : ℤ) → v.value ≡ Number.Fits u → not_above l d ≡ true → capacity b ≤ r.memory.lines → a ≡ stepped 24 r
+  pub full_output : (d : ℕ) {a : Stepped} → (u : ℤ) → v.value ≡ Some u → not_above l d ≡ true → capacity b ≤ r.memory.lines → a ≡ stepped 24 r
       → Acts places vars (slices words levels values b) (slices words levels values b) r a (λ μ. Run.output pc μ (capacity b) d e)
   unfolding Run.output
   full_output d u has h full is =
       stays inside is (λ z. omega arith) (λ μ s.
       passes flow (context_test pc x flows refl h b μ s)
-      (given_passes _ (x.value b μ s ∙ ap value_of has)
+      (given_passes _ (x.value b μ s ∙ has)
       (refuses boardFull _ (le-ltb (length μ.lines) (capacity b) (omega (arith, lines_many s.lines))) board_full_number s)))
 
-  pub did_output : (d : ℕ) {a : Stepped} → (u : ℤ) → v.value ≡ Number.Fits u → not_above l d ≡ true → r.memory.lines < capacity b → (b' : List ℕ)
+  pub did_output : (d : ℕ) {a : Stepped} → (u : ℤ) → v.value ≡ Some u → not_above l d ≡ true → r.memory.lines < capacity b → (b' : List ℕ)
       → b' ≡ replaced b r.memory.lines (record { number = u; readers = d }) → a ≡ went r (with_lines r.memory (r.memory.lines + 1))
       → Acts places vars (slices words levels values b) (slices words levels values b') r a (λ μ. Run.output pc μ (capacity b) d e)
   unfolding Run.output with_line
@@ -122,7 +121,7 @@ module _ {words levels : List ℕ} {values : List ℤ} {places vars l : ℕ} (r 
       (record { grown = omega arith; cells = record { same = λ y h. refl }; values = λ j k. refl; board = replaced_rest b r.memory.lines new room }) refl refl refl
       (λ μ s.
       passes flow (context_test pc x flows refl h b μ s)
-      (given_passes _ (x.value b μ s ∙ ap value_of has)
+      (given_passes _ (x.value b μ s ∙ has)
       (passes boardFull (lt-ltb (length μ.lines) (capacity b) (omega (arith, lines_many s.lines)))
       (does_next _ refl
       (record {

@@ -2,7 +2,9 @@
 -- nothing is one that stops. Each law is by the cases of the test. Assumes nothing.
 use mathlib.Core.Path.{◌≡◌, refl, sym, ap, subst, ◌∙◌}
 use mathlib.Core.Bool.{Bool, true, false}
-use mathlib.Core.Option.{Option, none, some}
+use mathlib.Core.Option.{Option, some}
+use Rattle.std.specs.Prelude.{None, Some}
+use Rattle.rules.specs.Number.{Value}
 use mathlib.Core.List.{List, [], ◌∷◌, map}
 use Prim.Native.Nat.{ℕ, suc, ◌*◌, ◌/◌, ◌<◌, ◌≤◌}
 use native.Mathlib.Numerals.{add-one}
@@ -77,11 +79,11 @@ module _ {A : Type 0} {P : A → Type 0} {n : ℕ} {a : A} where
   refuses k x e i p = rw e (does_stop k i p)
 
   -- a value that is there is passed on, and where there is none it stops
-  pub given_passes : {v : Option ℤ} {z : ℤ} (x : ℤ → Result A) → v ≡ some z → Does P n a (x z) → Does P n a (given v x)
+  pub given_passes : {v : Value} {z : ℤ} (x : ℤ → Result A) → v ≡ Some z → Does P n a (x z) → Does P n a (given v x)
   unfolding given
   given_passes x e d = rw e d
 
-  pub given_stops : {v : Option ℤ} (x : ℤ → Result A) → v ≡ none → n ≡ stop_number overflow → P a → Does P n a (given v x)
+  pub given_stops : {v : Value} (x : ℤ → Result A) → v ≡ None → n ≡ stop_number overflow → P a → Does P n a (given v x)
   unfolding given
   given_stops x e i p = rw e (does_stop overflow i p)
 

@@ -4,6 +4,7 @@ use mathlib.Core.Path.{◌≡◌, refl, sym, ◌∙◌, ap, ap₂, subst}
 use mathlib.Core.Bool.{Bool, true, false, cond}
 use mathlib.Core.Option.{some}
 use mathlib.Core.List.{List, ◌∷◌, tail}
+use Rattle.std.specs.Prelude.{None, Some, IfSome}
 use Prim.Native.Nat.{ℕ, suc, ◌+◌, ◌-◌, ◌%◌, ◌<◌, ◌≤◌}
 use native.Mathlib.Numerals.{add-one}
 use native.Mathlib.Omega.{arith}
@@ -13,9 +14,7 @@ use mir.Syntax.{w32}
 use mir.Facts.{to_z-of_z}
 use Rattle.rules.specs.Limits.{max_nodes, max_depth}
 use Rattle.rules.specs.Level.{join}
-use Rattle.rules.specs.Number.{is_zero}
-use Rattle.rules.specs.Answers.{value_of}
-use Rattle.rules.specs.declared.numbers.Number.{Number}
+use Rattle.rules.specs.Number.{Fits, is_zero}
 use Rattle.rules.specs.Tree.{Forest}
 use Rattle.rules.specs.Script.{Expression}
 use Rattle.rules.specs.Run.{State, Saved, Block, absent, context, level_of, with_cursor, leave, restore, onward, stepped, pushed, saving, raised, enter_if, enter_while, enter_back, leave_block}
@@ -27,17 +26,26 @@ use Rattle.actions.specs.declared.control.Running.{Running}
 use Rattle.actions.specs.declared.control.Stepped.{Stepped}
 use Rattle.actions.specs.Guards.{Holds}
 use Rattle.actions.specs.Shows.{Slices, level_in}
+use Rattle.actions.specs.declared.marks.Saved as Code
 use Rattle.actions.specs.Marks as Marks
 use Rattle.actions.specs.Marks.{marks_size, Marked, plain, dropping, Recalled, found, lost, Recalls}
-use Rattle.actions.specs.Acts.{MayFit, Does}
+use Rattle.actions.specs.Acts.{Does}
 use Rattle.actions.specs.Stands.{Stands, stepped as halted}
-use Rattle.actions.specs.Control.{Keeps, Enters, Saves, Restores}
+use Rattle.actions.specs.Control.{Jumps, Keeps, Enters, Saves, Restores}
 use Rattle.actions.proofs.Doing.{absent_number, overflow_number, does_next, does_stop, given_passes, given_stops}
 use Rattle.actions.proofs.Remembered.{marked_few, marked_saving, saving_long, marked_dropping, dropping_long}
 
 -- one step more, with the guards g, at the record i
 abbrev after : Running → Guards → ℕ → Stepped
 after r g i = record { stop = 0; running = record { memory = r.memory; guards = g; at = i; left = r.left - 1 } }
+
+-- a jump is one, with the guards as they are
+pub jumped : {r : Running} {j : ℕ} {a : Stepped} → Jumps r j a → a ≡ after r r.guards j
+jumped h =
+    λ i. record {
+      stop = h.passes.stop i;
+      running = record { memory = h.passes.memory i; guards = h.guards i; at = h.at i; left = h.passes.left i };
+    }
 
 keeps : (r : Running) (g : Guards) (i : ℕ) → Keeps r (after r g i)
 keeps r g i = record { memory = refl; counted = λ _. refl; uncounted = λ n. absurd (n refl) }
@@ -54,18 +62,18 @@ marked_while true s e h = h
 marked_while false s e h = marked_pushed s e h
 
 -- without a value, at the record r
-pub enters_over : {f : State → ℕ → Expression → ℤ → State} (r : Running) (v : Valued) (j : ℕ) {a : Stepped} → v.value ≡ Number.Over → a ≡ halted 27 r
+pub enters_over : {f : State → ℕ → Expression → ℤ → State} (r : Running) (v : Valued) (j : ℕ) {a : Stepped} → v.value ≡ None → a ≡ halted 27 r
     → Enters f r v j a
 enters_over {f} r v j none is =
     subst (Enters f r v j) (sym is)
     (record {
       keeps = record { memory = refl; counted = λ z. absurd (omega arith); uncounted = λ _. refl };
       within = λ n h k. omega arith;
-      enters = λ places vars x k s e fits value level deep st. given_stops _ (value ∙ ap value_of none) overflow_number st;
+      enters = λ places vars x k s e fits value level deep st. given_stops _ (value ∙ none) overflow_number st;
     })
 
 -- the guard's value y, which z says to be zero or not
-module _ (r : Running) (v : Valued) (j : ℕ) {y : ℤ} (has : v.value ≡ Number.Fits y) (z : Bool) (zero : is_zero (kept w32 y) ≡ z) where
+module _ (r : Running) (v : Valued) (j : ℕ) {y : ℤ} (has : v.value ≡ Some y) (z : Bool) (zero : is_zero (kept w32 y) ≡ z) where
   within : (n : ℕ) → j ≤ n → r.at < n → cond z j (r.at + 1) ≤ n
   within n h k = pick z
     where
@@ -73,8 +81,8 @@ module _ (r : Running) (v : Valued) (j : ℕ) {y : ℤ} (has : v.value ≡ Numbe
       pick true = h
       pick false = omega arith
 
-  is_zero_law : MayFit v.value → is_zero y ≡ z
-  is_zero_law fits = ap is_zero (sym (to_z-of_z {w = w32} (record { sfits = subst MayFit has fits }))) ∙ zero
+  is_zero_law : IfSome v.value Fits → is_zero y ≡ z
+  is_zero_law fits = ap is_zero (sym (to_z-of_z {w = w32} (record { sfits = subst (λ o. IfSome o Fits) has fits }))) ∙ zero
 
   next_at : (s : State) → is_zero y ≡ z → s.at ≡ r.at → cond (is_zero y) j (suc s.at) ≡ cond z j (r.at + 1)
   next_at s h k = rw (h, k, add-one)
@@ -91,7 +99,7 @@ module _ (r : Running) (v : Valued) (j : ℕ) {y : ℤ} (has : v.value ≡ Numbe
         within = within;
         enters = λ places vars x ks s e fits is level deep st.
             let k = is_zero_law fits in
-            given_passes _ (is ∙ ap value_of has)
+            given_passes _ (is ∙ has)
             (does_next _ refl
             (record {
               memory = st.memory;
@@ -112,7 +120,7 @@ module _ (r : Running) (v : Valued) (j : ℕ) {y : ℤ} (has : v.value ≡ Numbe
         keeps = keeps r _ _;
         within = within;
         enters = λ places vars x ks s e fits is level deep st.
-            given_passes _ (is ∙ ap value_of has)
+            given_passes _ (is ∙ has)
             (does_next _ refl
             (record {
               memory = st.memory;
@@ -131,17 +139,17 @@ pushed_held r v g t l top joined pushes s e level deep held =
     pushes _ s.blocks held deep (joined ∙ rw (level, top s.blocks held))
 
 -- an if that comes back, without a value
-pub saves_over : (places : ℕ) (r : Running) (v : Valued) (j : ℕ) (ks : List ℕ) {a : Stepped} → v.value ≡ Number.Over → a ≡ halted 27 r → Saves places r v j ks ks a
+pub saves_over : (places : ℕ) (r : Running) (v : Valued) (j : ℕ) (ks : List ℕ) {a : Stepped} → v.value ≡ None → a ≡ halted 27 r → Saves places r v j ks ks a
 saves_over places r v j ks none is =
     subst (Saves places r v j ks ks) (sym is)
     (record {
       stays = record { cursor = λ h. h; lines = refl; counted = λ z. absurd (omega arith); uncounted = λ _. refl; within = λ n h k. omega arith; long = refl };
-      enters = λ vars x s e fits value level deep st. given_stops _ (value ∙ ap value_of none) overflow_number st;
+      enters = λ vars x s e fits value level deep st. given_stops _ (value ∙ none) overflow_number st;
     })
 
 -- with the guard's value y, which z says to be zero or not; l is the cursor's level, i the context in the block and l' the level in it
 module _ (places : ℕ) (r : Running) (v : Valued) (j : ℕ) (ks : List ℕ) (long : marks_size ≤ length ks) (inside : r.memory.cursor < places)
-    (few : places ≤ max_nodes) {y : ℤ} (has : v.value ≡ Number.Fits y) (z : Bool) (zero : is_zero (kept w32 y) ≡ z) (g : Guards) {t i l l' : ℕ}
+    (few : places ≤ max_nodes) {y : ℤ} (has : v.value ≡ Some y) (z : Bool) (zero : is_zero (kept w32 y) ≡ z) (g : Guards) {t i l l' : ℕ}
     (tops : (bs : List Block) → Holds r.guards bs → t ≡ context bs) (joined : i ≡ join v.level t)
     (pushes : (b : Block) (bs : List Block) → Holds r.guards bs → length bs < max_depth → i ≡ context (b ∷ bs) → Holds g (b ∷ bs))
     (levels : l ≡ level_in r.memory) (raises : l' ≡ join l i) (small : l' < 256) where
@@ -177,7 +185,7 @@ module _ (places : ℕ) (r : Running) (v : Valued) (j : ℕ) (ks : List ℕ) (lo
               long = saving_long ks r.memory.cursor l;
             };
         enters = λ vars x s e fits is level deep st.
-            given_passes _ (is ∙ ap value_of has)
+            given_passes _ (is ∙ has)
             (does_next _ refl
             (record {
               memory =
@@ -198,45 +206,43 @@ module _ (places : ℕ) (r : Running) (v : Valued) (j : ℕ) (ks : List ℕ) (lo
       }
 
 -- the end of an if that comes back
-module _ (places : ℕ) (r : Running) (j : ℕ) (ks : List ℕ) {place level : ℕ} (recall : Recalls ks places place level) where
-  lost_leaves : {vars : ℕ} {x : Slices} (s : State) (b : Block) (bs : List Block) (q : Saved) → places ≤ place → Stands places vars x ks r s → b.saved ≡ some q
-      → Recalled (cells x.words) places r.memory.used r.memory.free s.memory.tree q place level
+module _ (places : ℕ) (r : Running) (j : ℕ) (ks : List ℕ) where
+  lost_leaves : {vars : ℕ} {x : Slices} (s : State) (b : Block) (bs : List Block) (q : Saved) → Stands places vars x ks r s → b.saved ≡ some q
+      → Recalled (cells x.words) places r.memory.used r.memory.free s.memory.tree q None
       → Does (Stands places vars x ks r) 22 s (leave_block s j (b ∷ bs))
   unfolding leave_block leave restore onward
-  lost_leaves s b bs q ge st e (found p i lt h l) = absurd (omega arith)
-  lost_leaves s b bs q ge st e (lost i n) = rw (e, i) (does_stop absent absent_number st)
+  lost_leaves s b bs q st e (lost i) = rw (e, i) (does_stop absent absent_number st)
 
-  pub restores_lost : {a : Stepped} → places ≤ place → a ≡ halted 22 r → Restores places r j ks ks a
-  restores_lost ge is =
+  pub restores_lost : {a : Stepped} → Recalls ks places None → a ≡ halted 22 r → Restores places r j ks ks a
+  restores_lost recall is =
       subst (Restores places r j ks ks) (sym is)
       (record {
         stays = record { cursor = λ h. h; lines = refl; counted = λ z. absurd (omega arith); uncounted = λ _. refl; within = λ n h k. omega arith; long = refl };
         leaves = λ vars x s b bs q e e' st.
             subst (λ cs. Does (Stands places vars x ks r) 22 s (leave_block s j cs)) (sym e)
-            (lost_leaves s b bs q ge st e'
+            (lost_leaves s b bs q st e'
             (recall.recalls _ _ _ _ b bs q (subst (Marked _ _ _ _ _ ks _) e st.marks) e'));
       })
 
-  module _ (long : marks_size ≤ length ks) (g : Guards) (pops : (bs : List Block) → Holds r.guards bs → Holds g (tail bs)) where
+  module _ (saved : Code.Saved) (recall : Recalls ks places (Some saved)) (long : marks_size ≤ length ks) (g : Guards) (pops : (bs : List Block) → Holds r.guards bs → Holds g (tail bs)) where
     abbrev returned : Stepped
     returned =
         record {
           stop = 0;
           running =
               record {
-                memory = record { cursor = place; level = level; lines = r.memory.lines; free = r.memory.free; used = r.memory.used };
+                memory = record { cursor = saved.place; level = saved.level; lines = r.memory.lines; free = r.memory.free; used = r.memory.used };
                 guards = g;
                 at = j;
                 left = r.left - 1;
               };
         }
 
-    found_leaves : {vars : ℕ} {x : Slices} (s : State) (b : Block) (bs : List Block) (q : Saved) → place < places → Stands places vars x ks r s → s.blocks ≡ b ∷ bs
-        → b.saved ≡ some q → Recalled (cells x.words) places r.memory.used r.memory.free s.memory.tree q place level
+    found_leaves : {vars : ℕ} {x : Slices} (s : State) (b : Block) (bs : List Block) (q : Saved) → Stands places vars x ks r s → s.blocks ≡ b ∷ bs
+        → b.saved ≡ some q → Recalled (cells x.words) places r.memory.used r.memory.free s.memory.tree q (Some saved)
         → Does (Stands places vars x (dropping ks) returned.running) 0 s (leave_block s j (b ∷ bs))
     unfolding leave_block leave restore onward stepped with_cursor
-    found_leaves s b bs q lt st eb e (lost i n) = absurd (omega arith)
-    found_leaves s b bs q lt st eb e (found p i _ h l) =
+    found_leaves s b bs q st eb e (found _ p i h l) =
         rw (e, i)
         (does_next _ refl
         (record {
@@ -246,12 +252,12 @@ module _ (places : ℕ) (r : Running) (j : ℕ) (ks : List ℕ) {place level : �
           at = refl;
         }))
 
-    pub restores_found : place < places → Restores places r j ks (dropping ks) returned
-    restores_found lt =
+    pub restores_found : Restores places r j ks (dropping ks) returned
+    restores_found =
         record {
           stays =
               record {
-                cursor = λ _. lt;
+                cursor = λ _. recall.within;
                 lines = refl;
                 counted = λ _. refl;
                 uncounted = λ n. absurd (n refl);
@@ -260,6 +266,6 @@ module _ (places : ℕ) (r : Running) (j : ℕ) (ks : List ℕ) {place level : �
               };
           leaves = λ vars x s b bs q e e' st.
               subst (λ cs. Does (Stands places vars x (dropping ks) returned.running) 0 s (leave_block s j cs)) (sym e)
-              (found_leaves s b bs q lt st e e'
+              (found_leaves s b bs q st e e'
               (recall.recalls _ _ _ _ b bs q (subst (Marked _ _ _ _ _ ks _) e st.marks) e'));
         }

@@ -2,7 +2,6 @@
 -- hold, and an expression by its operator, from its operands. Assumes nothing.
 use mathlib.Core.Path.{◌≡◌, refl, sym, ap, ap₂, subst, ◌∙◌}
 use mathlib.Core.Bool.{Bool}
-use mathlib.Core.Option.{some}
 use mathlib.Core.List.{List}
 use Prim.Native.Nat.{ℕ, zero, suc, ◌<◌, ◌≤◌}
 use native.Mathlib.Omega.{arith}
@@ -13,16 +12,15 @@ use lib.IntN.{ℤ, pos, ◌+ℤ◌, ◌-ℤ◌}
 use mir.Syntax.{w32, w64}
 use mir.Val.{SFits}
 use mir.Facts.{to_z-of_z}
-use Rattle.rules.specs.Number.{half_range, signed, Fits, fitting, sum, difference, equal, less, mean}
-use Rattle.rules.specs.Answers.{value_of}
-use Rattle.rules.specs.declared.numbers.Number.{Number}
+use Rattle.rules.specs.Number.{Value, half_range, signed, Fits, fitting, sum, difference, equal, less, mean}
+use Rattle.std.specs.Prelude.{None, Some, IfSome}
 use Rattle.rules.specs.Level.{join, not_above, public}
 use Rattle.rules.specs.Tree.{sub, label, count, along, child}
 use Rattle.rules.specs.Script.{Operand, Operator, Expression, alone, both, apply}
 use Rattle.rules.specs.Job.{operand, expression}
 use Rattle.rules.specs.Run as Run
 use Rattle.rules.specs.Run.{current, operand_value, operand_level, value, level_of, position, flow_of, context_flow}
-use Rattle.rules.proofs.Machine.{kept, widened}
+use Rattle.rules.proofs.Machine.{kept}
 use Rattle.rules.proofs.Number.{fitting_in, fitting_fits, equal_fits, less_fits, mean_fits}
 use Rattle.table.specs.Cells.{cells}
 use Rattle.table.specs.Promises.{Whenever}
@@ -32,7 +30,7 @@ use Rattle.actions.specs.declared.memory.Memory.{Memory}
 use Rattle.actions.specs.declared.evaluate.Valued.{Valued}
 use Rattle.actions.specs.declared.evaluate.Found.{Found}
 use Rattle.actions.specs.Shows.{Shows, slices, level_in}
-use Rattle.actions.specs.Acts.{MayFit, Operates, Applies, Evaluates}
+use Rattle.actions.specs.Acts.{Operates, Applies, Evaluates}
 
 -- a number that fits comes back from its bits
 pub read : {z : ℤ} → Fits z → kept w32 z ≡ z
@@ -41,13 +39,13 @@ read h = to_z-of_z {w = w32} (record { sfits = h })
 abbrev found : ℤ → ℕ → Found
 found v l = record { value = v; level = l }
 
-abbrev valued : Number → ℕ → Valued
+abbrev valued : Value → ℕ → Valued
 valued v l = record { value = v; level = l }
 
 -- what a result stands for fits, if it is a number
-may_fit : (r : Number) → ((z : ℤ) → value_of r ≡ some z → Fits z) → MayFit r
-may_fit (Number.Fits z) h = h z refl
-may_fit Number.Over h = tt
+may_fit : (r : Value) → ((z : ℤ) → r ≡ Some z → Fits z) → IfSome r Fits
+may_fit (Some z) h = h z refl
+may_fit None h = tt
 
 -- a small number is below zero for no reading
 signed_small : (n : ℕ) → n ≤ 512 → signed n ≡ pos n
@@ -212,10 +210,6 @@ applies o f i ha hb hx g e =
       is = λ y z μ p q. ap (value μ) (i y z) ∙ ap₂ (apply o) p q ∙ g ∙ ap fitting (sym (to_z-of_z hx ∙ e ∙ ap₂ f (to_z-of_z ha) (to_z-of_z hb)));
     }
 
--- an operand's value in 64 bits
-pub wide_read : {r : ℤ} (z : ℤ) → Fits z → r ≡ kept w32 z → kept w64 r ≡ z
-wide_read z h e = ap (kept w64) e ∙ widened (record { sfits = h })
-
 -- ---- expressions
 
 -- an expression with two sides reads both
@@ -230,19 +224,19 @@ level_both (suc (suc (suc (suc (suc k))))) x y μ h = refl
 
 module _ {words levels : List ℕ} {values : List ℤ} {places vars : ℕ} {m : Memory} where
   pub one_operand : {r : Found} (f : Fields) → f.operator ≡ 0 → Operates words levels values places vars m (operand f.leftkind f.left) r
-      → Evaluates words levels values places vars m (expression_from f) (valued (Number.Fits (kept w32 r.value)) r.level)
+      → Evaluates words levels values places vars m (expression_from f) (valued (Some (kept w32 r.value)) r.level)
   unfolding expression_from expression value level_of
   one_operand {r} f i o =
       subst
       (λ k. Evaluates words levels values places vars m (expression k (operand f.leftkind f.left) (operand f.rightkind f.right))
-      (valued (Number.Fits (kept w32 r.value)) r.level)) (sym i)
-      (subst (λ z. Evaluates words levels values places vars m (alone (operand f.leftkind f.left)) (valued (Number.Fits z) r.level)) (sym (read o.fits))
-      (record { fits = o.fits; value = λ b μ s. ap some (o.value b μ s); level = o.level }))
+      (valued (Some (kept w32 r.value)) r.level)) (sym i)
+      (subst (λ z. Evaluates words levels values places vars m (alone (operand f.leftkind f.left)) (valued (Some z) r.level)) (sym (read o.fits))
+      (record { fits = o.fits; value = λ b μ s. ap Some (o.value b μ s); level = o.level }))
 
-  pub two_operands : {p q : Found} {a b z : ℤ} {v : Number} {l : ℕ} (f : Fields) → (f.operator ≡ 0 → ⊥)
+  pub two_operands : {p q : Found} {a b z : ℤ} {v : Value} {l : ℕ} (f : Fields) → (f.operator ≡ 0 → ⊥)
       → Operates words levels values places vars m (operand f.leftkind f.left) p
       → Operates words levels values places vars m (operand f.rightkind f.right) q → a ≡ p.value → b ≡ q.value
-      → Applies f.operator a b z → value_of v ≡ fitting z → l ≡ join p.level q.level
+      → Applies f.operator a b z → v ≡ fitting z → l ≡ join p.level q.level
       → Evaluates words levels values places vars m (expression_from f) (valued v l)
   unfolding expression_from
   two_operands {z = z} {v = v} f i x y p q a n e =
@@ -253,9 +247,9 @@ module _ {words levels : List ℕ} {values : List ℤ} {places vars : ℕ} {m : 
       }
 
   -- a number that was found comes back from its bits
-  pub fits_read : {e : Expression} {r : Valued} {z : ℤ} → Evaluates words levels values places vars m e r → r.value ≡ Number.Fits z
-      → r.value ≡ Number.Fits (kept w32 z)
-  fits_read x i = i ∙ ap Number.Fits (sym (read (subst MayFit i x.fits)))
+  pub fits_read : {e : Expression} {r : Valued} {z : ℤ} → Evaluates words levels values places vars m e r → r.value ≡ Some z
+      → r.value ≡ Some (kept w32 z)
+  fits_read x i = i ∙ ap Some (sym (read (subst (λ o. IfSome o Fits) i x.fits)))
 
   -- L, from the level that was found
   pub flow_shown : {e : Expression} {r : Valued} (pc : ℕ) → Evaluates words levels values places vars m e r → (b : List ℕ) (μ : Run.Memory)

@@ -10,9 +10,8 @@ use lib.IntN.{ℤ}
 use lib.Dec.{ltb}
 use borrow.Author.Tests.{lt-ltb, le-ltb, ltb-true, ltb-false}
 use Rattle.rules.specs.Limits.{max_nodes}
-use Rattle.rules.specs.Number.{bits, signed}
-use Rattle.rules.specs.Answers.{value_of}
-use Rattle.rules.specs.declared.numbers.Number.{Number}
+use Rattle.rules.specs.Number.{Fits, bits, signed}
+use Rattle.std.specs.Prelude.{None, Some, IfSome}
 use Rattle.rules.specs.Level.{join, not_above}
 use Rattle.rules.specs.Tree.{Forest, Place, to, up, sub, label}
 use Rattle.rules.specs.Script.{Expression}
@@ -35,7 +34,7 @@ use Rattle.actions.specs.declared.control.Stepped.{Stepped}
 use Rattle.actions.specs.Shows.{slices, Shows, level_in}
 use Rattle.actions.specs.Stands.{stepped, with_memory, went}
 use Rattle.actions.specs.Marks.{count_at}
-use Rattle.actions.specs.Acts.{Does, Kept, shifted, closed_up, Same, Becomes, Acting, Acts, MayFit, Evaluates, with_space, MayTouch, MayAdd, new_node, Placed}
+use Rattle.actions.specs.Acts.{Does, Kept, shifted, closed_up, Same, Becomes, Acting, Acts, Evaluates, with_space, MayTouch, MayAdd, new_node, Placed}
 use Rattle.actions.proofs.Doing.{flow_number, absent_number, table_full_number, overflow_number, does_next, does_stop, passes, refuses, given_passes, given_stops, does_as, halts, moves_on, stays_by, stays}
 use Rattle.actions.proofs.Evaluation.{flow_shown}
 use Rattle.actions.proofs.Touched.{there, nowhere, Under, under, no_parent_law, position_is}
@@ -138,11 +137,11 @@ module _ {P : Run.Memory → Type 0} {n : ℕ} {μ : Run.Memory} where
 -- y is the value and the level of the expression e
 module _ {w l : List ℕ} {v : List ℤ} {places vars : ℕ} {m : Memory} {e : Expression} {y : Valued} (x : Evaluates w l v places vars m e y) where
   -- the value, by its bits
-  told : {u : ℤ} {n : ℕ} → y.value ≡ Number.Fits u → n ≡ bits u → signed n ≡ u
-  told has i = ap signed i ∙ signed_bits (record { sfits = subst MayFit has x.fits })
+  told : {u : ℤ} {n : ℕ} → y.value ≡ Some u → n ≡ bits u → signed n ≡ u
+  told has i = ap signed i ∙ signed_bits (record { sfits = subst (λ o. IfSome o Fits) has x.fits })
 
   -- the label of a new node
-  new_label_law : {u : ℤ} {new : NewNode} (b : List ℕ) (pc d f : ℕ) → y.value ≡ Number.Fits u → new ≡ new_node u y.level d f pc m → (μ : Run.Memory)
+  new_label_law : {u : ℤ} {new : NewNode} (b : List ℕ) (pc d f : ℕ) → y.value ≡ Some u → new ≡ new_node u y.level d f pc m → (μ : Run.Memory)
       → Shows places vars (slices w l v b) m μ → label_new new ≡ new_label pc μ d f e u
   unfolding new_label
   new_label_law b pc d f has is μ s =
@@ -206,15 +205,15 @@ module _ (r : Running) (pc side content list : ℕ) (e : Expression) {places var
 
     -- y is the value and the level of the expression e
     module _ (may-go : ok ≡ true) {y : Valued} (x : Evaluates w l v places vars r.memory e y) where
-      pub insert_over : {a : Stepped} → y.value ≡ Number.Over → a ≡ stepped 27 r
+      pub insert_over : {a : Stepped} → y.value ≡ None → a ≡ stepped 27 r
           → Acting (shifted side) Same places vars (slices w l v b) (slices w l v b) r a (Inserts pc side content list places e)
       unfolding insert_at
       insert_over none is =
           stays g.inside is (λ z. omega arith)
           (λ μ s.
-          does_as (as_under s) (both_passed _ _ _ (sym (gated s) ∙ may-go) (given_stops _ (x.value b μ s ∙ ap value_of none) overflow_number s)))
+          does_as (as_under s) (both_passed _ _ _ (sym (gated s) ∙ may-go) (given_stops _ (x.value b μ s ∙ none) overflow_number s)))
 
-      module _ {u : ℤ} (has : y.value ≡ Number.Fits u) (w' : List ℕ) {got : Taken} (new : NewNode)
+      module _ {u : ℤ} (has : y.value ≡ Some u) (w' : List ℕ) {got : Taken} (new : NewNode)
           (added : (t : Forest) (p : Place) → Holds (cells w) places r.memory.used r.memory.free r.memory.cursor t p
           → Leads (cells w) places r.memory.used r.memory.free t (up (to (side_of side) p)) above
           → Added (side_of side) (label_new new) (cells w) (cells w') places r.memory.used r.memory.free r.memory.cursor got.place got.free got.used t p)
@@ -231,7 +230,7 @@ module _ (r : Running) (pc side content list : ℕ) (e : Expression) {places var
             (λ k k' q μ s.
             does_as (as_under s)
             (both_passed _ _ _ (sym (gated s) ∙ may-go)
-            (given_passes _ (x.value b μ s ∙ ap value_of has)
+            (given_passes _ (x.value b μ s ∙ has)
             (refuses tableFull _ (sym (result s).when ∙ le-ltb got.place places i) table_full_number
             (record {
               shows = with_space_law s ((result s).kept i _ _ s.tree);
@@ -250,7 +249,7 @@ module _ (r : Running) (pc side content list : ℕ) (e : Expression) {places var
             got.place got.free got.used μ.tree μ.cursor) (labels μ s) (result s) in
             does_as (as_under s)
             (both_passed _ _ _ (sym (gated s) ∙ may-go)
-            (given_passes _ (x.value b μ s ∙ ap value_of has)
+            (given_passes _ (x.value b μ s ∙ has)
             (passes tableFull (sym (result s).when ∙ lt-ltb got.place places i)
             (does_next _ refl
             (record {
@@ -283,14 +282,14 @@ module _ {w l : List ℕ} {v : List ℤ} {places vars k : ℕ} (r : Running) {e 
     unfolding Run.write
     write_refused h is = stays inside is (λ z. omega arith) (λ μ s. refuses flow _ (content_test h μ s) flow_number s)
 
-    pub write_over : {a : Stepped} → y.value ≡ Number.Over → not_above k c ≡ true → a ≡ stepped 27 r
+    pub write_over : {a : Stepped} → y.value ≡ None → not_above k c ≡ true → a ≡ stepped 27 r
         → Acts places vars (slices w l v b) (slices w l v b) r a (λ μ. Run.write pc μ e)
     unfolding Run.write
     write_over none h is =
         stays inside is (λ z. omega arith)
-        (λ μ s. passes flow (content_test h μ s) (given_stops _ (x.value b μ s ∙ ap value_of none) overflow_number s))
+        (λ μ s. passes flow (content_test h μ s) (given_stops _ (x.value b μ s ∙ none) overflow_number s))
 
-    pub written : (w' : List ℕ) {u : ℤ} {n : ℕ} {a : Stepped} → y.value ≡ Number.Fits u → not_above k c ≡ true → n ≡ bits u
+    pub written : (w' : List ℕ) {u : ℤ} {n : ℕ} {a : Stepped} → y.value ≡ Some u → not_above k c ≡ true → n ≡ bits u
         → ((used free : ℕ) (t : Forest) (p : Place) → Holds (cells w) places used free r.memory.cursor t p
         → Revalued (signed n) (cells w) (cells w') places used free r.memory.cursor t p)
         → Behind places (cells w) (cells w') → a ≡ went r r.memory
@@ -301,6 +300,6 @@ module _ {w l : List ℕ} {v : List ℤ} {places vars k : ℕ} (r : Running) {e 
         (λ k k' q μ s.
         let d = subst (λ z. Revalued z (cells w) (cells w') places r.memory.used r.memory.free r.memory.cursor μ.tree μ.cursor) (told x has i) (set _ _ _ _ s.tree) in
         passes flow (content_test h μ s)
-        (given_passes _ (x.value b μ s ∙ ap value_of has)
+        (given_passes _ (x.value b μ s ∙ has)
         (does_next _ refl
         (record { shows = with_tree_law s d.done; moves = λ _. rw q (valued_relocates d); behind = λ y h. rw q }))))

@@ -20,7 +20,9 @@ use Rattle.table.specs.Cells.{Table}
 use Rattle.table.specs.Holds.{Holds}
 use Rattle.table.specs.Since.{never, number, kept, Remembers, stands}
 use Rattle.table.specs.Since as Since
+use Rattle.std.specs.Prelude.{None, Some}
 use Rattle.table.proofs.Remembering.{kept_new, kept_other, Relocates, remembers_after}
+use Rattle.actions.specs.declared.marks.Saved as Code
 use Rattle.actions.specs.Marks.{count_at, place_at, level_at, marks_size, Marked, nothing, plain, saved, saving, dropping, Recalled, found, lost, Recalls}
 
 module _ {m : Table} {n used free : ℕ} {t : Forest} {ks : List ℕ} where
@@ -205,7 +207,7 @@ top {m} {n} {used} {free} {t} {ks} {q = q} (saved {k} b r z d p v c h) e =
     let i : r ≡ q = some-injective _ _ (sym z ∙ e) in
     record { k = k; is = refl; deep = d; level = v ∙ ap (λ s. s.level) i; recalls = subst (λ s. Remembers m n used free t ks k (number ks (place_at k)) s.place) i c }
 
-module _ (ks : List ℕ) (n place level : ℕ) where
+module _ (ks : List ℕ) (n : ℕ) where
   abbrev last : ℕ
   last = number ks count_at - 1
 
@@ -215,31 +217,33 @@ module _ (ks : List ℕ) (n place level : ℕ) where
   gone_by s (Since.lost z) = refl
 
   -- none, where its node has gone
-  pub recalls_none : (last < max_depth → (n ≤ number ks (place_at last)) ⊎ (last < number ks (number ks (place_at last)))) → n ≤ place → Recalls ks n place level
-  recalls_none s ge =
+  pub recalls_none : (last < max_depth → (n ≤ number ks (place_at last)) ⊎ (last < number ks (number ks (place_at last)))) → Recalls ks n None
+  recalls_none s =
       record {
+        within = tt;
         recalls = λ m used free t b bs q h e.
             let a = top h e in
             let i : last ≡ a.k = omega (arith, a.is) in
             lost
             (gone_by (s (omega (arith, a.is, a.deep)))
-            (subst (λ k. Remembers m n used free t ks k (number ks (place_at k)) q.place) (sym i) a.recalls))
-            ge;
+            (subst (λ k. Remembers m n used free t ks k (number ks (place_at k)) q.place) (sym i) a.recalls));
       }
 
-  here_by : {m : Table} {used free : ℕ} {t : Forest} {q : Saved} → number ks place ≤ last → place < n → level % 256 ≡ q.level
-      → (o : Option Place) → q.place ≡ o → Remembers m n used free t ks last place o → Recalled m n used free t q place level
-  here_by le lt l o e (stands p h z) = found p e lt h l
-  here_by le lt l o e (Since.lost z) = absurd (omega arith)
+  here_by : {m : Table} {used free : ℕ} {t : Forest} {q : Saved} (s : Code.Saved) → number ks s.place ≤ last → s.level % 256 ≡ q.level
+      → (o : Option Place) → q.place ≡ o → Remembers m n used free t ks last s.place o → Recalled m n used free t q (Some s)
+  here_by s le l o e (stands p h z) = found s p e h l
+  here_by s le l o e (Since.lost z) = absurd (omega arith)
 
   -- the node that stands there still
-  pub recalls_one : place ≡ number ks (place_at last) → level ≡ number ks (level_at last) → place < n → number ks place ≤ last → Recalls ks n place level
-  recalls_one at by lt le =
+  pub recalls_one : (s : Code.Saved) → s.place ≡ number ks (place_at last) → s.level ≡ number ks (level_at last) → s.place < n → number ks s.place ≤ last
+      → Recalls ks n (Some s)
+  recalls_one s at by lt le =
       record {
+        within = lt;
         recalls = λ m used free t b bs q h e.
             let a = top h e in
             let i : last ≡ a.k = omega (arith, a.is) in
-            here_by le lt (ap (λ (z : ℕ). z % 256) by ∙ ap (λ k. number ks (level_at k) % 256) i ∙ a.level) q.place refl
+            here_by s le (ap (λ (z : ℕ). z % 256) by ∙ ap (λ k. number ks (level_at k) % 256) i ∙ a.level) q.place refl
             (subst (λ x. Remembers m n used free t ks last x q.place) (sym at)
             (subst (λ k. Remembers m n used free t ks k (number ks (place_at k)) q.place) (sym i) a.recalls));
       }

@@ -1,9 +1,7 @@
 -- What the monitor's functions promise: for every memory that the slices show, what the rules give. Assumes nothing.
-use Rattle.std.specs.Prelude.{◌≡◌, Bool, cond, ◌&&◌, ℕ, suc, ◌-◌, ◌*◌, ◌<◌, ◌≤◌, List, map, length, get_or, drop, ℤ, pos}
+use Rattle.std.specs.Prelude.{◌≡◌, Bool, cond, ◌&&◌, ℕ, suc, ◌-◌, ◌*◌, ◌<◌, ◌≤◌, List, map, length, get_or, drop, ℤ, pos, IfSome}
 use Rattle.std.proofs.Math.Option.{Option, some}
 use Rattle.rules.specs.Number.{Fits, fitting, bits}
-use Rattle.rules.specs.Answers.{value_of}
-use Rattle.rules.specs.declared.numbers.Number.{Number}
 use Rattle.rules.specs.Level.{join, not_above}
 use Rattle.rules.specs.Tree.{Forest, Place, root, to, up, sub, label, child, sibling, after_insert, after_remove}
 use Rattle.rules.specs.Script.{Operand, Expression}
@@ -29,19 +27,14 @@ pub record Operates (words levels : List ℕ) (values : List ℤ) (places vars :
   pub value : (b : List ℕ) (μ : Run.Memory) → Shows places vars (slices words levels values b) m μ → operand_value μ a ≡ r.value
   pub level : (b : List ℕ) (μ : Run.Memory) → Shows places vars (slices words levels values b) m μ → operand_level μ a ≡ r.level
 
--- a result, if it is a number, is a 32-bit number
-abbrev pub MayFit : Number → Type 0
-MayFit (Number.Fits z) = Fits z
-MayFit Number.Over = Unit {0}
-
 -- r is the exact result of what the operator of a number above 0 makes of two values
 pub record Applies (operator : ℕ) (a b r : ℤ) : Type 0 where
   pub is : (x y : Operand) (μ : Run.Memory) → operand_value μ x ≡ a → operand_value μ y ≡ b → value μ (expression operator x y) ≡ fitting r
 
 -- r is the expression's value, if it has one, and its level
 pub record Evaluates (words levels : List ℕ) (values : List ℤ) (places vars : ℕ) (m : Memory) (e : Expression) (r : Valued) : Type 0 where
-  pub fits : MayFit r.value
-  pub value : (b : List ℕ) (μ : Run.Memory) → Shows places vars (slices words levels values b) m μ → value μ e ≡ value_of r.value
+  pub fits : IfSome r.value Fits
+  pub value : (b : List ℕ) (μ : Run.Memory) → Shows places vars (slices words levels values b) m μ → value μ e ≡ r.value
   pub level : (b : List ℕ) (μ : Run.Memory) → Shows places vars (slices words levels values b) m μ → level_of μ e ≡ r.level
 
 -- the number k and what comes after it are as a result of the rules says: 0 and what it goes on with, or the stop's number and what was before

@@ -1,9 +1,9 @@
 -- What the commands promise that say which record comes next. Assumes nothing.
-use Rattle.std.specs.Prelude.{◌≡◌, ℕ, ◌-◌, ◌<◌, ◌≤◌, length, ℤ}
+use Rattle.std.specs.Prelude.{◌≡◌, ℕ, ◌-◌, ◌<◌, ◌≤◌, length, ℤ, IfSome}
 use Rattle.std.proofs.Math.Option.{some}
 use mathlib.Core.List.{List, ◌∷◌, tail}
 use Rattle.rules.specs.Limits.{max_depth}
-use Rattle.rules.specs.Answers.{value_of}
+use Rattle.rules.specs.Number.{Fits}
 use Rattle.rules.specs.Script.{Expression}
 use Rattle.rules.specs.Run.{State, Saved, Block, next, given, value, level_of, enter_back, leave_block}
 use Rattle.actions.specs.declared.evaluate.Valued.{Valued}
@@ -12,7 +12,7 @@ use Rattle.actions.specs.declared.control.Stepped.{Stepped}
 use Rattle.actions.specs.Guards.{Holds}
 use Rattle.actions.specs.Shows.{Slices}
 use Rattle.actions.specs.Stands.{Stands}
-use Rattle.actions.specs.Acts.{MayFit, Does}
+use Rattle.actions.specs.Acts.{Does}
 
 -- a step that does not stop and leaves the memory
 pub record Passes (r : Running) (a : Stepped) : Type 0 where
@@ -42,7 +42,7 @@ pub record Keeps (r : Running) (a : Stepped) : Type 0 where
 pub record Enters (f : State → ℕ → Expression → ℤ → State) (r : Running) (v : Valued) (j : ℕ) (a : Stepped) : Type 0 where
   pub keeps : Keeps r a
   pub within : (n : ℕ) → j ≤ n → r.at < n → a.running.at ≤ n
-  pub enters : (places vars : ℕ) (x : Slices) (k : List ℕ) (s : State) (e : Expression) → MayFit v.value → value s.memory e ≡ value_of v.value
+  pub enters : (places vars : ℕ) (x : Slices) (k : List ℕ) (s : State) (e : Expression) → IfSome v.value Fits → value s.memory e ≡ v.value
       → level_of s.memory e ≡ v.level → length s.blocks < max_depth → Stands places vars x k r s
       → Does (Stands places vars x k a.running) a.stop s (given (value s.memory e) λ z. next (f s j e z))
 
@@ -58,7 +58,7 @@ pub record Stays (places : ℕ) (r : Running) (k k' : List ℕ) (j : ℕ) (a : S
 -- an if that comes back, with the guard's value and level v: as the rules' does with the value, with j to jump to, or 27
 pub record Saves (places : ℕ) (r : Running) (v : Valued) (j : ℕ) (k k' : List ℕ) (a : Stepped) : Type 0 where
   pub stays : Stays places r k k' j a
-  pub enters : (vars : ℕ) (x : Slices) (s : State) (e : Expression) → MayFit v.value → value s.memory e ≡ value_of v.value
+  pub enters : (vars : ℕ) (x : Slices) (s : State) (e : Expression) → IfSome v.value Fits → value s.memory e ≡ v.value
       → level_of s.memory e ≡ v.level → length s.blocks < max_depth → Stands places vars x k r s
       → Does (Stands places vars x k' a.running) a.stop s (given (value s.memory e) λ z. next (enter_back s j e z))
 

@@ -1,6 +1,6 @@
 -- What the open blocks remember that come back, in a list of numbers: for each place of the table since when its node stands there, then how many such blocks there
 -- are, and of each its place and its cursor level. Assumes nothing.
-use Rattle.std.specs.Prelude.{◌≡◌, cond, List, [], ◌∷◌, ℕ, suc, ◌+◌, ◌-◌, ◌*◌, ◌%◌, ◌<◌, ◌≤◌, ltb, set}
+use Rattle.std.specs.Prelude.{◌≡◌, cond, List, [], ◌∷◌, ℕ, suc, ◌+◌, ◌-◌, ◌*◌, ◌%◌, ◌<◌, ltb, set, Option, None, Some, IfSome}
 use Rattle.std.proofs.Math.Option.{none, some}
 use Rattle.rules.specs.Limits.{max_nodes, max_depth}
 use Rattle.rules.specs.Tree.{Forest, Place}
@@ -8,6 +8,7 @@ use Rattle.rules.specs.Run.{Saved, Block}
 use Rattle.table.specs.Cells.{Table}
 use Rattle.table.specs.Holds.{Holds}
 use Rattle.table.specs.Since.{number, kept, Remembers}
+use Rattle.actions.specs.declared.marks.Saved as Code
 
 -- where the number of blocks stands, and the place and the level of block k, 0 the outermost
 abbrev pub count_at : ℕ
@@ -44,12 +45,14 @@ saving marks x l =
 unfoldable pub dropping : List ℕ → List ℕ
 dropping marks = set marks count_at (number marks count_at - 1)
 
--- what the innermost block that comes back remembers, q, as a place of the table and a level; no place of the table where the node was removed
-pub data Recalled (m : Table) (n used free : ℕ) (t : Forest) (q : Saved) (place level : ℕ) : Type 0 where
-  found : (p : Place) → q.place ≡ some p → place < n → Holds m n used free place t p → level % 256 ≡ q.level → Recalled m n used free t q place level
-  lost : q.place ≡ none → n ≤ place → Recalled m n used free t q place level
+-- what the innermost block that comes back remembers, q, as a place of the table and a level; none where the node was removed
+pub data Recalled (m : Table) (n used free : ℕ) (t : Forest) (q : Saved) : Option Code.Saved → Type 0 where
+  found : (s : Code.Saved) (p : Place) → q.place ≡ some p → Holds m n used free s.place t p → s.level % 256 ≡ q.level
+      → Recalled m n used free t q (Some s)
+  lost : q.place ≡ none → Recalled m n used free t q None
 
--- whatever is remembered is recalled as a place and a level
-pub record Recalls (marks : List ℕ) (n place level : ℕ) : Type 0 where
+-- whatever is remembered is recalled, within the table of n places
+pub record Recalls (marks : List ℕ) (n : ℕ) (o : Option Code.Saved) : Type 0 where
+  pub within : IfSome o (λ s. s.place < n)
   pub recalls : (m : Table) (used free : ℕ) (t : Forest) (b : Block) (bs : List Block) (q : Saved)
-      → Marked m n used free t marks (number marks count_at) (b ∷ bs) → b.saved ≡ some q → Recalled m n used free t q place level
+      → Marked m n used free t marks (number marks count_at) (b ∷ bs) → b.saved ≡ some q → Recalled m n used free t q o

@@ -8,12 +8,11 @@ ghost use Rattle.actions.specs.Control.{Jumps, Leaves, Enters, Saves, Restores};
 
 use super::evaluate::Valued;
 use super::guards::Guards;
-use super::memory::{Memory, level_of, wide};
+use super::memory::{Memory, level_of};
 use super::{guards, marks};
 use rules::levels::join;
 use rules::limits::{ABSENT, OVERFLOW};
 use rules::numbers;
-use rules::numbers::Number;
 
 // The memory, the open blocks, the record that comes next, and how many steps are left.
 #[derive(Clone, Copy)]
@@ -45,9 +44,7 @@ pub fn halt(r: Running, stop: u8) -> Stepped
 pub(crate) fn with_memory(r: Running, m: Memory) -> Running
     ensures { result ≡ with_memory r m }
 {
-    let mut next = r;
-    next.memory = m;
-    next
+    Running { memory: m, ..r }
 }
 
 // After an action: on to the next record, with the memory that it leaves.
@@ -55,13 +52,14 @@ pub fn onward(r: Running, m: Memory) -> Stepped
     requires { Timely r }
     ensures { result ≡ went r m }
 {
-    let mut next = r;
-    next.memory = m;
-    next.at = r.at + 1;
-    next.left = r.left - 1;
     Stepped {
         stop: 0,
-        running: next,
+        running: Running {
+            memory: m,
+            at: r.at + 1,
+            left: r.left - 1,
+            ..r
+        },
     }
 }
 
@@ -70,12 +68,13 @@ pub fn jump(r: Running, to: usize) -> Stepped
     requires { Timely r }
     ensures { Jumps r to result }
 {
-    let mut next = r;
-    next.at = to;
-    next.left = r.left - 1;
     Stepped {
         stop: 0,
-        running: next,
+        running: Running {
+            at: to,
+            left: r.left - 1,
+            ..r
+        },
     }
 }
 
@@ -84,14 +83,14 @@ pub fn leave(r: Running, to: usize) -> Stepped
     requires { Timely r }
     ensures { Leaves r to result }
 {
-    let mut next = r;
-    let g = guards::pop(r.guards);
-    next.guards = g;
-    next.at = to;
-    next.left = r.left - 1;
     Stepped {
         stop: 0,
-        running: next,
+        running: Running {
+            guards: guards::pop(r.guards),
+            at: to,
+            left: r.left - 1,
+            ..r
+        },
     }
 }
 
@@ -100,22 +99,18 @@ pub fn enter_if(r: Running, e: Valued, to: usize) -> Stepped
     requires { Timely r }
     ensures { Enters enter_if r e to result }
 {
-    let v = e.value;
-    let Number::Fits(z) = v else {
+    let Some(z) = e.value else {
         return halt(r, OVERFLOW);
     };
-    let mut next = r;
-    let g = guards::push(r.guards, join(e.level, guards::top(r.guards)));
-    next.guards = g;
-    next.left = r.left - 1;
-    if numbers::is_zero(z) {
-        next.at = to;
-    } else {
-        next.at = r.at + 1;
-    }
+    let inner = join(e.level, guards::top(r.guards));
     Stepped {
         stop: 0,
-        running: next,
+        running: Running {
+            guards: guards::push(r.guards, inner),
+            at: if numbers::is_zero(z) { to } else { r.at + 1 },
+            left: r.left - 1,
+            ..r
+        },
     }
 }
 
@@ -124,22 +119,21 @@ pub fn enter_while(r: Running, e: Valued, to: usize) -> Stepped
     requires { Timely r }
     ensures { Enters enter_while r e to result }
 {
-    let v = e.value;
-    let Number::Fits(z) = v else {
+    let Some(z) = e.value else {
         return halt(r, OVERFLOW);
     };
-    let mut next = r;
-    next.left = r.left - 1;
     if numbers::is_zero(z) {
-        next.at = to;
-    } else {
-        let g = guards::push(r.guards, join(e.level, guards::top(r.guards)));
-        next.guards = g;
-        next.at = r.at + 1;
+        return jump(r, to);
     }
+    let inner = join(e.level, guards::top(r.guards));
     Stepped {
         stop: 0,
-        running: next,
+        running: Running {
+            guards: guards::push(r.guards, inner),
+            at: r.at + 1,
+            left: r.left - 1,
+            ..r
+        },
     }
 }
 
@@ -148,28 +142,23 @@ pub fn enter_back(r: Running, e: Valued, to: usize, places: usize, marks: &mut [
     requires { Timely r × ((marks_size ≤ length marks.old) × ((r.memory.cursor < places) × (places ≤ max_nodes))) }
     ensures { Saves places r e to marks.old marks.new result }
 {
-    let v = e.value;
-    let Number::Fits(z) = v else {
+    let Some(z) = e.value else {
         return halt(r, OVERFLOW);
     };
     let inner = join(e.level, guards::top(r.guards));
-    let g = guards::push(r.guards, inner);
     let level = level_of(r.memory);
     marks::save(marks, r.memory.cursor, level);
-    let mut m = r.memory;
-    m.level = wide(join(level, inner));
-    let mut next = r;
-    next.memory = m;
-    next.guards = g;
-    next.left = r.left - 1;
-    if numbers::is_zero(z) {
-        next.at = to;
-    } else {
-        next.at = r.at + 1;
-    }
     Stepped {
         stop: 0,
-        running: next,
+        running: Running {
+            memory: Memory {
+                level: u64::from(join(level, inner)),
+                ..r.memory
+            },
+            guards: guards::push(r.guards, inner),
+            at: if numbers::is_zero(z) { to } else { r.at + 1 },
+            left: r.left - 1,
+        },
     }
 }
 
@@ -178,22 +167,21 @@ pub fn come_back(r: Running, to: usize, places: usize, marks: &mut [u16]) -> Ste
     requires { Timely r × ((marks_size ≤ length marks.old) × (places ≤ max_nodes)) }
     ensures { Restores places r to marks.old marks.new result }
 {
-    let saved = marks::recall(marks, places);
-    if saved.place >= places {
+    let Some(saved) = marks::recall(marks, places) else {
         return halt(r, ABSENT);
-    }
+    };
     marks::drop(marks);
-    let g = guards::pop(r.guards);
-    let mut m = r.memory;
-    m.cursor = saved.place;
-    m.level = saved.level;
-    let mut next = r;
-    next.memory = m;
-    next.guards = g;
-    next.at = to;
-    next.left = r.left - 1;
     Stepped {
         stop: 0,
-        running: next,
+        running: Running {
+            memory: Memory {
+                cursor: saved.place,
+                level: saved.level,
+                ..r.memory
+            },
+            guards: guards::pop(r.guards),
+            at: to,
+            left: r.left - 1,
+        },
     }
 }

@@ -10,13 +10,12 @@ use super::memory::{Memory, level_of};
 use fields::records::Fields;
 use rules::levels::{PUBLIC, join};
 use rules::numbers;
-use rules::numbers::Number;
 use table::node;
 
 // What an expression comes to, and its level.
 #[derive(Drop)]
 pub struct Valued {
-    pub value: Number,
+    pub value: Option<i32>,
     pub level: u8,
 }
 
@@ -25,18 +24,6 @@ pub struct Valued {
 struct Found {
     value: i32,
     level: u8,
-}
-
-fn index(x: u32) -> usize
-    ensures { result ≡ x }
-{
-    x as usize
-}
-
-fn part(kind: u8) -> usize
-    ensures { result ≡ kind }
-{
-    kind as usize
 }
 
 // An operand, by its kind and its number.
@@ -59,13 +46,14 @@ fn operand(
             level: PUBLIC,
         },
         1 => {
-            let i = index(number);
-            let v = values[i];
-            let l = levels[i];
-            Found { value: v, level: l }
+            let i = number as usize;
+            Found {
+                value: values[i],
+                level: levels[i],
+            }
         }
         _ => {
-            let k = part(kind);
+            let k = usize::from(kind);
             Found {
                 value: numbers::signed(node::read(words, places, m.cursor, k)),
                 level: join(level_of(m), node::level_read(words, places, m.cursor, k)),
@@ -105,16 +93,12 @@ pub fn evaluate(
     let operator = f.operator;
     if operator == 0 {
         return Valued {
-            value: Number::Fits(left.value),
+            value: Some(left.value),
             level: left.level,
         };
     }
     let right = operand(f.rightkind, f.right, levels, values, vars, words, places, m);
-    let z = apply(
-        operator,
-        numbers::wide(left.value),
-        numbers::wide(right.value),
-    );
+    let z = apply(operator, i64::from(left.value), i64::from(right.value));
     Valued {
         value: numbers::fitting(z),
         level: join(left.level, right.level),

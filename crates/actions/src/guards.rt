@@ -34,7 +34,7 @@ pub(crate) fn push(g: Guards, inner: u8) -> Guards
     ensures { (b : Block) (bs : List Block) → Holds g bs → length bs < max_depth → inner ≡ context (b ∷ bs) → Holds result (b ∷ bs) }
 {
     Guards {
-        low: g.low % REST * 256 + wide(inner),
+        low: g.low % REST * 256 + u64::from(inner),
         high: g.high % REST * 256 + g.low / REST,
     }
 }
@@ -47,10 +47,4 @@ pub(crate) fn pop(g: Guards) -> Guards
         low: g.low / 256 + g.high % 256 * REST,
         high: g.high / 256,
     }
-}
-
-fn wide(x: u8) -> u64
-    ensures { (result ≡ x) × (result < 256) }
-{
-    x as u64
 }

@@ -2,7 +2,6 @@
 // there are, and of each, the outermost first, its place and its cursor level.
 ghost use Rattle.std.specs.Prelude.{◌≡◌, ◌-◌, ◌≤◌, ◌<◌, ltb, leb, length, set};
 ghost use Rattle.rules.specs.Limits.{max_nodes, max_depth};
-ghost use Rattle.table.specs.Cells.{gone};
 ghost use Rattle.table.specs.Since.{number};
 ghost use Rattle.actions.specs.Marks.{count_at, place_at, level_at, marks_size, saving, dropping, Recalls};
 
@@ -16,12 +15,6 @@ const COUNT: usize = MAX_NODES;
 
 // Where the place of block k stands, and next to it its level.
 const PLACES: usize = COUNT + 1;
-
-fn wide(x: u16) -> usize
-    ensures { (result ≡ x) × (result < 65536) }
-{
-    x as usize
-}
 
 // No block remembers a node; what stands behind the count is not read then.
 pub fn clear(marks: &mut [u16])
@@ -45,65 +38,38 @@ pub(crate) fn save(marks: &mut [u16], place: usize, level: u8)
     ensures { marks.new ≡ saving marks.old place level }
 {
     let count = marks[COUNT];
-    let k = wide(count);
+    let k = usize::from(count);
     if k < MAX_DEPTH {
         since::keep(marks, place, count);
         marks[PLACES + 2 * k] = place as u16;
-        marks[PLACES + 2 * k + 1] = level as u16;
+        marks[PLACES + 2 * k + 1] = u16::from(level);
         marks[COUNT] = (k + 1) as u16;
     }
 }
 
-// What a block remembers: a place, or no place where its node was removed, and the word of a cursor level.
+// What a block remembers: a place, and the word of a cursor level.
 #[derive(Drop)]
 pub struct Saved {
     pub place: usize,
     pub level: u64,
 }
 
-fn lost() -> Saved
-    ensures { result.place ≡ gone }
-{
-    Saved {
-        place: table::NIL,
-        level: 0,
-    }
-}
-
-fn word(x: u16) -> u64
-    ensures { result ≡ x }
-{
-    x as u64
-}
-
-fn one_less(x: u16) -> u16
-    ensures { result ≡ x - 1 }
-{
-    if 0 < x { x - 1 } else { 0 }
-}
-
-// What the innermost block that comes back remembers.
-pub(crate) fn recall(marks: &[u16], places: usize) -> Saved
+// What the innermost block that comes back remembers; none where its node was removed.
+pub(crate) fn recall(marks: &[u16], places: usize) -> Option<Saved>
     requires { (marks_size ≤ length marks.now) × (places ≤ max_nodes) }
-    ensures { Recalls marks.now places result.place result.level }
+    ensures { Recalls marks.now places result }
 {
-    let count = marks[COUNT];
-    let last = one_less(count);
-    let k = wide(last);
+    let last = marks[COUNT].saturating_sub(1);
+    let k = usize::from(last);
     if MAX_DEPTH <= k {
-        return lost();
+        return None;
     }
-    let x = wide(marks[PLACES + 2 * k]);
-    if x >= places {
-        return lost();
+    let place = usize::from(marks[PLACES + 2 * k]);
+    if place >= places || !since::stands(marks, place, last) {
+        return None;
     }
-    if !since::stands(marks, x, last) {
-        return lost();
-    }
-    Saved {
-        place: x,
-        level: word(marks[PLACES + 2 * k + 1]),
-    }
+    let level = u64::from(marks[PLACES + 2 * k + 1]);
+    Some(Saved { place, level })
 }
 
 // The innermost block that comes back has ended.
@@ -111,6 +77,5 @@ pub(crate) fn drop(marks: &mut [u16])
     requires { marks_size ≤ length marks.old }
     ensures { marks.new ≡ dropping marks.old }
 {
-    let count = marks[COUNT];
-    marks[COUNT] = one_less(count);
+    marks[COUNT] = marks[COUNT].saturating_sub(1);
 }

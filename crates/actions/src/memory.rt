@@ -1,5 +1,5 @@
 // What a script works on, but for what stands in the lent slices.
-ghost use Rattle.std.specs.Prelude.{◌≡◌, ◌<◌};
+ghost use Rattle.std.specs.Prelude.{◌≡◌};
 ghost use Rattle.rules.specs.Level as Level;
 ghost use Rattle.actions.specs.Shows.{level_in};
 
@@ -21,13 +21,6 @@ pub(crate) fn level_of(m: Memory) -> u8
     ensures { result ≡ level_in m }
 {
     (m.level % 256) as u8
-}
-
-// A level as a word.
-pub(crate) fn wide(level: u8) -> u64
-    ensures { (result ≡ level) × (result < 256) }
-{
-    level as u64
 }
 
 // Whether a script may touch a node is decided by C, "context joined with cursor level".

@@ -10,7 +10,7 @@ ghost use Rattle.actions.specs.Stands.{Timely};
 ghost use Rattle.actions.specs.Acts.{moved_to, Acts, Target, move_of};
 
 use super::control::{Running, Stepped, halt, onward};
-use super::memory::{level_of, wide};
+use super::memory::{Memory, level_of};
 use rules::levels::{join, not_above};
 use rules::limits::{ABSENT, FLOW};
 use table::{node, walk};
@@ -24,10 +24,15 @@ fn move_to(pc: u8, r: Running, place: usize, level: u8) -> Stepped
     if !not_above(pc, level_of(m)) {
         return halt(r, FLOW);
     }
-    let mut next = m;
-    next.cursor = place;
-    next.level = wide(level);
-    onward(r, next)
+    let level = u64::from(level);
+    onward(
+        r,
+        Memory {
+            cursor: place,
+            level,
+            ..m
+        },
+    )
 }
 
 // Command 16, cover: a set is joined to the cursor level.

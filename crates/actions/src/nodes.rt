@@ -17,7 +17,6 @@ use super::memory::{Memory, flow, position};
 use rules::levels::{join, not_above};
 use rules::limits::{ABSENT, FLOW, OVERFLOW, TABLE_FULL};
 use rules::numbers;
-use rules::numbers::Number;
 use table::{Taken, node, shape, walk};
 
 // Whether C is not above the existence of the node at a place, if it is one.
@@ -60,9 +59,11 @@ fn placed(r: Running, places: usize, got: Taken) -> Stepped
     requires { Timely r }
     ensures { Placed places r got result }
 {
-    let mut next = r.memory;
-    next.free = got.free;
-    next.used = got.used;
+    let next = Memory {
+        free: got.free,
+        used: got.used,
+        ..r.memory
+    };
     if got.place >= places {
         return halt(with_memory(r, next), TABLE_FULL);
     }
@@ -88,8 +89,7 @@ fn insert_first(
     if !may_add(words, places, m, m.cursor, old, c) {
         return halt(r, FLOW);
     }
-    let v = e.value;
-    let Number::Fits(z) = v else {
+    let Some(z) = e.value else {
         return halt(r, OVERFLOW);
     };
     let new = new_node(z, e.level, content, list, pc, m);
@@ -129,8 +129,7 @@ fn insert_right(
     if !may_add(words, places, m, above, old, c) {
         return halt(r, FLOW);
     }
-    let v = e.value;
-    let Number::Fits(z) = v else {
+    let Some(z) = e.value else {
         return halt(r, OVERFLOW);
     };
     let new = new_node(z, e.level, content, list, pc, m);
@@ -192,11 +191,10 @@ pub fn remove(
         return halt(r, FLOW);
     }
     let remembered = marks::any(marks);
-    let mut next = m;
-    next.free = shape::remove(
+    let free = shape::remove(
         words, places, m.free, m.cursor, side, old, marks, remembered,
     );
-    onward(r, next)
+    onward(r, Memory { free, ..m })
 }
 
 // Command 15: the value of the cursor's node becomes the expression, whose value and level are e.
@@ -209,8 +207,7 @@ pub fn write(e: Valued, words: &mut [u32], places: usize, pc: u8, r: Running) ->
     if !not_above(flow(e.level, pc, m), node::content(words, places, m.cursor)) {
         return halt(r, FLOW);
     }
-    let v = e.value;
-    let Number::Fits(z) = v else {
+    let Some(z) = e.value else {
         return halt(r, OVERFLOW);
     };
     node::set_value(words, places, m.cursor, numbers::bits(z));

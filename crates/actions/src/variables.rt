@@ -9,15 +9,9 @@ ghost use Rattle.actions.specs.Acts.{Acts, Evaluates};
 
 use super::control::{Running, Stepped, halt, onward};
 use super::evaluate::Valued;
+use super::memory::Memory;
 use rules::levels::{join, not_above};
 use rules::limits::{BOARD_FULL, FLOW, OVERFLOW};
-use rules::numbers::{Number, bits};
-
-fn index(x: u8) -> usize
-    ensures { result ≡ x }
-{
-    x as usize
-}
 
 // Command 1: the target becomes the expression, whose value and level are e.
 pub fn assign(
@@ -35,35 +29,28 @@ pub fn assign(
         (λ μ. Run.assign pc μ target (Run.variable_at μ.variables target) x) }
 {
     let m = r.memory;
-    let i = index(target);
+    let i = usize::from(target);
     if !not_above(join(e.level, pc), levels[i]) {
         return halt(r, FLOW);
     }
-    let v = e.value;
-    let Number::Fits(z) = v else {
+    let Some(z) = e.value else {
         return halt(r, OVERFLOW);
     };
     values[i] = z;
     onward(r, m)
 }
 
-fn low_byte(w: u32) -> u8
-    ensures { result ≡ w % 256 }
-{
-    (w % 256) as u8
-}
-
-// Line n: four bytes, the lowest first, and its readers.
+// Line n: four bytes, the lowest first, and its readers. One store each makes one store of a word; a copy of the four would leave a test of whether they overlap.
 fn put_line(lines: &mut [u8], n: usize, v: i32, readers: u8)
     requires { 5 * n + 5 ≤ length lines.old }
     ensures { lines.new ≡ replaced lines.old n (record { number = v; readers = readers }) }
 {
-    let w = bits(v);
     let at = 5 * n;
-    lines[at] = low_byte(w);
-    lines[at + 1] = low_byte(w / 256);
-    lines[at + 2] = low_byte(w / 65536);
-    lines[at + 3] = low_byte(w / 16777216);
+    let [a, b, c, d] = v.to_le_bytes();
+    lines[at] = a;
+    lines[at + 1] = b;
+    lines[at + 2] = c;
+    lines[at + 3] = d;
     lines[at + 4] = readers;
 }
 
@@ -78,8 +65,7 @@ pub fn output(e: Valued, readers: u8, lines: &mut [u8], pc: u8, r: Running) -> S
     if !not_above(join(e.level, pc), readers) {
         return halt(r, FLOW);
     }
-    let v = e.value;
-    let Number::Fits(z) = v else {
+    let Some(z) = e.value else {
         return halt(r, OVERFLOW);
     };
     let n = m.lines;
@@ -87,7 +73,5 @@ pub fn output(e: Valued, readers: u8, lines: &mut [u8], pc: u8, r: Running) -> S
         return halt(r, BOARD_FULL);
     }
     put_line(lines, n, z, readers);
-    let mut next = m;
-    next.lines = n + 1;
-    onward(r, next)
+    onward(r, Memory { lines: n + 1, ..m })
 }

@@ -2,8 +2,8 @@
 use Rattle.actions.proofs.Entered.{restores_lost, restores_found}
 use Rattle.actions.proofs.control.come_back.Goals as goal
 
-pub returns-then-saved-places : goal.returns-then-saved-places
-returns-then-saved-places c = restores_lost _ _ _ _ c.recall-saved.ensures c.if-saved-places.true c.halt.ensures
+pub returns-in_default : goal.returns-in_default
+returns-in_default c = restores_lost _ _ _ _ c.in_default.ensures c.halt.ensures
 
 pub returns : goal.returns
-returns c = rw c.drop.ensures (restores_found _ _ _ _ c.recall-saved.ensures c.requires.1.0 _ c.pop-g.ensures c.if-saved-places.false)
+returns c = rw c.drop.ensures (restores_found _ _ _ _ _ c.in-Some.ensures c.requires.1.0 _ c.pop.ensures)

@@ -7,11 +7,11 @@ use Rattle.actions.proofs.evaluate.operand.Goals as goal
 
 -- the variable is there
 pub bounds-values-i : goal.bounds-values-i
-bounds-values-i c = omega (arith, c.index-i.ensures, c.requires.1.variable c.in-1.is)
+bounds-values-i c = omega (arith, c.requires.1.variable c.in-1.is)
 
 pub bounds-levels-i : goal.bounds-levels-i
 bounds-levels-i c = let k = c.in-1.is in
-    omega (arith, c.index-i.ensures, c.requires.1.variable k)
+    omega (arith, c.requires.1.variable k)
 
 pub returns-in-0 : goal.returns-in-0
 returns-in-0 c = let a = c.args in
@@ -19,17 +19,17 @@ returns-in-0 c = let a = c.args in
 
 pub returns-in-1 : goal.returns-in-1
 returns-in-1 c = let k = c.in-1.is in
-    operates_as (kind_variable c.args.kind c.args.number k) (variable c.index-i.ensures (c.requires.1.variable k) c.v-1.given)
+    operates_as (kind_variable c.args.kind c.args.number k) (variable refl (c.requires.1.variable k) (omega arith))
 
 -- the node is read by a kind that is there
 pub read-requires : goal.read-requires
 read-requires c = let p = c.requires in
-    (record { long = p.0.long; few = p.0.few; inside = p.0.cursor }, (omega (arith, c.part-k.ensures), omega (arith, c.part-k.ensures, p.1.known)))
+    (record { long = p.0.long; few = p.0.few; inside = p.0.cursor }, (omega (arith, c.from-k.ensures), omega (arith, c.from-k.ensures, p.1.known)))
 
 pub returns-in_default : goal.returns-in_default
 returns-in_default c = let v = c.read in
     let l = c.level_read in
     operates_as refl
-    (node_read c.args.kind c.args.number v.result l.result (omega arith) c.requires.1.known c.part-k.ensures
+    (node_read c.args.kind c.args.number v.result l.result (omega arith) c.requires.1.known c.from-k.ensures
     c.signed-in_default.type_inv c.signed-in_default.ensures
     (c.join.ensures ∙ ap (λ z. join z l.result) c.level_of.ensures) v.ensures l.ensures)

@@ -9,4 +9,4 @@ pub overflow_add-result-2 : goal.overflow_add-result-2
 overflow_add-result-2 c = record { fits = up_fits _ _ (omega arith) (omega arith) }
 
 pub returns : goal.returns
-returns c = λ b bs h d e. held_push _ _ b bs c.wide.ensures.1 h d (c.wide.ensures.0 ∙ e)
+returns c = λ b bs h d e. held_push _ _ b bs (omega arith) h d (c.from.ensures ∙ e)

@@ -4,4 +4,4 @@ use Rattle.actions.proofs.marks.drop.Goals as goal
 
 pub returns : goal.returns
 unfolding dropping
-returns c = rw c.one_less.ensures
+returns c = rw c.saturating_sub.ensures

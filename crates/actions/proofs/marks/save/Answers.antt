@@ -14,9 +14,9 @@ bounds-marks-512-then-k-lt-MAX_DEPTH c = simp length-set (omega (arith, c.keep.a
 
 pub returns-then-k-lt-MAX_DEPTH : goal.returns-then-k-lt-MAX_DEPTH
 unfolding saving
-returns-then-k-lt-MAX_DEPTH c = let e = c.wide-k.ensures.0 in
-    rw (lt-ltb (number c.args.marks.now count_at) 16 (rw e at c.if-k-lt-MAX_DEPTH.true), e, c.keep.ensures)
+returns-then-k-lt-MAX_DEPTH c = let e = c.from-k.ensures in
+    rw (lt-ltb (number c.args.marks.now count_at) 16 (rw e at c.if-k-lt-MAX_DEPTH.true), e, c.from.ensures, c.keep.ensures)
 
 pub returns-else-k-lt-MAX_DEPTH : goal.returns-else-k-lt-MAX_DEPTH
 unfolding saving
-returns-else-k-lt-MAX_DEPTH c = rw (le-ltb (number c.args.marks.now count_at) 16 (rw c.wide-k.ensures.0 at c.if-k-lt-MAX_DEPTH.false))
+returns-else-k-lt-MAX_DEPTH c = rw (le-ltb (number c.args.marks.now count_at) 16 (rw c.from-k.ensures at c.if-k-lt-MAX_DEPTH.false))

@@ -24,6 +24,6 @@ pub returns-in_default : goal.returns-in_default
 returns-in_default c = λ l v b vars.
     let pre = c.requires.1.0 in
     let home = c.root.ensures in
-    is_root c.args.pc (omega (arith, c.requires.1.1, c.in_default.in_default-own.rest))
+    is_root c.args.pc (omega (arith, c.requires.1.1))
     (acts_move _ pre.inside (omega (arith, at_zero home, pre.inside)) c.move_to.ensures
     (λ μ s. record { p = root; l = c.args.pc; tree = home _ _ _ _ _ _ _ s.tree; same = refl; is = refl }))

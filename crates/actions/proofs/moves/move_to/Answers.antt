@@ -12,4 +12,4 @@ returns-then-not-not_above c = let f = ap (not_above _) (sym c.level_of.ensures)
 pub returns : goal.returns
 unfolding moved_to
 returns c = let f = ap (not_above _) (sym c.level_of.ensures) ∙ sym c.not_above.ensures ∙ c.if-not-not_above.false in
-    (c.onward.ensures ∙ rw (f, c.wide.ensures.0), c.ranges.level.fits)
+    (c.onward.ensures ∙ rw (f, c.from-level.ensures), c.ranges.level.fits)

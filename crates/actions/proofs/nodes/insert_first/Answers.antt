@@ -34,5 +34,5 @@ returns-in_default c = λ l b v vars x e.
 pub returns : goal.returns
 returns c = λ l b v vars x e.
     let s = c.args in
-    inserted _ s.pc 0 s.content s.list x (asked (goal.at.returns c).After-may_add) (allowed refl c.if-not-may_add.false) e (fits_read e c.in-Fits.is) _ c.new_node-new.result
+    inserted _ s.pc 0 s.content s.list x (asked (goal.at.returns c).After-may_add) (allowed refl c.if-not-may_add.false) e (fits_read e c.in-Some.is) _ c.new_node-new.result
     c.add-got.ensures.added c.add-got.ensures.behind c.new_node-new.ensures c.placed.ensures

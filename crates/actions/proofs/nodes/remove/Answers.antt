@@ -14,5 +14,5 @@ returns-then-not-may_touch c = λ l v b vars.
 pub returns : goal.returns
 returns c = λ l v b vars.
     removed _ c.args.pc c.args.side c.requires.1.0.inside c.beside-old.ensures c.position.ensures c.if-old-places.false
-    c.may_touch.ensures c.if-not-may_touch.false c.any-remembered.ensures c.remove.ensures.by_index c.remove.ensures.behind c.requires.1.0.few
+    c.may_touch.ensures c.if-not-may_touch.false c.any-remembered.ensures c.remove-free.ensures.by_index c.remove-free.ensures.behind c.requires.1.0.few
     c.onward.ensures

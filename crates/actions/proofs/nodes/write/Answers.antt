@@ -17,5 +17,5 @@ returns-in_default c = λ l b v vars x e.
 
 pub returns : goal.returns
 returns c = λ l b v vars x e.
-    written _ c.args.pc e c.flow.ensures b c.requires.1.inside c.content.ensures _ (fits_read e c.in-Fits.is)
+    written _ c.args.pc e c.flow.ensures b c.requires.1.inside c.content.ensures _ (fits_read e c.in-Some.is)
     (allowed c.not_above.ensures c.if-not-not_above.false) c.bits.ensures c.set_value.ensures.by_index c.set_value.ensures.behind c.onward.ensures

@@ -7,14 +7,14 @@ use Rattle.actions.proofs.variables.assign.Goals as goal
 
 pub returns-then-not-not_above : goal.returns-then-not-not_above
 returns-then-not-not_above c = λ w b places vars x inside lt long e.
-    no_assign _ c.args.pc e inside c.join.ensures b lt c.index-i.ensures (refused c.not_above.ensures c.if-not-not_above.true) c.halt.ensures
+    no_assign _ c.args.pc e inside c.join.ensures b lt c.from-i.ensures (refused c.not_above.ensures c.if-not-not_above.true) c.halt.ensures
 
 pub returns-in_default : goal.returns-in_default
 returns-in_default c = λ w b places vars x inside lt long e.
-    over_assign _ c.args.pc e inside c.join.ensures b lt c.index-i.ensures c.in_default.is (allowed c.not_above.ensures c.if-not-not_above.false)
+    over_assign _ c.args.pc e inside c.join.ensures b lt c.from-i.ensures c.in_default.is (allowed c.not_above.ensures c.if-not-not_above.false)
     c.halt-in_default.ensures
 
 pub returns : goal.returns
 returns c = λ w b places vars x inside lt long e.
-    did_assign _ c.args.pc e inside c.join.ensures b lt c.index-i.ensures _ (fits_read e c.in-Fits.is) long
+    did_assign _ c.args.pc e inside c.join.ensures b lt c.from-i.ensures _ (fits_read e c.in-Some.is) long
     (allowed c.not_above.ensures c.if-not-not_above.false) c.onward.ensures

@@ -16,10 +16,10 @@ returns-in_default c = λ w l v places vars x inside e.
 
 pub returns-then-n-lines : goal.returns-then-n-lines
 returns-then-n-lines c = λ w l v places vars x inside e.
-    full_output _ c.args.pc e inside c.join.ensures _ c.args.readers _ c.in-Fits.is (allowed c.not_above.ensures c.if-not-not_above.false) (omega (arith, c.if-n-lines.true))
+    full_output _ c.args.pc e inside c.join.ensures _ c.args.readers _ c.in-Some.is (allowed c.not_above.ensures c.if-not-not_above.false) (omega (arith, c.if-n-lines.true))
     c.halt-then-n-lines.ensures
 
 pub returns : goal.returns
 returns c = λ w l v places vars x inside e.
-    did_output _ c.args.pc e inside c.join.ensures _ c.args.readers _ (fits_read e c.in-Fits.is) (allowed c.not_above.ensures c.if-not-not_above.false)
+    did_output _ c.args.pc e inside c.join.ensures _ c.args.readers _ (fits_read e c.in-Some.is) (allowed c.not_above.ensures c.if-not-not_above.false)
     (omega (arith, c.if-n-lines.false)) _ c.put_line.ensures c.onward.ensures
