@@ -4,50 +4,28 @@ use mathlib.Core.Path.{◌≡◌, refl, sym, ◌∙◌, ap, subst}
 use native.Mathlib.Numerals.{add-one}
 use native.Mathlib.Omega.{arith}
 use Prim.Native.Nat.{ℕ, zero, suc, ◌+◌, ◌-◌, ◌*◌, ◌≤◌, ◌<◌, min}
-use lib.ListN.{length, take, drop, get_or, set, length-set, drop_of_length-le}
-use lib.Seq.{drop-nil, drop-cons, set_out}
-use borrow.Author.Tests.{lt-ltb, le-ltb, le-leb, lt-leb, eq-eqb, ne_eqb}
-use Rattle.text.specs.Hex.{first_of, digit_of, digits, one_more, number_of, bytes_of, plain, times, expanded, spelled, placed, Leaves}
+use lib.ListN.{length, length-drop, take, drop, get_or, set, length-set, drop_of_length-le}
+use lib.Seq.{take_all, drop-nil, drop-cons, set_out}
+use borrow.Author.Tests.{ltb-false}
+use Rattle.std.specs.Prelude.{Bool, true, false, not, cond, ◌==◌, ltb, Option, Some, None, option_to_list}
+use Rattle.std.specs.List.{position}
+use Rattle.std.proofs.lemmas.List.Sums.{prefix_len-le-length}
+use Rattle.std.proofs.lemmas.Option.{none-some}
+use Rattle.text.specs.Hex.{first_of, digit_of, digits, number_of, bytes_of, plain, times, expanded, spelled, placed, Leaves}
 
--- a character's digit
-module _ {c : ℕ} where
-  pub digit_number : 48 ≤ c → c ≤ 57 → c - 48 ≡ digit_of c
-  unfolding digit_of
-  digit_number h k = sym (rw (le-leb 48 c h, le-leb c 57 k))
+-- a text that has a character nowhere from place i on
+pub absent : (c i : ℕ) (t : List ℕ) → i ≤ length t → None ≡ position (λ x. x == c) (take (length t - i) (drop i t)) → length t ≡ i + first_of c (drop i t)
+absent c i t le e = nowhere (ltb (first_of c rest) (length rest)) refl
+  where
+    rest : List ℕ
+    rest = drop i t
 
-  pub digit_letter : 97 ≤ c → c ≤ 102 → c - 97 + 10 ≡ digit_of c
-  unfolding digit_of
-  digit_letter h k = let g : 57 < c = omega arith in let f : 48 ≤ c = omega arith in sym (rw (le-leb 48 c f, lt-leb c 57 g, le-leb 97 c h, le-leb c 102 k))
+    whole : take (length t - i) rest ≡ rest
+    whole = take_all (length t - i) rest (omega (arith, length-drop i t))
 
-  pub digit_low : c < 48 → 16 ≡ digit_of c
-  unfolding digit_of
-  digit_low h = let g : c < 97 = omega arith in sym (rw (lt-leb 48 c h, lt-leb 97 c g))
-
-  pub digit_between : 57 < c → c < 97 → 16 ≡ digit_of c
-  unfolding digit_of
-  digit_between h k = let f : 48 ≤ c = omega arith in sym (rw (le-leb 48 c f, lt-leb c 57 h, lt-leb 97 c k))
-
-  pub digit_high : 102 < c → 16 ≡ digit_of c
-  unfolding digit_of
-  digit_high h =
-      let f : 48 ≤ c = omega arith in
-      let g : 57 < c = omega arith in
-      let k : 97 ≤ c = omega arith in
-      sym (rw (le-leb 48 c f, lt-leb c 57 g, le-leb 97 c k, lt-leb c 102 h))
-
--- a number with a digit more
-module _ {v d : ℕ} where
-  pub more_taken : v < 10000000 → d < 10 → v * 10 + d ≡ one_more v d
-  unfolding one_more
-  more_taken h k = sym (rw (lt-ltb v 10000000 h, lt-ltb d 10 k))
-
-  pub more_letter : v < 10000000 → 10 ≤ d → v ≡ one_more v d
-  unfolding one_more
-  more_letter h k = sym (rw (lt-ltb v 10000000 h, le-ltb d 10 k))
-
-pub more_full : (v d : ℕ) → 10000000 ≤ v → v ≡ one_more v d
-unfolding one_more
-more_full v d h = sym (rw (le-ltb v 10000000 h))
+    nowhere : (b : Bool) → ltb (first_of c rest) (length rest) ≡ b → length t ≡ i + first_of c rest
+    nowhere true h = absurd (none-some _ (e ∙ ap (position (λ x. x == c)) whole ∙ ap (λ z. cond z (Some (first_of c rest)) None) h))
+    nowhere false h = omega (arith, length-drop i t, ltb-false (first_of c rest) (length rest) h, prefix_len-le-length (λ x. not (x == c)) rest)
 
 -- a text from place i on: one character, or nothing
 module _ (t : List ℕ) (i : ℕ) where
@@ -55,34 +33,23 @@ module _ (t : List ℕ) (i : ℕ) where
   from_here h = rw add-one (drop-cons t i 0 h)
 
   module _ (h : i < length t) where
-    pub first_here : (c : ℕ) → get_or t i 0 ≡ c → first_of c (drop i t) ≡ 0
-    unfolding first_of
-    first_here c e = rw (from_here h, eq-eqb (get_or t i 0) c e)
-
-    pub first_past : (c : ℕ) → (get_or t i 0 ≡ c → ⊥) → first_of c (drop i t) ≡ suc (first_of c (drop (i + 1) t))
-    unfolding first_of
-    first_past c e = rw (from_here h, ne_eqb (get_or t i 0) c e)
-
-    pub digits_past : digits (drop i t) ≡ digit_of (get_or t i 0) ∷ digits (drop (i + 1) t)
+    pub digits_past : {d : ℕ} → Some d ≡ digit_of (get_or t i 0) → digits (drop i t) ≡ d ∷ digits (drop (i + 1) t)
     unfolding digits
-    digits_past = rw (from_here h)
+    digits_past e = ap digits (from_here h) ∙ ap (λ o. option_to_list o ++ digits (drop (i + 1) t)) (sym e)
 
-    pub number_past : (v : ℕ) → number_of v (digits (drop i t)) ≡ number_of (one_more v (digit_of (get_or t i 0))) (digits (drop (i + 1) t))
-    unfolding number_of digits
-    number_past v = rw (from_here h)
+    pub digits_pass : None ≡ digit_of (get_or t i 0) → digits (drop i t) ≡ digits (drop (i + 1) t)
+    unfolding digits
+    digits_pass e = ap digits (from_here h) ∙ ap (λ o. option_to_list o ++ digits (drop (i + 1) t)) (sym e)
 
   module _ (h : length t ≤ i) where
-    pub first_none : (c : ℕ) → first_of c (drop i t) ≡ 0
-    unfolding first_of
-    first_none c = rw (drop_of_length-le t h)
-
     pub number_end : (v : ℕ) → number_of v (digits (drop i t)) ≡ v
     unfolding number_of digits
     number_end v = rw (drop_of_length-le t h)
 
-    pub bytes_end : (x : ℕ) → bytes_of x (digits (drop i t)) ≡ []
+    pub bytes_end : (o : Option ℕ) → bytes_of (option_to_list o ++ digits (drop i t)) ≡ []
     unfolding bytes_of digits
-    bytes_end x = rw (drop_of_length-le t h)
+    bytes_end None = rw (drop_of_length-le t h)
+    bytes_end (Some x) = rw (drop_of_length-le t h)
 
 -- what is left to be stored
 pub then : {b₁ b₂ b₃ l₁ l₂ l₃ : List ℕ} {n₁ n₂ n₃ : ℕ} → Leaves b₁ n₁ l₁ b₂ n₂ l₂ → Leaves b₂ n₂ l₂ b₃ n₃ l₃ → Leaves b₁ n₁ l₁ b₃ n₃ l₃
@@ -104,44 +71,26 @@ placed_full b n (x ∷ l) h = ap (λ a. placed a (suc n) l) (set_out b n x h) �
 
 -- one digit more
 module _ (b : List ℕ) (n x d : ℕ) (ds k : List ℕ) where
-  pub no_digit : 15 < d → Leaves b n (bytes_of x (d ∷ ds) ++ k) b n (bytes_of x ds ++ k)
-  unfolding bytes_of
-  no_digit h = let e : bytes_of x (d ∷ ds) ≡ bytes_of x ds = rw (lt-ltb 15 d h) in instead_of (ap (λ l. l ++ k) (sym e)) (nothing_yet b n (bytes_of x ds ++ k))
+  pub byte_lost : n ≡ length b → Leaves b n (bytes_of (x ∷ d ∷ ds) ++ k) b n (bytes_of ds ++ k)
+  unfolding placed bytes_of
+  byte_lost e =
+      let le : length b ≤ n = omega arith in record {
+        same = placed_full b n ((x * 16 + d) ∷ (bytes_of ds ++ k)) le ∙ sym (placed_full b n (bytes_of ds ++ k) le);
+        count = omega arith;
+      }
 
-  pub first_digit : d ≤ 15 → 15 < x → Leaves b n (bytes_of x (d ∷ ds) ++ k) b n (bytes_of d ds ++ k)
-  unfolding bytes_of
-  first_digit h g =
-      let e : bytes_of x (d ∷ ds) ≡ bytes_of d ds = rw (le-ltb 15 d h, lt-ltb 15 x g) in
-      instead_of (ap (λ l. l ++ k) (sym e)) (nothing_yet b n (bytes_of d ds ++ k))
-
-  module _ (h : d ≤ 15) (g : x ≤ 15) where
-    a_byte : (x * 16 + d) ∷ (bytes_of 16 ds ++ k) ≡ bytes_of x (d ∷ ds) ++ k
-    unfolding bytes_of
-    a_byte = let e : bytes_of x (d ∷ ds) ≡ (x * 16 + d) ∷ bytes_of 16 ds = rw (le-ltb 15 d h, le-ltb 15 x g) in ap (λ l. l ++ k) (sym e)
-
-    pub byte_lost : n ≡ length b → Leaves b n (bytes_of x (d ∷ ds) ++ k) b n (bytes_of 16 ds ++ k)
-    unfolding placed
-    byte_lost e =
-        let le : length b ≤ n = omega arith in
-        instead_of a_byte record {
-          same = placed_full b n ((x * 16 + d) ∷ (bytes_of 16 ds ++ k)) le ∙ sym (placed_full b n (bytes_of 16 ds ++ k) le);
-          count = omega arith;
-        }
-
-    pub byte_stored : Leaves b n (bytes_of x (d ∷ ds) ++ k) (set b n (x * 16 + d)) (n + 1) (bytes_of 16 ds ++ k)
-    unfolding placed
-    byte_stored =
-        instead_of a_byte record {
-          same = ap (λ m. placed (set b n (x * 16 + d)) m (bytes_of 16 ds ++ k)) (sym (add-one n));
-          count = omega (arith, length-set b n (x * 16 + d));
-        }
+  pub byte_stored : Leaves b n (bytes_of (x ∷ d ∷ ds) ++ k) (set b n (x * 16 + d)) (n + 1) (bytes_of ds ++ k)
+  unfolding placed bytes_of
+  byte_stored =
+      record {
+        same = ap (λ m. placed (set b n (x * 16 + d)) m (bytes_of ds ++ k)) (sym (add-one n));
+        count = omega (arith, length-set b n (x * 16 + d));
+      }
 
 -- so many times
-pub times_past : (n : ℕ) (l k : List ℕ) → 0 < n → times n l ++ k ≡ l ++ (times (n - 1) l ++ k)
+pub times_past : (n m : ℕ) (l k : List ℕ) → n ≡ suc m → times n l ++ k ≡ l ++ (times m l ++ k)
 unfolding times
-times_past zero l k h = absurd (omega arith)
-times_past (suc n) l k h =
-    let e : suc n - 1 ≡ n = omega arith in append_assoc l (times n l) k ∙ ap (λ j. l ++ (times j l ++ k)) (sym e)
+times_past n m l k e = ap (λ j. times j l ++ k) e ∙ append_assoc l (times m l) k
 
 pub times_end : (n : ℕ) (l k : List ℕ) → n ≡ 0 → times n l ++ k ≡ k
 unfolding times
@@ -154,7 +103,7 @@ drops a (suc b) [] = drop-nil a ∙ sym (drop-nil (suc b + a))
 drops a (suc b) (x ∷ l) = let e : suc b + a ≡ suc (b + a) = omega arith in drops a b l ∙ sym (ap (λ n. drop n (x ∷ l)) e)
 
 pub expanded_nil : (m : ℕ) → expanded m [] ≡ []
-unfolding expanded first_of plain bytes_of digits number_of times
+unfolding expanded plain bytes_of digits number_of times
 expanded_nil zero = refl
 expanded_nil (suc m) = expanded_nil m
 

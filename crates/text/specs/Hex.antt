@@ -1,18 +1,18 @@
 -- A job in text form: hexadecimal digits, two to a byte, where [3*00ff] stands for three times 00ff. Assumes nothing.
-use Rattle.std.specs.Prelude.{◌&&◌, cond, List, [], ◌∷◌, ◌++◌, ◌≡◌, ℕ, zero, suc, ◌+◌, ◌-◌, ◌*◌, min, eqb, leb, ltb, length, take, drop, set}
+use Rattle.std.specs.Prelude.{◌&&◌, ◌==◌, cond, List, [], ◌∷◌, ◌++◌, ◌≡◌, ℕ, zero, suc, ◌+◌, ◌-◌, ◌*◌, min, leb, ltb, length, take, drop, set, Option, Some, None, option_to_list}
+use Rattle.std.specs.List.{position_or_len}
 
 -- the first place of a character in a text, or the text's length
-unfoldable pub first_of : ℕ → List ℕ → ℕ
-first_of c [] = 0
-first_of c (x ∷ t) = cond (eqb x c) 0 (suc (first_of c t))
+abbrev pub first_of : ℕ → List ℕ → ℕ
+first_of c t = position_or_len (λ x. x == c) t
 
--- what a character stands for: 0 to 9 (48 to 57), a to f (97 to 102); 16 for any other
-unfoldable pub digit_of : ℕ → ℕ
-digit_of c = cond (leb 48 c && leb c 57) (c - 48) (cond (leb 97 c && leb c 102) (c - 97 + 10) 16)
+-- what a character stands for: 0 to 9 (48 to 57), a to f (97 to 102); no other stands for a digit
+unfoldable pub digit_of : ℕ → Option ℕ
+digit_of c = cond (leb 48 c && leb c 57) (Some (c - 48)) (cond (leb 97 c && leb c 102) (Some (c - 97 + 10)) None)
 
 unfoldable pub digits : List ℕ → List ℕ
 digits [] = []
-digits (c ∷ t) = digit_of c ∷ digits t
+digits (c ∷ t) = option_to_list (digit_of c) ++ digits t
 
 -- the number with a decimal digit more; what follows eight digits is left out
 unfoldable pub one_more : ℕ → ℕ → ℕ
@@ -23,13 +23,14 @@ unfoldable pub number_of : ℕ → List ℕ → ℕ
 number_of v [] = v
 number_of v (d ∷ ds) = number_of (one_more v d) ds
 
--- the bytes that digits spell, two to a byte, where h is the first of a pair or 16; what is no digit is left out
-unfoldable pub bytes_of : ℕ → List ℕ → List ℕ
-bytes_of h [] = []
-bytes_of h (d ∷ ds) = cond (ltb 15 d) (bytes_of h ds) (cond (ltb 15 h) (bytes_of d ds) ((h * 16 + d) ∷ bytes_of 16 ds))
+-- the bytes that digits spell, two to a byte; one that is left over spells none
+unfoldable pub bytes_of : List ℕ → List ℕ
+bytes_of [] = []
+bytes_of (h ∷ []) = []
+bytes_of (h ∷ d ∷ ds) = (h * 16 + d) ∷ bytes_of ds
 
 unfoldable pub plain : List ℕ → List ℕ
-plain t = bytes_of 16 (digits t)
+plain t = bytes_of (digits t)
 
 -- so many times
 unfoldable pub times : ℕ → List ℕ → List ℕ

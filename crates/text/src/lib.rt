@@ -1,47 +1,54 @@
 // A job in text form: hexadecimal digits, two to a byte, where [3*00ff] stands for three times 00ff. All other characters are left out.
 #![tactic(auto)]
 
-ghost use Rattle.std.specs.Prelude.{List, ◌∷◌, ◌++◌, ◌≡◌, ℕ, ◌+◌, ◌<◌, ◌≤◌, min, length, drop};
+ghost use Rattle.std.specs.Prelude.{List, ◌∷◌, ◌++◌, ◌≡◌, ◌==◌, ℕ, ◌+◌, ◌<◌, ◌≤◌, min, length, drop, IfSome, option_to_list};
+ghost use Rattle.std.specs.List.{position};
 ghost use Rattle.io.specs.Counts.{IsPrefixLen};
 ghost use Rattle.text.specs.Hex.{first_of, digit_of, digits, one_more, number_of, bytes_of, plain, times, spelled, placed, Leaves};
+
+// The first place of the character, where it stands in the text.
+fn place(text: &[u8], c: u8) -> Option<usize>
+    ensures { result ≡ position (λ x. x == c) text.now }
+{
+    text.iter().position(|b| *b == c)
+}
 
 // The first place from `from` on with the character, or the length.
 pub fn find(text: &[u8], from: usize, c: u8) -> usize
     requires { from ≤ length text.now }
-    ensures { (from ≤ result) × (result ≤ length text.now) × (result ≡ from + first_of c (drop from text.now)) }
+    ensures bounds { (from ≤ result) × (result ≤ length text.now) }
+    ensures first { result ≡ from + first_of c (drop from text.now) }
 {
-    let mut i = from;
-    while i < text.len() {
-        if text[i] == c {
-            return i;
-        }
-        i += 1;
+    match place(&text[from..], c) {
+        Some(k) => from + k,
+        None => text.len(),
     }
-    i
 }
 
-// What a hexadecimal digit stands for, or 16.
-fn digit(c: u8) -> u8
-    ensures { (result ≤ 16) × (result ≡ digit_of c) }
+// What a hexadecimal digit stands for.
+#[tactic(auto, unfolding(crate::specs::Hex::digit_of))]
+fn digit(c: u8) -> Option<u8>
+    ensures few { IfSome result (λ d. d < 16) }
+    ensures value { result ≡ digit_of c }
 {
     match c {
-        b'0'..=b'9' => c - b'0',
-        b'a'..=b'f' => c - b'a' + 10,
-        _ => 16,
+        b'0'..=b'9' => Some(c - b'0'),
+        b'a'..=b'f' => Some(c - b'a' + 10),
+        _ => None,
     }
 }
 
 // A number with one digit more. What follows eight digits is left out.
+#[tactic(auto, unfolding(crate::specs::Hex::one_more))]
 fn more(value: usize, d: u8) -> usize
     requires { value < 100000000 }
     ensures { (result < 100000000) × (result ≡ one_more value d) }
 {
-    if value < 10000000 {
-        if d < 10 {
-            return value * 10 + (d as usize);
-        }
+    if value < 10000000 && d < 10 {
+        value * 10 + usize::from(d)
+    } else {
+        value
     }
-    value
 }
 
 // The number that the decimal digits spell, whatever else stands among them.
@@ -49,42 +56,41 @@ pub fn decimal(text: &[u8]) -> usize
     ensures { (result < 100000000) × (result ≡ number_of 0 (digits text.now)) }
 {
     let mut value = 0;
-    let mut i = 0;
-    while i < text.len() {
-        value = more(value, digit(text[i]));
-        i += 1;
+    for c in text {
+        if let Some(d) = digit(*c) {
+            value = more(value, d);
+        }
     }
     value
 }
 
-// How many bytes there are, and the first digit of the next, or 16.
-#[derive(Drop)]
+// How many bytes there are, and the first digit of the next, where it has come.
+#[derive(Clone, Copy)]
 struct Spot {
     count: usize,
-    high: u8,
+    high: Option<u8>,
 }
 
 // One digit more: of two digits comes a byte, as far as there is room.
 fn put(bytes: &mut [u8], s: Spot, d: u8) -> Spot
-    requires { (s.count ≤ length bytes.old) × (s.high ≤ 16) }
-    ensures count_in_bounds { (result.count ≤ length bytes.new) × (result.high ≤ 16) }
-    ensures by_index { (ds k : List ℕ) → Leaves bytes.old s.count (bytes_of s.high (d ∷ ds) ++ k) bytes.new result.count (bytes_of result.high ds ++ k) }
+    requires { (s.count ≤ length bytes.old) × IfSome s.high (λ h. h < 16) × (d < 16) }
+    ensures count_in_bounds { (result.count ≤ length bytes.new) × IfSome result.high (λ h. h < 16) }
+    ensures by_index { (ds k : List ℕ) → Leaves bytes.old s.count (bytes_of (option_to_list s.high ++ (d ∷ ds)) ++ k) bytes.new result.count (bytes_of (option_to_list result.high ++ ds) ++ k) }
 {
     let count = s.count;
-    let high = s.high;
-    if d > 15 {
-        return s;
-    }
-    if high > 15 {
-        return Spot { count, high: d };
-    }
+    let Some(high) = s.high else {
+        return Spot {
+            count,
+            high: Some(d),
+        };
+    };
     if count == bytes.len() {
-        return Spot { count, high: 16 };
+        return Spot { count, high: None };
     }
     bytes[count] = high * 16 + d;
     Spot {
         count: count + 1,
-        high: 16,
+        high: None,
     }
 }
 
@@ -94,11 +100,14 @@ fn append(text: &[u8], bytes: &mut [u8], n: usize) -> usize
     ensures upper_bound { result ≤ length bytes.new }
     ensures by_index { (k : List ℕ) → Leaves bytes.old n (plain text.now ++ k) bytes.new result k }
 {
-    let mut s = Spot { count: n, high: 16 };
-    let mut i = 0;
-    while i < text.len() {
-        s = put(bytes, s, digit(text[i]));
-        i += 1;
+    let mut s = Spot {
+        count: n,
+        high: None,
+    };
+    for c in text {
+        if let Some(d) = digit(*c) {
+            s = put(bytes, s, d);
+        }
     }
     s.count
 }
@@ -110,10 +119,8 @@ fn repeat(text: &[u8], often: usize, bytes: &mut [u8], n: usize) -> usize
     ensures by_index { (k : List ℕ) → Leaves bytes.old n (times often (plain text.now) ++ k) bytes.new result k }
 {
     let mut count = n;
-    let mut left = often;
-    while left > 0 {
+    for i in 0..often {
         count = append(text, bytes, count);
-        left -= 1;
     }
     count
 }

@@ -1,28 +1,37 @@
 -- `append` meets its contract: what is left to be stored is what the rest of the text spells. Assumes nothing.
-use mathlib.Core.List.{◌∷◌, ◌++◌}
-use mathlib.Core.Path.{sym, ◌∙◌, ap}
-use native.Mathlib.Omega.{arith}
-use Prim.Native.Nat.{◌+◌}
-use lib.ListN.{drop}
-use borrow.Author.Rules.{rules}
+use Rattle.std.proofs.Common.{ap, ◌+◌, ◌++◌, drop, arith, rules, option_to_list}
 use Rattle.text.specs.Hex.{digits, bytes_of, plain}
-use Rattle.text.proofs.Spelling.{then, nothing_yet, instead, digits_past, bytes_end}
+use Rattle.text.proofs.Spelling.{then, nothing_yet, instead, digits_past, digits_pass, bytes_end}
 use Rattle.text.proofs.append.Goals as goal
+use Rattle.text.proofs.append.Goals.{in-Some, in_default}
 
-pub loop-i-init : goal.loop-i-init
+pub loop-c-init : goal.loop-c-init
 unfolding plain
-loop-i-init c = (search rules, search rules, search rules, λ k. nothing_yet _ _ _)
+loop-c-init c = (search rules, search rules, search rules, λ k. nothing_yet _ _ _)
 
-pub loop-i-preserved : goal.loop-i-preserved
-loop-i-preserved c = (
-  search rules,
-  search rules,
-  search rules,
-  λ k.
-      let rest = digits (drop (c.loop-i.i + 1) c.args.text.now) in
-      let whole = digits_past c.args.text.now c.loop-i.i c.loop-i-test.true ∙ ap (λ d. d ∷ rest) (sym c.digit.ensures.1) in
-      then (instead (ap (λ ds. bytes_of c.loop-i.s.high ds ++ k) whole) (c.loop-i.invariant.3 k)) (c.put-s.ensures.by_index rest k),
-)
+pub loop-c-preserved : goal.loop-c-preserved
+loop-c-preserved c =
+    let t = c.args.text.now in
+    let i = c.loop-c.c-index in
+    elim c.match-digit.branch [
+      | in-Some w ↦ rw (w.bytes-is, w.s-is) (
+        search rules,
+        search rules,
+        search rules,
+        λ k.
+            let rest = digits (drop (i + 1) t) in
+            let whole = digits_past t i c.loop-c-test.true w.in-Some.ensures.value in
+            then (instead (ap (λ ds. bytes_of (option_to_list c.loop-c.s.high ++ ds) ++ k) whole) (c.loop-c.invariant.3 k)) (w.put-s.ensures.by_index rest k),
+      )
+      | in_default w ↦ rw (w.bytes-is, w.s-is) (
+        search rules,
+        search rules,
+        search rules,
+        λ k.
+            let whole = digits_pass t i c.loop-c-test.true w.in_default.ensures.value in
+            instead (ap (λ ds. bytes_of (option_to_list c.loop-c.s.high ++ ds) ++ k) whole) (c.loop-c.invariant.3 k),
+      )
+    ]
 
-pub returns : goal.returns
-returns c = record { upper_bound = search rules; by_index = λ k. instead (ap (λ l. l ++ k) (bytes_end c.args.text.now c.loop-i.i (omega (arith, c.loop-i-test.false)) c.loop-i.s.high)) (c.loop-i.invariant.3 k) }
+pub returns-clause-by_index : goal.returns-clause-by_index
+returns-clause-by_index c = λ k. instead (ap (λ l. l ++ k) (bytes_end c.args.text.now c.loop-c.c-index (omega (arith, c.loop-c-test.false)) c.loop-c.s.high)) (c.loop-c.invariant.3 k)

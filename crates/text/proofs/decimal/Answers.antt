@@ -1,25 +1,27 @@
 -- `decimal` meets its contract: the number and the digits that are left spell what all of them do. Assumes nothing.
-use mathlib.Core.Path.{refl, sym, ◌∙◌, ap}
-use native.Mathlib.Omega.{arith}
-use Prim.Native.Nat.{◌+◌}
-use lib.ListN.{drop}
-use borrow.Author.Rules.{rules}
-use Rattle.text.specs.Hex.{digits, one_more, number_of}
-use Rattle.text.proofs.Spelling.{number_past, number_end}
+use Rattle.std.proofs.Common.{sym, ◌∙◌, ap, ◌+◌, drop, arith, rules, ℕ}
+use Rattle.text.specs.Hex.{digits, number_of}
+use Rattle.text.proofs.Spelling.{digits_past, digits_pass, number_end}
 use Rattle.text.proofs.decimal.Goals as goal
+use Rattle.text.proofs.decimal.Goals.{in-Some, in_default}
 
-pub loop-i-init : goal.loop-i-init
-loop-i-init c = (search rules, refl)
-
-pub loop-i-preserved : goal.loop-i-preserved
-loop-i-preserved c = (
-  c.more-value.ensures.0,
-  ap (λ v. number_of v (digits (drop (c.loop-i.i + 1) c.args.text.now))) (c.more-value.ensures.1 ∙ ap (one_more c.loop-i.value) c.digit.ensures.1)
-      ∙ sym (number_past c.args.text.now c.loop-i.i c.loop-i-test.true c.loop-i.value) ∙ c.loop-i.invariant.1,
-)
+pub loop-c-preserved : goal.loop-c-preserved
+unfolding number_of
+loop-c-preserved c =
+    let t = c.args.text.now in
+    let i = c.loop-c.c-index in
+    elim c.match-digit.branch [
+      | in-Some w ↦ (
+        search rules,
+        ap (λ (v : ℕ). number_of v (digits (drop (i + 1) t))) (w.value-is ∙ w.more-value.ensures.1)
+            ∙ ap (number_of c.loop-c.value) (sym (digits_past t i c.loop-c-test.true w.in-Some.ensures.value)) ∙ c.loop-c.invariant.1,
+      )
+      | in_default w ↦ (
+        search rules,
+        ap (λ (v : ℕ). number_of v (digits (drop (i + 1) t))) w.value-is
+            ∙ ap (number_of c.loop-c.value) (sym (digits_pass t i c.loop-c-test.true w.in_default.ensures.value)) ∙ c.loop-c.invariant.1,
+      )
+    ]
 
 pub returns : goal.returns
-returns c = (
-  search rules,
-  sym (number_end c.args.text.now c.loop-i.i (omega (arith, c.loop-i-test.false)) c.loop-i.value) ∙ c.loop-i.invariant.1,
-)
+returns c = (search rules, sym (number_end c.args.text.now c.loop-c.c-index (omega (arith, c.loop-c-test.false)) c.loop-c.value) ∙ c.loop-c.invariant.1)

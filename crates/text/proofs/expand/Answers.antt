@@ -12,7 +12,7 @@ pub loop-i-preserved : goal.loop-i-preserved
 loop-i-preserved c = (
   search rules,
   search rules,
-  turned c.loop-i.invariant.2 c.loop-i-test.true c.find-open.ensures.2 c.find-star.ensures.2 c.find-close.ensures.2 c.decimal-times.ensures.1
+  turned c.loop-i.invariant.2 c.loop-i-test.true c.find-open.ensures.first c.find-star.ensures.first c.find-close.ensures.first c.decimal-times.ensures.1
       c.append-n.ensures.by_index c.repeat-n.ensures.by_index,
 )
 
