@@ -1,5 +1,5 @@
 -- The open parts of a script, as an array with a depth, and what check 8 comes to. Assumes nothing.
-use Rattle.std.specs.Prelude.{◌≡◌, Bool, true, cond, List, [], ◌∷◌, ℕ, zero, suc, ◌+◌, ◌≤◌, ◌<◌, eqb, length, get_or, set}
+use Rattle.std.specs.Prelude.{◌≡◌, Bool, true, cond, List, [], ◌∷◌, ℕ, zero, suc, ◌+◌, ◌≤◌, ◌<◌, eqb, length, get_or, set, Option, MatchOption}
 use Rattle.rules.specs.Limits.{max_depth, max_records, record_size}
 use Rattle.rules.specs.Bytes.{record_place}
 use Rattle.rules.specs.Blocks.{parts, nest, placed, block_rule, past_end}
@@ -45,7 +45,7 @@ pub record Advanced (code : ℕ → ℕ) (i : ℕ) (q q' xs ys : List ℕ) (d : 
   pub plans : (n : ℕ) (p : List ℕ) → i < n → Partly code n i p q → Partly code n (suc i) p q'
 
 -- what check 8 finds in a script of n records, and what it makes of the words p
-pub record Scanned (code : ℕ → ℕ) (n : ℕ) (p p' : List ℕ) (r : ℕ) : Type 0 where
-  pub found : r ≡ first_fault (block_rule code n) (suc n) 0
-  pub partly : r ≤ n → Partly code n r p p'
-  pub whole : n < r → Whole code n p p'
+abbrev pub Scanned : (ℕ → ℕ) → ℕ → List ℕ → List ℕ → Option ℕ → Type 0
+Scanned code n p p' r =
+    MatchOption r ((suc n ≡ first_fault (block_rule code n) (suc n) 0) × Whole code n p p')
+    (λ i. (i ≡ first_fault (block_rule code n) (suc n) 0) × (i ≤ n) × Partly code n i p p')

@@ -13,18 +13,12 @@ use crate::plan::{END_BACK, END_MARK};
 use fields::records::{BACK, ELSE, END, IF, WHILE, code_at};
 use rules::limits::MAX_DEPTH;
 
-fn wide(x: u16) -> usize
-    ensures { result ≡ x }
-{
-    x as usize
-}
-
 // Of the open parts, each as the record that began it, the innermost.
 pub fn innermost(begun: &[u16], depth: usize) -> usize
     requires { (depth ≡ 0 → ⊥) × (depth ≤ length begun.now) }
     ensures { result ≡ get_or begun.now (depth - 1) 0 }
 {
-    wide(begun[depth - 1])
+    usize::from(begun[depth - 1])
 }
 
 // An if, or an if that comes back.
@@ -57,7 +51,7 @@ fn word(command: u8, next: usize) -> u32
     requires { next ≤ max_records }
     ensures { result ≡ entry command next }
 {
-    command as u32 + 65536 * (next as u32)
+    u32::from(command) + 65536 * (next as u32)
 }
 
 // The words of record i and of record o, whose part it closes.
@@ -138,26 +132,23 @@ pub fn advance(
     }
 }
 
-// The first record that breaks check 8; the count where a block is not closed; one more where there is no fault, and the plan is whole.
-pub fn first_fault(job: &[u8], base: usize, count: usize, plan: &mut [u32]) -> usize
+// The first record that breaks check 8, or the count where a block is not closed; where there is none the plan is whole.
+pub fn first_fault(job: &[u8], base: usize, count: usize, plan: &mut [u32]) -> Option<usize>
     requires { (record_place base count ≤ length job.now) × (count ≤ max_records) × (count < length plan.old) }
     ensures { Scanned (code job.now base) count plan.old plan.new result }
 {
     let mut begun = [0u16; MAX_DEPTH];
     let mut opened = [0u16; MAX_DEPTH];
     let mut depth = 0;
-    let mut i = 0;
-    while i < count {
+    for i in 0..count {
         if !block_ok(job, base, &begun, depth, i) {
-            return i;
+            return Some(i);
         }
         depth = advance(job, base, &mut begun, &mut opened, depth, i, plan);
-        i += 1;
     }
-    if depth == 0 {
-        plan[count] = END_MARK;
-        count + 1
-    } else {
-        count
+    if depth != 0 {
+        return Some(count);
     }
+    plan[count] = END_MARK;
+    None
 }

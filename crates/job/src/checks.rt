@@ -35,58 +35,60 @@ pub enum Edition {
     Today,
 }
 
-// Whether they have check 12.
-fn has_spare(rules: Edition) -> bool
-    ensures { result ≡ (edition_of rules).spare }
-{
-    match rules {
-        Edition::First => false,
-        Edition::Unordered => true,
-        Edition::Today => true,
+impl Edition {
+    // Whether they have check 12.
+    fn has_spare(self) -> bool
+        ensures { result ≡ (edition_of self).spare }
+    {
+        match self {
+            Edition::First => false,
+            Edition::Unordered => true,
+            Edition::Today => true,
+        }
     }
-}
 
-// Whether they have check 13.
-fn has_order(rules: Edition) -> bool
-    ensures { result ≡ (edition_of rules).order }
-{
-    match rules {
-        Edition::First => false,
-        Edition::Unordered => false,
-        Edition::Today => true,
+    // Whether they have check 13.
+    fn has_order(self) -> bool
+        ensures { result ≡ (edition_of self).order }
+    {
+        match self {
+            Edition::First => false,
+            Edition::Unordered => false,
+            Edition::Today => true,
+        }
     }
-}
 
-// Whether their script records hold sets.
-fn has_sets(rules: Edition) -> bool
-    ensures { result ≡ (edition_of rules).sets }
-{
-    match rules {
-        Edition::First => false,
-        Edition::Unordered => false,
-        Edition::Today => true,
+    // Whether their script records hold sets.
+    fn has_sets(self) -> bool
+        ensures { result ≡ (edition_of self).sets }
+    {
+        match self {
+            Edition::First => false,
+            Edition::Unordered => false,
+            Edition::Today => true,
+        }
     }
-}
 
-// Their highest level.
-fn highest(rules: Edition) -> u8
-    ensures { result ≡ highest_of (edition_of rules) }
-{
-    match rules {
-        Edition::First => SECRET,
-        Edition::Unordered => SECRET,
-        Edition::Today => ALL,
+    // Their highest level.
+    fn highest(self) -> u8
+        ensures { result ≡ highest_of (edition_of self) }
+    {
+        match self {
+            Edition::First => SECRET,
+            Edition::Unordered => SECRET,
+            Edition::Today => ALL,
+        }
     }
-}
 
-// How many commands they have.
-fn commands(rules: Edition) -> usize
-    ensures { (result ≡ (edition_of rules).commands) × (result ≤ command_count) }
-{
-    match rules {
-        Edition::First => 17,
-        Edition::Unordered => COMMANDS,
-        Edition::Today => COMMANDS,
+    // How many commands they have.
+    fn commands(self) -> usize
+        ensures { (result ≡ (edition_of self).commands) × (result ≤ command_count) }
+    {
+        match self {
+            Edition::First => 17,
+            Edition::Unordered => COMMANDS,
+            Edition::Today => COMMANDS,
+        }
     }
 }
 
@@ -139,8 +141,8 @@ fn scan_variables(job: &[u8], l: Layout, rules: Edition) -> Result<usize, Refusa
     ensures { result ≡ scanned bad_variable (edition_of rules) (variable_rule_in (edition_of rules) job.now) (variable_clean job.now) l.variables }
 {
     let count = l.variables;
-    let top = highest(rules);
-    if !has_spare(rules) {
+    let top = rules.highest();
+    if !rules.has_spare() {
         return scan_of(
             BAD_VARIABLE,
             first_fault(job, l, top, BAD_VARIABLE, count),
@@ -165,7 +167,7 @@ fn first_unordered(job: &[u8], l: Layout, rules: Edition) -> usize
     requires { Inside job.now l × Linked job.now l.tree l.nodes }
     ensures { result ≡ asked (edition_of rules).order (order_rule job.now l.tree) l.nodes }
 {
-    if has_order(rules) {
+    if rules.has_order() {
         return first_fault(job, l, ALL, BAD_ORDER, l.nodes);
     }
     l.nodes
@@ -176,7 +178,7 @@ fn scan_nodes(job: &[u8], l: Layout, rules: Edition) -> Result<usize, Refusal>
     requires { Linked job.now l.tree l.nodes }
     ensures { result ≡ scanned bad_node (edition_of rules) (node_rule_in (edition_of rules) job.now l.tree) (node_clean job.now l.tree) l.nodes }
 {
-    let top = highest(rules);
+    let top = rules.highest();
     let fault = nodes::first_fault(job, l.tree, l.nodes, top);
     if fault < l.nodes {
         return Err(Refusal {
@@ -184,7 +186,7 @@ fn scan_nodes(job: &[u8], l: Layout, rules: Edition) -> Result<usize, Refusal>
             index: fault,
         });
     }
-    if has_spare(rules) {
+    if rules.has_spare() {
         return Ok(nodes::first_unclean(job, l.tree, l.nodes));
     }
     Ok(l.nodes)
@@ -196,21 +198,21 @@ fn scan_records(bytes: &[u8], l: Layout, variables: usize, rules: Edition) -> Re
     ensures { result ≡ scanned bad_record (edition_of rules) (record_rules (edition_of rules) bytes.now variables l.script) (record_clean (edition_of rules).sets bytes.now l.script) l.records }
 {
     let count = l.records;
-    if !has_spare(rules) {
+    if !rules.has_spare() {
         return scan_of(
             BAD_RECORD,
-            records::first_fault(bytes, l.script, count, variables, commands(rules)),
+            records::first_fault(bytes, l.script, count, variables, rules.commands()),
             count,
             count,
         );
     }
-    let unfit = spare::first_unfit(bytes, l.script, count, variables, has_sets(rules));
+    let unfit = spare::first_unfit(bytes, l.script, count, variables, rules.has_sets());
     if unfit == count {
         return Ok(count);
     }
     scan_of(
         BAD_RECORD,
-        records::first_fault(bytes, l.script, count, variables, commands(rules)),
+        records::first_fault(bytes, l.script, count, variables, rules.commands()),
         unfit,
         count,
     )
@@ -221,14 +223,13 @@ fn check_blocks(bytes: &[u8], l: Layout, plan: &mut [u32]) -> Result<(), Refusal
     requires { Fitted bytes.now l plan.old }
     ensures { ScriptTold bytes.now l (from_blocks bytes.now l) plan.old plan.new result }
 {
-    let index = blocks::first_fault(bytes, l.script, l.records, plan);
-    if index <= l.records {
-        return Err(Refusal {
+    match blocks::first_fault(bytes, l.script, l.records, plan) {
+        Some(index) => Err(Refusal {
             number: BAD_BLOCK,
             index,
-        });
+        }),
+        None => Ok(()),
     }
-    Ok(())
 }
 
 // Of each section the first record with a spare byte that is not zero, or the count.
@@ -328,7 +329,7 @@ fn check_nodes(
         });
     }
     // Nodes that pass 13, 6 and 12 have no fault, also where 13 and 12 are not asked for.
-    if preorder::all_fit(job, l.tree, l.nodes, highest(rules)) {
+    if preorder::all_fit(job, l.tree, l.nodes, rules.highest()) {
         return check_job_script(job, l, variable, l.nodes, rules, plan);
     }
     let index = first_unordered(job, l, rules);

@@ -54,12 +54,10 @@ pub fn all_fit(job: &[u8], base: usize, count: usize, top: u8) -> bool
     requires { Linked job.now base count }
     ensures { result ≡ true → AllFit top job.now base count }
 {
-    let mut i = 0;
-    while i < count {
+    for i in 0..count {
         if !node_fits(job, base, i, top) {
             return false;
         }
-        i += 1;
     }
     true
 }

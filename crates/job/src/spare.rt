@@ -8,7 +8,7 @@ ghost use Rattle.rules.specs.Check.{first_fault};
 ghost use Rattle.fields.specs.Fields.{row_used};
 ghost use Rattle.fields.specs.Fits.{limits_of, target_limit, operand_fits, kind_word, right_fits, expression_fits, bare_fits, cover_fits, record_fits};
 
-use fields::reads::{byte_at, double_at, full_at, half_at, wide64};
+use fields::reads::{byte_at, double_at, full_at, half_at};
 use fields::records::{ALONE, MAX_MARK, MAX_OPERATOR};
 use fields::rows::{Row, used};
 use rules::limits::{COMMANDS, RECORD_SIZE};
@@ -66,7 +66,7 @@ fn operand_fits(job: &[u8], kind: usize, at: usize, limits: &[u64; KINDS], varia
     if KINDS <= kind {
         return false;
     }
-    wide64(full_at(job, at)) < limits[kind]
+    u64::from(full_at(job, at)) < limits[kind]
 }
 
 // The bytes 4 to 7 of the record at a place as a number; where 5 and 6 hold sets, without these.
@@ -178,8 +178,7 @@ pub fn first_unfit(job: &[u8], base: usize, count: usize, variables: usize, sets
     let rows = used(sets);
     let targets = target_limits(variables, sets);
     let limits = limits_of(variables);
-    let mut i = 0;
-    while i < count {
+    for i in 0..count {
         let at = base + RECORD_SIZE * i;
         let command = byte_at(job, at);
         if COMMANDS <= command {
@@ -190,7 +189,6 @@ pub fn first_unfit(job: &[u8], base: usize, count: usize, variables: usize, sets
         if !fields_fit(job, at, reads, limit, sets, &limits, variables) {
             return i;
         }
-        i += 1;
     }
-    i
+    count
 }

@@ -1,6 +1,6 @@
 -- `first_fault` meets its contract: each record passed is placed among the parts that are open at it, and has its word. Assumes nothing.
 use mathlib.Core.Path.{◌≡◌, refl, sym, ap, ◌∙◌}
-use Prim.Native.Nat.{ℕ, ◌+◌}
+use Prim.Native.Nat.{ℕ, suc, ◌+◌}
 use native.Mathlib.Omega.{arith}
 use native.Mathlib.Numerals.{add-one}
 use lib.Dec.{eqb}
@@ -18,7 +18,6 @@ pub loop-i-init : goal.loop-i-init
 unfolding stack parts nest
 loop-i-init c = (
   scan_start _ _,
-  search rules,
   record { size = search rules; deep = search rules; same = refl },
   record { size = search rules; deep = search rules; same = refl },
   refl,
@@ -26,26 +25,22 @@ loop-i-init c = (
 )
 
 pub block_ok-requires : goal.block_ok-requires
-block_ok-requires c = record { inside = search rules; spells = c.loop-i.invariant.2 }
+block_ok-requires c = record { inside = search rules; spells = c.loop-i.invariant.1 }
 
 pub returns-then-not-block_ok : goal.returns-then-not-block_ok
 unfolding placed_at
 returns-then-not-block_ok c = let v = c.loop-i.invariant in
-    record {
-      found = scan_stop _ _ v.0 (search rules) (rule_inside _ _ _ (search rules) ∙ sym c.block_ok.ensures ∙ c.if-not-block_ok.true);
-      partly = λ h. v.5;
-      whole = λ h. absurd (omega arith);
-    }
+    (scan_stop _ _ v.0 (search rules) (rule_inside _ _ _ (search rules) ∙ sym c.block_ok.ensures ∙ c.if-not-block_ok.true), search rules, v.4)
 
 pub advance-depth-requires : goal.advance-depth-requires
 advance-depth-requires c = (
   record {
-    stands = record { inside = search rules; spells = c.loop-i.invariant.2 };
-    blocks = c.loop-i.invariant.3;
+    stands = record { inside = search rules; spells = c.loop-i.invariant.1 };
+    blocks = c.loop-i.invariant.2;
     passes = sym c.block_ok.ensures ∙ c.if-not-block_ok.false;
     few = search rules;
   },
-  omega (arith, c.loop-i.invariant.4),
+  omega (arith, c.loop-i.invariant.3),
 )
 
 pub loop-i-preserved : goal.loop-i-preserved
@@ -53,33 +48,26 @@ unfolding placed_at
 loop-i-preserved c = let v = c.loop-i.invariant in
     let s = c.advance-depth in (
       scan_next _ _ v.0 (search rules) (rule_inside _ _ _ (search rules) ∙ sym c.block_ok.ensures ∙ c.if-not-block_ok.false),
-      search rules,
       rw add-one s.ensures.spells,
       rw add-one s.ensures.blocks,
-      omega (arith, v.4),
-      rw add-one (s.ensures.plans _ _ (search rules) v.5),
+      omega (arith, v.3),
+      rw add-one (s.ensures.plans _ _ (search rules) v.4),
     )
 
 pub bounds-plan-count : goal.bounds-plan-count
-bounds-plan-count c = omega (arith, c.loop-i.invariant.4)
+bounds-plan-count c = omega (arith, c.loop-i.invariant.3)
 
-pub returns-then-depth-eq0 : goal.returns-then-depth-eq0
-returns-then-depth-eq0 c = let v = c.loop-i.invariant in
+pub returns-then-depth-ne0 : goal.returns-then-depth-ne0
+returns-then-depth-ne0 c = let v = c.loop-i.invariant in
     let e : c.loop-i.i ≡ c.args.count = omega arith in
-    let r : c.args.count + 1 ≡ c.loop-i.i + 1 = omega arith in
-    let z = ap (λ (n : ℕ). eqb n 0) (depth _ _ _ v.2) ∙ eq-eqb _ 0 c.if-depth-eq0.true in
-    record {
-      found = r ∙ scan_end _ _ (scan_next _ _ v.0 (search rules) (rule_end _ _ _ (search rules) ∙ z)) (search rules);
-      partly = λ h. absurd (omega arith);
-      whole = λ h. completed _ _ _ _ _ e (omega (arith, v.4)) (bottom _ _ _ v.2 c.if-depth-eq0.true) v.5;
-    }
+    let z = ap (λ (n : ℕ). eqb n 0) (depth _ _ _ v.1) ∙ ne_eqb _ 0 c.if-depth-ne0.true in
+    (sym e ∙ scan_stop _ _ v.0 (search rules) (rule_end _ _ _ (search rules) ∙ z), search rules, as_many e v.4)
 
-pub returns-else-depth-eq0 : goal.returns-else-depth-eq0
-returns-else-depth-eq0 c = let v = c.loop-i.invariant in
+pub returns : goal.returns
+returns c = let v = c.loop-i.invariant in
     let e : c.loop-i.i ≡ c.args.count = omega arith in
-    let z = ap (λ (n : ℕ). eqb n 0) (depth _ _ _ v.2) ∙ ne_eqb _ 0 c.if-depth-eq0.false in
-    record {
-      found = sym e ∙ scan_stop _ _ v.0 (search rules) (rule_end _ _ _ (search rules) ∙ z);
-      partly = λ h. as_many e v.5;
-      whole = λ h. absurd (omega arith);
-    }
+    let r : suc c.args.count ≡ c.loop-i.i + 1 = omega arith in
+    let z = ap (λ (n : ℕ). eqb n 0) (depth _ _ _ v.1) ∙ eq-eqb _ 0 c.if-depth-ne0.false in (
+      r ∙ scan_end _ _ (scan_next _ _ v.0 (search rules) (rule_end _ _ _ (search rules) ∙ z)) (search rules),
+      completed _ _ _ _ _ e (omega (arith, v.3)) (bottom _ _ _ v.1 c.if-depth-ne0.false) v.4,
+    )

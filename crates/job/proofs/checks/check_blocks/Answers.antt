@@ -7,14 +7,14 @@ use Rattle.job.proofs.Answers.{plans_whole, plans_partly}
 use borrow.Author.Rules.{rules}
 use Rattle.job.proofs.checks.check_blocks.Goals as goal
 
-pub returns-then-index-l : goal.returns-then-index-l
+pub returns-in-Some : goal.returns-in-Some
 unfolding told from_blocks
-returns-then-index-l c = let f = c.first_fault-index.ensures in
-    let e = stopped bad_block _ _ _ f.found (search rules) in
-    record { answered = sym (ap told e); plans = plans_partly _ _ _ _ _ _ e (f.partly (search rules)) }
+returns-in-Some c = let f = c.in-Some.ensures in
+    let e = stopped bad_block _ _ _ f.0 (search rules) in
+    record { answered = sym (ap told e); plans = plans_partly _ _ _ _ _ _ e f.2 }
 
-pub returns : goal.returns
+pub returns-in-None : goal.returns-in-None
 unfolding told from_blocks
-returns c = let f = c.first_fault-index.ensures in
-    let e = through bad_block _ _ _ f.found (search rules) in
-    record { answered = sym (ap told e); plans = plans_whole _ _ _ _ _ e (f.whole (search rules)) }
+returns-in-None c = let f = c.in-None.ensures in
+    let e = through bad_block _ _ _ f.0 (search rules) in
+    record { answered = sym (ap told e); plans = plans_whole _ _ _ _ _ e f.1 }

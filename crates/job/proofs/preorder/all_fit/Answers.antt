@@ -11,14 +11,13 @@ loop-i-init c = record { each = λ k l. absurd (omega arith) }
 
 pub node_fits-requires : goal.node_fits-requires
 node_fits-requires c = let q = c.requires in
-    let l = c.loop-i-test.true in
     (record { inside = omega (arith, q.inside); few = omega (arith, q.few); parents = λ k h. q.parents k (omega arith) }, c.loop-i.invariant)
 
 pub loop-i-preserved : goal.loop-i-preserved
 loop-i-preserved c = rw add-one (fit_next _ _ _ _ c.loop-i.invariant (c.node_fits.ensures c.if-not-node_fits.false))
 
 pub returns : goal.returns
-returns c e = let l = c.loop-i-test.false in record { each = λ k h. c.loop-i.invariant.each k (omega arith) }
+returns c e = record { each = λ k h. c.loop-i.invariant.each k (omega (arith, c.loop-i-test.false)) }
 
 pub returns-then-not-node_fits : goal.returns-then-not-node_fits
 returns-then-not-node_fits c e = clash e refl

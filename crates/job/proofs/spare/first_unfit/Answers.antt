@@ -55,4 +55,4 @@ pub loop-i-preserved : goal.loop-i-preserved
 loop-i-preserved c = scan_next _ _ c.loop-i.invariant (search rules) (sym c.fields_fit.ensures ∙ c.if-not-fields_fit.false)
 
 pub returns : goal.returns
-returns c = scan_end _ _ c.loop-i.invariant c.loop-i-test.false
+returns c = let e : c.args.count ≡ c.loop-i.i = omega arith in e ∙ scan_end _ _ c.loop-i.invariant c.loop-i-test.false

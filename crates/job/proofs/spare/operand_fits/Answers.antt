@@ -7,5 +7,5 @@ pub returns-then-kind-ge-KINDS : goal.returns-then-kind-ge-KINDS
 returns-then-kind-ge-KINDS c = sym (unlimited _ _ _ c.if-kind-ge-KINDS.true)
 
 pub returns : goal.returns
-returns c = rw (c.requires.1, ← c.wide64.ensures.0 ∙ c.full_at.ensures)
-    (limited _ _ _ c.wide64.ensures.1 c.if-kind-ge-KINDS.false)
+returns c = rw (c.requires.1, ← c.from.ensures ∙ c.full_at.ensures)
+    (limited _ _ _ (rw c.from.ensures c.full_at.type_inv) c.if-kind-ge-KINDS.false)

@@ -1,7 +1,7 @@
--- `has_order` meets its contract: edition by edition. Assumes nothing.
+-- `has_sets` meets its contract: edition by edition. Assumes nothing.
 use Rattle.rules.specs.Check.{first, unordered, ordered, today}
 use Rattle.job.specs.Answer.{edition_of}
-use Rattle.job.proofs.checks.has_order.Goals as goal
+use Rattle.job.proofs.checks.Edition.has_sets.Goals as goal
 
 pub returns-in-First : goal.returns-in-First
 unfolding edition_of first
