@@ -2,7 +2,7 @@
 -- stands the nearest earlier record with the same parent. Assumes nothing.
 use mathlib.Core.Path.{◌≡◌, ap, ◌∙◌}
 use mathlib.Core.Bool.{true}
-use mathlib.Core.Option.{none, some}
+use Rattle.std.specs.Prelude.{None, Some}
 use mathlib.Core.List.{List}
 use Prim.Native.Nat.{ℕ, zero, suc, ◌+◌, ◌-◌, ◌≤◌, ◌<◌}
 use native.Mathlib.Omega.{arith}
@@ -54,7 +54,7 @@ module _ (b : List ℕ) (base : ℕ) where
       by (no q) r = r q
 
   -- a search back that passes only records with other parents
-  back_to : (w p d : ℕ) → parent b base w ≡ p → ((k : ℕ) → w < k → k < suc w + d → parent b base k ≡ p → ⊥) → nearest b base p (suc w + d) ≡ some w
+  back_to : (w p d : ℕ) → parent b base w ≡ p → ((k : ℕ) → w < k → k < suc w + d → parent b base k ≡ p → ⊥) → nearest b base p (suc w + d) ≡ Some w
   back_to w p zero e h = ap (nearest b base p) {x = suc w + 0} {y = suc w} (omega arith) ∙ near_here b base p w e
   back_to w p (suc d) e h =
       ap (nearest b base p) {x = suc w + suc d} {y = suc (suc w + d)} (omega arith)
@@ -71,14 +71,14 @@ module _ (b : List ℕ) (base i : ℕ) (n : i ≡ 0 → ⊥) (r : Rooted b base 
   on_order w = rw (ne_eqb i 0 n) (up_path b base i before w.way i (omega arith) (omega arith))
 
   -- right below that stands its left sibling
-  pub on_left : (k : ℕ) → On b base (i - 1) k → parent b base k ≡ parent b base i → parent b base i < k → k < i → nearest b base (parent b base i) i ≡ some k
+  pub on_left : (k : ℕ) → On b base (i - 1) k → parent b base k ≡ parent b base i → parent b base i < k → k < i → nearest b base (parent b base i) i ≡ Some k
   on_left k w e l m =
       ap (nearest b base (parent b base i)) {x = i} {y = suc k + (i - suc k)} (omega arith)
       ∙ back_to b base k (parent b base i) (i - suc k) e
       (λ x g h q. let z = between b base i before f.each (omega arith) w.way x g (omega arith) in omega arith)
 
   -- the first child of the record before it has none
-  pub on_first : suc (parent b base i) ≡ i → nearest b base (parent b base i) i ≡ none
+  pub on_first : suc (parent b base i) ≡ i → nearest b base (parent b base i) i ≡ None
   on_first e = none_before b base (parent b base i) (omega (arith, r.few)) i (omega arith) before
 
 pub fit_next : (top : ℕ) (b : List ℕ) (base i : ℕ) → AllFit top b base i → Fit top b base i → AllFit top b base (suc i)

@@ -1,6 +1,6 @@
 -- What the checks hand back, from the rules' definition of the checks. Assumes nothing.
-use Rattle.std.specs.Prelude.{◌≡◌, Bool, true, ◌&&◌, cond, List, ℕ, suc, ◌≤◌, ◌<◌, ltb, eqb, length, Result, Ok, Err}
-use Rattle.rules.specs.Limits.{max_records, bad_variable, bad_parent, bad_node, bad_block, bad_spare, bad_order}
+use Rattle.std.specs.Prelude.{◌≡◌, Bool, cond, List, ℕ, suc, ◌≤◌, ◌<◌, ltb, length, Result, Ok, Err}
+use Rattle.rules.specs.Limits.{max_records, bad_parent, bad_node, bad_block, bad_spare, bad_order}
 use Rattle.rules.specs.Bytes.{script_at, record_count, record_place}
 use Rattle.rules.specs.Blocks.{block_rule}
 use Rattle.rules.specs.Check as Check
@@ -11,8 +11,7 @@ use Rattle.job.specs.declared.checks.Refusal.{Refusal}
 use Rattle.job.specs.declared.checks.Edition.{Edition}
 use Rattle.job.specs.declared.checks.Edition.TheVariants.{First, Unordered, Today}
 use Rattle.job.specs.declared.checks.Unclean.{Unclean}
-use Rattle.fields.specs.Layout.{layout_of, Inside}
-use Rattle.fields.specs.Fits.{variable_in}
+use Rattle.fields.specs.Layout.{layout_of}
 use Rattle.job.specs.Plan.{Plans}
 
 -- an edition by the program's name for it
@@ -29,28 +28,6 @@ answer l (Check.refused k i) = Err (record { number = k; index = i })
 -- the highest level of an edition: all eight parties, or before R-12 the house
 unfoldable pub highest_of : Check.Edition → ℕ
 highest_of rules = cond rules.sets 255 1
-
--- by number, for record i of its section: the rule of 4, where top is the highest level, of 12 with 4 for a variable, of 13, or of 5
-unfoldable pub rule_of : List ℕ → Layout → ℕ → ℕ → ℕ → Bool
-rule_of b l top k i =
-    cond (eqb k bad_variable) (variable_in top b i)
-    (cond (eqb k bad_spare) (variable_in top b i && variable_clean b i) (cond (eqb k bad_order) (order_rule b l.tree i) (parent_rule b l.tree i)))
-
--- how many records that section holds
-unfoldable pub count_of : Layout → ℕ → ℕ
-count_of l k = cond (eqb k bad_variable) l.variables (cond (eqb k bad_spare) l.variables l.nodes)
-
--- record i can be put to the check of a number; 13 goes by parents that are right
-pub record Passable (b : List ℕ) (l : Layout) (k i : ℕ) : Type 0 where
-  pub inside : Inside b l
-  pub index : i < count_of l k
-  pub parents : k ≡ bad_order → (j : ℕ) → j ≤ i → parent_rule b l.tree j ≡ true
-
--- n records can
-pub record Scannable (b : List ℕ) (l : Layout) (k n : ℕ) : Type 0 where
-  pub inside : Inside b l
-  pub count : n ≡ count_of l k
-  pub parents : k ≡ bad_order → (j : ℕ) → j < n → parent_rule b l.tree j ≡ true
 
 -- check 7 in an edition, of record i
 abbrev pub record_rules : Check.Edition → List ℕ → ℕ → ℕ → ℕ → Bool

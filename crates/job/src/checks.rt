@@ -3,14 +3,16 @@
 ghost use Rattle.std.specs.Prelude.{◌≡◌, ◌≤◌, ◌<◌, length};
 ghost use Rattle.rules.specs.Limits.{command_count, max_records, bad_variable, bad_node, bad_record};
 ghost use Rattle.rules.specs.Bytes.{record_place};
-ghost use Rattle.rules.specs.Check.{variable_rule_in, order_rule, node_rule_in, variable_clean, node_clean, record_clean, first_fault, today, check_bytes_by, check_bytes};
+ghost use Rattle.rules.specs.Check.{variable_rule_in, order_rule, node_rule_in, variable_clean, node_clean, record_clean, today, check_bytes_by, check_bytes};
 ghost use Rattle.fields.specs.Layout.{layout_of, Inside};
 ghost use Rattle.fields.specs.Siblings.{Linked};
-ghost use Rattle.job.specs.Answer.{answer, edition_of, highest_of, rule_of, record_rules, asked, scan_of, scanned, unclean_of, Passable, Scannable, Fitted, Fronted, from_blocks, from_spare, from_script, from_nodes, from_variables, ScriptTold, JobTold, Prepared};
+ghost use Rattle.job.specs.Answer.{answer, edition_of, highest_of, record_rules, asked, scan_of, scanned, unclean_of, Fitted, Fronted, from_blocks, from_spare, from_script, from_nodes, from_variables, ScriptTold, JobTold, Prepared};
 
 use crate::plan::WORDS;
-use crate::{blocks, preorder, spare};
+use crate::spare::first_unfit;
+use crate::{blocks, preorder};
 use fields::nodes::{order_ok, parent_ok};
+use fields::scan::first_that_fails;
 use fields::sections::{Layout, counts_ok, layout_of, length_ok, offsets_ok};
 use fields::variables::{variable_fits, variable_ok};
 use fields::{nodes, records};
@@ -92,34 +94,6 @@ impl Edition {
     }
 }
 
-// By number, of record i of its section: the checks 4, where `top` is the highest level, 5 and 13, and 12 with 4 of a variable.
-fn passes(job: &[u8], l: Layout, top: u8, number: u8, i: usize) -> bool
-    requires { Passable job.now l number i }
-    ensures { result ≡ rule_of job.now l top number i }
-{
-    match number {
-        BAD_VARIABLE => variable_ok(job, i, top),
-        BAD_SPARE => variable_fits(job, i, top),
-        BAD_ORDER => order_ok(job, l.tree, i),
-        _ => parent_ok(job, l.tree, i),
-    }
-}
-
-// The first record of its section that fails the check of a number, or the count.
-fn first_fault(job: &[u8], l: Layout, top: u8, number: u8, count: usize) -> usize
-    requires { Scannable job.now l number count }
-    ensures { result ≡ first_fault (rule_of job.now l top number) count 0 }
-{
-    let mut i = 0;
-    while i < count {
-        if !passes(job, l, top, number, i) {
-            return i;
-        }
-        i += 1;
-    }
-    i
-}
-
 // What a scan of a section comes to: its first faulty record turns it back, with the number of the check; where none is faulty, the first with a spare byte that is not zero.
 // Where there is none, or none is asked for, that is the count.
 fn scan_of(number: u8, fault: usize, unclean: usize, count: usize) -> Result<usize, Refusal>
@@ -142,24 +116,15 @@ fn scan_variables(job: &[u8], l: Layout, rules: Edition) -> Result<usize, Refusa
 {
     let count = l.variables;
     let top = rules.highest();
-    if !rules.has_spare() {
-        return scan_of(
-            BAD_VARIABLE,
-            first_fault(job, l, top, BAD_VARIABLE, count),
-            count,
-            count,
-        );
+    let mut unclean = count;
+    if rules.has_spare() {
+        unclean = first_that_fails(count, |i| variable_fits(job, i, top));
+        if unclean == count {
+            return Ok(count);
+        }
     }
-    let unfit = first_fault(job, l, top, BAD_SPARE, count);
-    if unfit == count {
-        return Ok(count);
-    }
-    scan_of(
-        BAD_VARIABLE,
-        first_fault(job, l, top, BAD_VARIABLE, count),
-        unfit,
-        count,
-    )
+    let fault = first_that_fails(count, |i| variable_ok(job, i, top));
+    scan_of(BAD_VARIABLE, fault, unclean, count)
 }
 
 // Check 13, where it is asked for: the first node that fails it, or the count.
@@ -167,10 +132,10 @@ fn first_unordered(job: &[u8], l: Layout, rules: Edition) -> usize
     requires { Inside job.now l × Linked job.now l.tree l.nodes }
     ensures { result ≡ asked (edition_of rules).order (order_rule job.now l.tree) l.nodes }
 {
-    if rules.has_order() {
-        return first_fault(job, l, ALL, BAD_ORDER, l.nodes);
+    if !rules.has_order() {
+        return l.nodes;
     }
-    l.nodes
+    first_that_fails(l.nodes, |i| order_ok(job, l.tree, i))
 }
 
 // The checks 6 and 12, of the nodes.
@@ -198,24 +163,15 @@ fn scan_records(bytes: &[u8], l: Layout, variables: usize, rules: Edition) -> Re
     ensures { result ≡ scanned bad_record (edition_of rules) (record_rules (edition_of rules) bytes.now variables l.script) (record_clean (edition_of rules).sets bytes.now l.script) l.records }
 {
     let count = l.records;
-    if !rules.has_spare() {
-        return scan_of(
-            BAD_RECORD,
-            records::first_fault(bytes, l.script, count, variables, rules.commands()),
-            count,
-            count,
-        );
+    let mut unclean = count;
+    if rules.has_spare() {
+        unclean = first_unfit(bytes, l.script, count, variables, rules.has_sets());
+        if unclean == count {
+            return Ok(count);
+        }
     }
-    let unfit = spare::first_unfit(bytes, l.script, count, variables, rules.has_sets());
-    if unfit == count {
-        return Ok(count);
-    }
-    scan_of(
-        BAD_RECORD,
-        records::first_fault(bytes, l.script, count, variables, rules.commands()),
-        unfit,
-        count,
-    )
+    let fault = records::first_fault(bytes, l.script, count, variables, rules.commands());
+    scan_of(BAD_RECORD, fault, unclean, count)
 }
 
 // Check 8, and the plan of the script.
@@ -321,7 +277,7 @@ fn check_nodes(
     requires { Inside job.now l × (max_records < length plan.old) × (variable ≡ asked (edition_of rules).spare (variable_clean job.now) l.variables) }
     ensures { JobTold job.now l (from_nodes job.now l (edition_of rules)) plan.old plan.new result }
 {
-    let index = first_fault(job, l, ALL, BAD_PARENT, l.nodes);
+    let index = first_that_fails(l.nodes, |i| parent_ok(job, l.tree, i));
     if index < l.nodes {
         return Err(Refusal {
             number: BAD_PARENT,

