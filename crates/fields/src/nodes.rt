@@ -20,7 +20,7 @@ pub fn parent_at(job: &[u8], base: usize, i: usize) -> usize
 }
 
 // The three levels of a node; `structure` is that of its list of children.
-#[derive(Drop)]
+#[derive(Clone, Copy, PartialEq, Eq, Debug)]
 pub struct Levels {
     pub existence: u8,
     pub content: u8,

@@ -35,7 +35,7 @@ pub const MAX_KIND: u8 = 3;
 pub const MAX_MARK: usize = 3;
 
 // A record as its bytes have it.
-#[derive(Drop)]
+#[derive(Clone, Copy, PartialEq, Eq, Debug)]
 pub struct Fields {
     pub command: u8,
     pub target: u8,

@@ -7,7 +7,7 @@ ghost use Rattle.fields.specs.Fields.{row_held, row_used};
 use rules::limits::COMMANDS;
 
 // Whether a command reads its target as a variable's index, its target as a mark, its expression, its target as a reader set, the sets of bytes 5 and 6.
-#[derive(Clone, Copy)]
+#[derive(Clone, Copy, PartialEq, Eq, Debug)]
 pub struct Row {
     pub target: bool,
     pub mark: bool,

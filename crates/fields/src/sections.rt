@@ -11,7 +11,7 @@ use rules::limits::{
 };
 
 // The number of variables, where the nodes start and how many there are, where the script starts and how many records it has.
-#[derive(Clone, Copy)]
+#[derive(Clone, Copy, PartialEq, Eq, Debug)]
 pub struct Layout {
     pub variables: usize,
     pub tree: usize,
@@ -35,7 +35,7 @@ fn is_whole(size: usize, from: usize, to: usize) -> bool
 }
 
 // The four offsets of the trailer.
-#[derive(Drop)]
+#[derive(Clone, Copy, PartialEq, Eq, Debug)]
 pub struct Offsets {
     pub variables: usize,
     pub nodes: usize,

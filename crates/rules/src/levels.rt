@@ -36,5 +36,5 @@ pub fn not_above(a: u8, b: u8) -> bool
 pub fn parties(a: u8) -> u32
     ensures { result ≡ parties a }
 {
-    u8::count_ones(a)
+    a.count_ones()
 }
