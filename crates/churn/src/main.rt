@@ -5,6 +5,8 @@
 mod rounds;
 mod run;
 
+use run::Run;
+
 const ROUNDS: u32 = 420;
 
 // Prints a name and a number on a line.
@@ -15,16 +17,14 @@ fn line(name: &[u8], n: u64) {
 }
 
 fn main() {
-    let mut words = [0u32; table::WORDS];
-    let r = rounds::repeat(&mut words, ROUNDS);
-    line(b"rounds ", wide(ROUNDS));
-    line(b"operations ", r.operations);
-    line(b"nodes added ", r.added);
-    line(b"additions refused ", r.refused);
-    line(b"subtrees removed ", r.removed);
-    line(b"faults ", r.faults);
-}
-
-fn wide(x: u32) -> u64 {
-    x as u64
+    let mut run = Run::new();
+    for _ in 0..ROUNDS {
+        rounds::round(&mut run);
+    }
+    line(b"rounds ", u64::from(ROUNDS));
+    line(b"operations ", run.operations);
+    line(b"nodes added ", run.added);
+    line(b"additions refused ", run.refused);
+    line(b"subtrees removed ", run.removed);
+    line(b"faults ", run.faults);
 }

@@ -11,59 +11,46 @@
 // That is 1029 + 3 + 1546 + 8 + 439 + 1761 + 7 = 4793 operations, 730 nodes added, 2 additions refused and 8 subtrees removed.
 ghost use Rattle.std.specs.Prelude.{◌<◌};
 
-use super::run;
 use super::run::Run;
-use table::{FIRST, RIGHT, WORDS};
+use table::{FIRST, RIGHT};
 
 // A child with 72 children, on a side of the cursor's node: their values are v, v + 1, .. in order. The cursor ends at the child.
-fn branch(words: &mut [u32; WORDS], start: Run, side: usize, v: u32) -> Run
+fn branch(run: &mut Run, side: usize, v: u32)
     requires { (side < 2) × (v < 512) }
 {
-    let mut r = run::add(words, start, side, v, true);
-    r = run::must(run::try_side(words, r, side));
-    r = run::add(words, r, FIRST, v + 1, true);
-    r = run::must(run::try_side(words, r, FIRST));
-    let mut k: u32 = 2;
-    while k < 73 {
-        r = run::add(words, r, RIGHT, v + k, true);
-        r = run::must(run::try_side(words, r, RIGHT));
-        k += 1;
+    run.add(side, v, true);
+    run.go_side(side);
+    run.add(FIRST, v + 1, true);
+    run.go_side(FIRST);
+    for k in 2..73 {
+        run.add(RIGHT, v + k, true);
+        run.go_side(RIGHT);
     }
-    run::must(run::try_up(words, r))
+    run.go_up();
 }
 
 // From a root alone to a full table.
-fn build(words: &mut [u32; WORDS], start: Run) -> Run {
-    let mut r = branch(words, start, FIRST, 1);
-    let mut j: u32 = 1;
-    while j < 7 {
-        r = branch(words, r, RIGHT, 1 + 73 * j);
-        j += 1;
+fn build(run: &mut Run) {
+    branch(run, FIRST, 1);
+    for j in 1..7 {
+        branch(run, RIGHT, 1 + 73 * j);
     }
-    r
 }
 
 // On to the next node in order; at the last one back to the root.
-fn next(words: &[u32; WORDS], start: Run) -> Run {
-    let down = run::try_side(words, start, FIRST);
-    if down.ok {
-        return down.run;
+fn next(run: &mut Run) {
+    if run.try_side(FIRST) {
+        return;
     }
-    let mut r = down.run;
-    let mut k: u32 = 0;
-    while k < 512 {
-        let on = run::try_side(words, r, RIGHT);
-        if on.ok {
-            return on.run;
+    for _ in 0..512 {
+        if run.try_side(RIGHT) {
+            return;
         }
-        let up = run::try_up(words, on.run);
-        r = up.run;
-        if !up.ok {
-            return r;
+        if !run.try_up() {
+            return;
         }
-        k += 1;
     }
-    run::judge(r, false)
+    run.must(false);
 }
 
 // The value of node i in order: of the tree as built, or as filled again.
@@ -89,83 +76,55 @@ fn expected(i: u32, again: bool) -> u32
 }
 
 // Every node in order, from the root to the root.
-fn walk(words: &[u32; WORDS], start: Run, again: bool) -> Run {
-    let mut r = run::home(start);
-    let mut i: u32 = 0;
-    while i < 512 {
-        r = run::value(words, r, expected(i, again));
-        r = next(words, r);
-        i += 1;
+fn walk(run: &mut Run, again: bool) {
+    run.home();
+    for i in 0..512 {
+        run.value(expected(i, again));
+        next(run);
     }
-    run::judge(r, r.at == 0)
+    let home = run.at == 0;
+    run.must(home);
 }
 
 // The first, third and fifth child of the root go.
-fn prune(words: &mut [u32; WORDS], start: Run) -> Run {
-    let mut r = run::home(start);
-    r = run::remove(words, r, FIRST);
-    r = run::must(run::try_side(words, r, FIRST));
-    r = run::remove(words, r, RIGHT);
-    r = run::must(run::try_side(words, r, RIGHT));
-    r = run::remove(words, r, RIGHT);
-    r = run::home(r);
-    run::children(words, r, 4)
+fn prune(run: &mut Run) {
+    run.home();
+    run.remove(FIRST);
+    run.go_side(FIRST);
+    run.remove(RIGHT);
+    run.go_side(RIGHT);
+    run.remove(RIGHT);
+    run.home();
+    run.children(4);
 }
 
 // A chain of 219 nodes in front of the cursor's children; the table is full then.
-fn refill(words: &mut [u32; WORDS], start: Run) -> Run {
-    let mut r = start;
-    let mut k: u32 = 0;
-    while k < 219 {
-        r = run::add(words, r, FIRST, 1000 + k, true);
-        r = run::must(run::try_side(words, r, FIRST));
-        k += 1;
+fn refill(run: &mut Run) {
+    for k in 0..219 {
+        run.add(FIRST, 1000 + k, true);
+        run.go_side(FIRST);
     }
-    run::add(words, r, FIRST, 0, false)
+    run.add(FIRST, 0, false);
 }
 
 // The five children of the root go.
-fn clear(words: &mut [u32; WORDS], start: Run) -> Run {
-    let mut r = run::home(start);
-    let mut k: u32 = 0;
-    while k < 5 {
-        r = run::remove(words, r, FIRST);
-        k += 1;
+fn clear(run: &mut Run) {
+    run.home();
+    for _ in 0..5 {
+        run.remove(FIRST);
     }
-    run::children(words, r, 0)
+    run.children(0);
 }
 
 // One round, from a root alone to a root alone.
-fn round(words: &mut [u32; WORDS], start: Run) -> Run {
-    let mut r = build(words, start);
-    r = run::add(words, r, FIRST, 0, false);
-    r = run::home(r);
-    r = run::children(words, r, 7);
-    r = walk(words, r, false);
-    r = prune(words, r);
-    r = refill(words, r);
-    r = walk(words, r, true);
-    clear(words, r)
-}
-
-// A number of rounds, from the tree of one node record.
-pub fn repeat(words: &mut [u32; WORDS], n: u32) -> Run {
-    let job = [255u8, 255, 0, 0, 0, 0, 0, 0, 0, 0, 0, 0];
-    table::records::load(&job, 0, 1, words);
-    let mut r = Run {
-        at: 0,
-        used: 1,
-        free: table::NIL,
-        operations: 0,
-        added: 0,
-        refused: 0,
-        removed: 0,
-        faults: 0,
-    };
-    let mut k: u32 = 0;
-    while k < n {
-        r = round(words, r);
-        k += 1;
-    }
-    r
+pub fn round(run: &mut Run) {
+    build(run);
+    run.add(FIRST, 0, false);
+    run.home();
+    run.children(7);
+    walk(run, false);
+    prune(run);
+    refill(run);
+    walk(run, true);
+    clear(run);
 }

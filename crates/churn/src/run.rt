@@ -3,25 +3,20 @@ ghost use Rattle.std.specs.Prelude.{◌≡◌, ◌+◌, ◌%◌, ◌^◌, ◌<�
 
 use table::{FIRST, NIL, Taken, WORDS, node, shape, walk};
 
-pub const PLACES: usize = 512;
+const PLACES: usize = 512;
 
-// The cursor, the free places, and what was counted so far.
-#[derive(Clone, Copy)]
+// The table, the cursor, the free places, and what was counted so far.
+#[derive(Drop)]
 pub struct Run {
+    words: [u32; WORDS],
     pub at: usize,
-    pub used: usize,
-    pub free: usize,
+    used: usize,
+    free: usize,
     pub operations: u64,
     pub added: u64,
     pub refused: u64,
     pub removed: u64,
     pub faults: u64,
-}
-
-fn more(n: u64) -> u64
-    ensures { result ≡ (n + 1) % 2 ^ 64 }
-{
-    std::num::wrapping_add_u64(n, 1)
 }
 
 // A place of the table.
@@ -31,144 +26,181 @@ fn place(at: usize) -> usize
     if at < PLACES { at } else { 0 }
 }
 
-// Counts a fault unless all is well.
-pub fn judge(run: Run, well: bool) -> Run
-    ensures { (result.at ≡ run.at) × ((well ≡ true → result.faults ≡ run.faults) × (well ≡ false → result.faults ≡ (run.faults + 1) % 2 ^ 64)) }
-{
-    let mut r = run;
-    if !well {
-        r.faults = more(run.faults);
+impl Run {
+    // The tree of one node record, with the cursor at its root.
+    pub fn new() -> Run {
+        let job = [255u8, 255, 0, 0, 0, 0, 0, 0, 0, 0, 0, 0];
+        let mut words = [0u32; WORDS];
+        table::records::load(&job, 0, 1, &mut words);
+        Run {
+            words: words,
+            at: 0,
+            used: 1,
+            free: NIL,
+            operations: 0,
+            added: 0,
+            refused: 0,
+            removed: 0,
+            faults: 0,
+        }
     }
-    r
-}
 
-// Goes to the root.
-pub fn home(run: Run) -> Run
-    ensures { (result.at ≡ 0) × (result.faults ≡ run.faults) }
-{
-    let mut r = run;
-    r.operations = more(run.operations);
-    r.at = 0;
-    r
-}
-
-// Where a move leads to: the run there, or the run as it was where there is no node.
-#[derive(Drop)]
-pub struct Moved {
-    pub ok: bool,
-    pub run: Run,
-}
-
-fn arrive(run: Run, to: usize) -> Moved {
-    let mut r = run;
-    r.operations = more(run.operations);
-    if to < PLACES {
-        r.at = to;
-        return Moved { ok: true, run: r };
+    // Counts an operation.
+    fn count(&mut self)
+        ensures { (self.new.at ≡ self.old.at) × (self.new.faults ≡ self.old.faults) }
+    {
+        self.operations = self.operations.wrapping_add(1);
     }
-    Moved { ok: false, run: r }
-}
 
-// Tries to go to the first child or the right sibling.
-pub fn try_side(words: &[u32; WORDS], run: Run, side: usize) -> Moved
-    requires { side < 2 }
-{
-    let to = walk::beside(words, PLACES, place(run.at), side);
-    arrive(run, to)
-}
-
-// Tries to go up.
-pub fn try_up(words: &[u32; WORDS], run: Run) -> Moved {
-    let to = walk::parent(words, PLACES, place(run.at));
-    arrive(run, to)
-}
-
-// Goes where there must be a node.
-pub fn must(m: Moved) -> Run
-    ensures { (result.at ≡ m.run.at) × ((m.ok ≡ true → result.faults ≡ m.run.faults) × (m.ok ≡ false → result.faults ≡ (m.run.faults + 1) % 2 ^ 64)) }
-{
-    judge(m.run, m.ok)
-}
-
-// The place of the parent that nodes on a side of the one at `at` have, or no place.
-fn parent_on(words: &[u32; WORDS], at: usize, side: usize) -> usize
-    requires { at < 512 }
-{
-    if side == FIRST {
-        return at;
+    // Counts a fault unless all is well.
+    pub fn must(&mut self, well: bool)
+        ensures { (self.new.at ≡ self.old.at) × ((well ≡ true → self.new.faults ≡ self.old.faults) × (well ≡ false → self.new.faults ≡ (self.old.faults + 1) % 2 ^ 64)) }
+    {
+        if !well {
+            self.faults = self.faults.wrapping_add(1);
+        }
     }
-    walk::parent(words, PLACES, at)
-}
 
-// Tries to add a node of a value on a side: there is none beside the root.
-fn attempt(words: &mut [u32; WORDS], run: Run, side: usize, value: u32) -> Taken
-    requires { side < 2 }
-{
-    let n = shape::NewNode {
-        value: value,
-        existence: 0,
-        content: 0,
-        structure: 0,
-    };
-    let at = place(run.at);
-    let above = parent_on(words, at, side);
-    if above >= PLACES {
-        return Taken {
-            place: NIL,
-            free: run.free,
-            used: run.used,
+    // Goes to the root.
+    pub fn home(&mut self)
+        ensures { (self.new.at ≡ 0) × (self.new.faults ≡ self.old.faults) }
+    {
+        self.count();
+        self.at = 0;
+    }
+
+    // Goes to a place, if it is one; tells whether.
+    fn arrive(&mut self, to: usize) -> bool {
+        self.count();
+        if to < PLACES {
+            self.at = to;
+            return true;
+        }
+        false
+    }
+
+    // Tries to go to the first child or the right sibling; tells whether there is one.
+    pub fn try_side(&mut self, side: usize) -> bool
+        requires { side < 2 }
+    {
+        let to = walk::beside(&self.words, PLACES, place(self.at), side);
+        self.arrive(to)
+    }
+
+    // Tries to go up; tells whether there is a parent.
+    pub fn try_up(&mut self) -> bool {
+        let to = walk::parent(&self.words, PLACES, place(self.at));
+        self.arrive(to)
+    }
+
+    // Goes to the first child or the right sibling, which must be there.
+    pub fn go_side(&mut self, side: usize)
+        requires { side < 2 }
+    {
+        let arrived = self.try_side(side);
+        self.must(arrived);
+    }
+
+    // Goes up, where there must be a parent.
+    pub fn go_up(&mut self) {
+        let arrived = self.try_up();
+        self.must(arrived);
+    }
+
+    // The place of the parent that nodes on a side of the one at `at` have, or no place.
+    fn parent_on(&self, at: usize, side: usize) -> usize
+        requires { at < 512 }
+    {
+        if side == FIRST {
+            return at;
+        }
+        walk::parent(&self.words, PLACES, at)
+    }
+
+    // Tries to add a node of a value on a side: there is none beside the root.
+    fn attempt(&mut self, side: usize, value: u32) -> Taken
+        requires { side < 2 }
+    {
+        let n = shape::NewNode {
+            value: value,
+            existence: 0,
+            content: 0,
+            structure: 0,
         };
+        let at = place(self.at);
+        let above = self.parent_on(at, side);
+        if above >= PLACES {
+            return Taken {
+                place: NIL,
+                free: self.free,
+                used: self.used,
+            };
+        }
+        shape::add(
+            &mut self.words,
+            PLACES,
+            self.used,
+            self.free,
+            at,
+            side,
+            above,
+            n,
+        )
     }
-    shape::add(words, PLACES, run.used, run.free, at, side, above, n)
-}
 
-// Adds a node of a value on a side, which must come out as the last argument says.
-pub fn add(words: &mut [u32; WORDS], run: Run, side: usize, value: u32, well: bool) -> Run
-    requires { side < 2 }
-{
-    let got = attempt(words, run, side, value);
-    let ok = got.place < PLACES;
-    let mut r = run;
-    r.operations = more(run.operations);
-    r.used = got.used;
-    r.free = got.free;
-    if ok {
-        r.added = more(run.added);
-    } else {
-        r.refused = more(run.refused);
+    // Adds a node of a value on a side, which must come out as the last argument says.
+    pub fn add(&mut self, side: usize, value: u32, well: bool)
+        requires { side < 2 }
+    {
+        let got = self.attempt(side, value);
+        let ok = got.place < PLACES;
+        self.count();
+        self.used = got.used;
+        self.free = got.free;
+        if ok {
+            self.added = self.added.wrapping_add(1);
+        } else {
+            self.refused = self.refused.wrapping_add(1);
+        }
+        self.must(ok == well);
     }
-    judge(r, ok == well)
-}
 
-// Removes what must stand on a side.
-pub fn remove(words: &mut [u32; WORDS], run: Run, side: usize) -> Run
-    requires { side < 2 }
-{
-    let at = place(run.at);
-    let old = walk::beside(words, PLACES, at, side);
-    let mut r = run;
-    r.operations = more(run.operations);
-    if old >= PLACES {
-        return judge(r, false);
+    // Removes what must stand on a side.
+    pub fn remove(&mut self, side: usize)
+        requires { side < 2 }
+    {
+        let at = place(self.at);
+        let old = walk::beside(&self.words, PLACES, at, side);
+        self.count();
+        if old >= PLACES {
+            self.must(false);
+            return;
+        }
+        self.removed = self.removed.wrapping_add(1);
+        let mut since = [0u16; PLACES];
+        self.free = shape::remove(
+            &mut self.words,
+            PLACES,
+            self.free,
+            at,
+            side,
+            old,
+            &mut since,
+            true,
+        );
     }
-    r.removed = more(run.removed);
-    let mut since = [0u16; PLACES];
-    r.free = shape::remove(words, PLACES, run.free, at, side, old, &mut since, true);
-    r
-}
 
-// The node must have a number of children.
-pub fn children(words: &[u32; WORDS], run: Run, n: u32) -> Run {
-    let found = node::children(words, PLACES, place(run.at));
-    let mut r = run;
-    r.operations = more(run.operations);
-    judge(r, found == n)
-}
+    // The node must have a number of children.
+    pub fn children(&mut self, n: u32) {
+        let found = node::children(&self.words, PLACES, place(self.at));
+        self.count();
+        self.must(found == n);
+    }
 
-// The node must have a value.
-pub fn value(words: &[u32; WORDS], run: Run, v: u32) -> Run {
-    let found = node::value(words, PLACES, place(run.at));
-    let mut r = run;
-    r.operations = more(run.operations);
-    judge(r, found == v)
+    // The node must have a value.
+    pub fn value(&mut self, v: u32) {
+        let found = node::value(&self.words, PLACES, place(self.at));
+        self.count();
+        self.must(found == v);
+    }
 }
