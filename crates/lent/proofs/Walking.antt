@@ -64,14 +64,6 @@ admitted_due s d e =
     let b = ltb 0 s.due in
     ltb-true 0 s.due (both a b (both (a && b) (label_fits s.lo s.hi (cell_of d).label) e).0).1
 
--- one place more has no mark
-pub unmarked_more : (b : List ℕ) (x : ℕ) → x < length b → ((z : ℕ) → z < x → get_or b z 0 ≡ 0) → (z : ℕ) → z < x + 1 → get_or (set b x 0) z 0 ≡ 0
-unmarked_more b x long h z lt = go (ℕ_discrete z x)
-  where
-    go : Dec (z ≡ x) → get_or (set b x 0) z 0 ≡ 0
-    go (yes q) = rw q (get_or-set_same b x 0 0 long)
-    go (no q) = get_or-set_other b x z 0 0 q ∙ h z (omega arith)
-
 -- at each depth stand the siblings due and the bound of the list that is left there
 abbrev Chain : Table → ℕ → List ℕ → List ℕ → Trail → Type 0
 Chain m n b e home = Unit

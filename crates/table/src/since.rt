@@ -37,7 +37,7 @@ fn clear(words: &mut [u32], places: usize, x: usize, since: &mut [u16])
     ensures { Clears places (cells words.old) (cells words.new) x since.old since.new }
 {
     let mut next = x;
-    for _passed in 0..places {
+    for _left in (0..places).rev() {
         if next >= places {
             return;
         }

@@ -1,8 +1,7 @@
--- The invariant: the walk has come to where next leads, and at most as many places wait as were not passed. Assumes nothing.
+-- The invariant: the walk has come to where next leads, and at most `left` places wait. Assumes nothing.
 use mathlib.Core.Path.{◌≡◌, refl, subst, ◌∙◌}
 use mathlib.Core.Logic.{inl, inr}
-use Prim.Native.Nat.{suc, ◌+◌, ◌-◌}
-use native.Mathlib.Numerals.{unary_clauses}
+use Prim.Native.Nat.{suc, ◌-◌}
 use native.Mathlib.Omega.{arith}
 use lib.ListN.{length-set}
 use Rattle.table.specs.Cells.{cells}
@@ -11,28 +10,29 @@ use Rattle.table.proofs.Effects.{popped_behind}
 use Rattle.table.proofs.Forgetting.{Going, going_start, going_on, going_done}
 use Rattle.table.proofs.since.clear.Goals as goal
 
-pub loop-passed-init : goal.loop-passed-init
-loop-passed-init c = let a = c.args in (
+pub loop-left-init : goal.loop-left-init
+loop-left-init c = let a = c.args in (
   refl,
   refl,
   record { same = λ _ _. refl },
-  λ used s room f e once. simp unary_clauses (going_start (omega (arith, c.requires.1.0)) room s once (cells a.words.now) a.since.now f e),
+  λ used s room f e once. going_start (omega (arith, c.requires.1.0)) room s once (cells a.words.now) a.since.now f e,
 )
 
 pub returns-then-next-places : goal.returns-then-next-places
-returns-then-next-places c = let i = c.loop-passed.invariant in
+returns-then-next-places c = let i = c.loop-left.invariant in
     record {
       size = i.1;
       behind = i.2;
       done = λ used s room f e once. going_done (omega (arith, c.requires.1.0)) room s once _ _ (i.3 used s room f e once) (inr c.if-next-places.true);
     }
 
-pub loop-passed-preserved : goal.loop-passed-preserved
-loop-passed-preserved c = let i = c.loop-passed.invariant in
+pub loop-left-preserved : goal.loop-left-preserved
+loop-left-preserved c = let i = c.loop-left.invariant in
+    let l = c.loop-left._left in
     let p = c.pop-next.ensures in
-    let one : c.args.places - c.loop-passed._passed ≡ suc (c.args.places - (c.loop-passed._passed + 1)) = omega (arith, c.loop-passed-test.true) in (
+    let one : l ≡ suc (l - 1) = omega (arith, c.loop-left-test.true) in (
       c.pop-next.auto.words ∙ i.0,
-      length-set c.loop-passed.since _ _ ∙ i.1,
+      length-set c.loop-left.since _ _ ∙ i.1,
       then_behind i.2 (popped_behind p),
       λ used s room f e once.
           going_on (omega (arith, c.requires.1.0)) room s once _ _ (omega (arith, i.1, c.requires.1.1)) c.if-next-places.false
@@ -40,10 +40,10 @@ loop-passed-preserved c = let i = c.loop-passed.invariant in
     )
 
 pub returns : goal.returns
-returns c = let i = c.loop-passed.invariant in
+returns c = let i = c.loop-left.invariant in
     record {
       size = i.1;
       behind = i.2;
       done = λ used s room f e once.
-          going_done (omega (arith, c.requires.1.0)) room s once _ _ (i.3 used s room f e once) (inl (omega (arith, c.loop-passed-test.false)));
+          going_done (omega (arith, c.requires.1.0)) room s once _ _ (i.3 used s room f e once) (inl (omega (arith, c.loop-left-test.false)));
     }
