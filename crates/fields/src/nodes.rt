@@ -78,7 +78,8 @@ fn label_ok(job: &[u8], base: usize, i: usize, top: u8) -> bool
         & not_above(own.existence, own.structure)
 }
 
-// Where the search for a child of p starts: behind the last one that was passed, or behind p where none was.
+// Where the search for a child of p starts: behind the last one that was passed, or behind p where none was, for which 0 stands, since the root is nobody's child: so it is
+// the later of the two.
 fn start(last: &[u16], p: usize) -> usize
     requires { p < length last.now }
     ensures { result ≡ behind (get_or last.now p 0) p }
@@ -169,11 +170,12 @@ fn pass(job: &[u8], base: usize, last: &mut [u16], i: usize)
 {
     if i != 0 {
         let p = parent_at(job, base, i);
+        // i is below MAX_NODES
         last[p] = i as u16;
     }
 }
 
-// Check 6, where `top` is the highest level: the first of `count` nodes that fails, or the count.
+// Check 6, where `top` is the highest level: the first of `count` nodes that fails, or the count. A search of its own, since its test keeps the last children.
 pub fn first_fault(job: &[u8], base: usize, count: usize, top: u8) -> usize
     requires { Linked job.now base count }
     ensures { result ≡ first_fault (node_in top job.now base) count 0 }

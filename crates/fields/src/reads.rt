@@ -34,7 +34,7 @@ pub(crate) fn rest_at(job: &[u8], at: usize) -> u32
     full_at(job, at) / 256
 }
 
-// Eight bytes.
+// Eight bytes, as two times four.
 pub fn double_at(job: &[u8], at: usize) -> u64
     requires { at + 8 ≤ length job.now }
     ensures { result ≡ double job.now at }

@@ -11,7 +11,7 @@ use crate::rows::{Row, table};
 use crate::scan::first_that_fails;
 use rules::limits::{COMMANDS, RECORD_SIZE};
 
-// The commands that say which record comes next.
+// The commands that say which record comes next. No enum: a record's byte may hold any number, and the step goes by ranges of commands.
 pub const IF: u8 = 2;
 
 pub const ELSE: u8 = 3;
@@ -23,7 +23,7 @@ pub const END: u8 = 5;
 // The if that comes back.
 pub const BACK: u8 = 17;
 
-// Operator 0 is the left side alone. The kind of a variable is 1.
+// Operator 0 is the left side alone. The kind of a variable is 1. Numbers for the same reason.
 pub const ALONE: u8 = 0;
 
 pub const MAX_OPERATOR: u8 = 5;
@@ -80,6 +80,7 @@ fn operand_ok(job: &[u8], kind: u8, at: usize, variables: usize) -> bool
     ensures { result ≡ operand_rule variables kind (full job.now at) }
 {
     if kind == VARIABLE {
+        // no number of 32 bits is lost, and there is no `From` for it
         (full_at(job, at) as usize) < variables
     } else {
         kind <= MAX_KIND

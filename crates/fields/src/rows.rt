@@ -80,7 +80,7 @@ const ROWS: [Row; COMMANDS] = [
     NOTHING, // 19 last child
 ];
 
-// The same where records hold no sets, by number.
+// The same where records hold no sets, by number: a table too, since one that is made from the other costs at each use.
 const SETLESS: [Row; COMMANDS] = [
     NOTHING, // 0
     ASSIGNMENT, // 1

@@ -17,12 +17,13 @@ pub const NODE_SIZE: usize = 12;
 
 pub const RECORD_SIZE: usize = 16;
 
-// The parent of record 0, the root.
+// The parent of record 0, the root: two bytes of a job say so, and they have no other way to say that there is none.
 pub const NO_PARENT: usize = 65535;
 
 // The rows of the table of commands.
 pub const COMMANDS: usize = 20;
 
+// The numbers of the ways in which a job is turned back. No enum: they are printed, and handed to C, as the numbers that they are.
 pub const BAD_LENGTH: u8 = 1;
 
 pub const BAD_OFFSETS: u8 = 2;
@@ -60,7 +61,7 @@ pub const MAX_RUNS: usize = 8;
 
 pub const TURN_STEPS: usize = 5000;
 
-// The numbers of the stops: a rule of information flow, no such node, a full table, a full board, a used-up budget, a result outside signed
+// The numbers of the stops, numbers for the same reason: a rule of information flow, no such node, a full table, a full board, a used-up budget, a result outside signed
 // 32 bits.
 pub const FLOW: u8 = 21;
 
