@@ -556,15 +556,9 @@ module _ (h : Held) (sc : Script h) (x : Slices) (k : List ℕ) (r : Running) (s
     unfolding fields_of
     command_is = sym coded
 
-    -- its expression, where it has one, from the fields g that were read
-    module _ (g : Fields) (got : g ≡ fields_at h r.at) where
-      pub expressed : (row_of c).expression ≡ true → Readable x.words x.levels x.values h.places h.vars r.memory × Reads h.vars g
-      expressed e = (readable, subst (Reads h.vars) (sym got) (reads h sc r.at inside (ap (λ (n : ℕ). (row_of n).expression) command_is ∙ e)))
-
-      pub evaluated : {v : Valued} → Evaluates x.words x.levels x.values h.places h.vars r.memory (expression_from g) v
-          → Evaluates x.words x.levels x.values h.places h.vars r.memory (expression_from (fields_at h r.at)) v
-      evaluated {v} e =
-          subst (λ (k : Fields). Evaluates x.words x.levels x.values h.places h.vars r.memory (expression_from k) v) got e
+    -- its expression, where it has one
+    pub expressed : (row_of c).expression ≡ true → Readable x.words x.levels x.values h.places h.vars r.memory × Reads h.vars (fields_at h r.at)
+    expressed e = (readable, reads h sc r.at inside (ap (λ (n : ℕ). (row_of n).expression) command_is ∙ e))
 
     pub target_by : c ≡ 1 → (fields_at h r.at).target < h.vars
     unfolding rows fields_of

@@ -56,10 +56,8 @@ fn step(
         (slices words.new levels.now values.new lines.new) marks.old marks.new r.old
         (stepped result r.new) }
 {
-    let v = *r;
-    let a = turn(v, job, plan, levels, f, words, values, lines, marks);
-    let t = a.running;
-    *r = t;
+    let a = turn(*r, job, plan, levels, f, words, values, lines, marks);
+    *r = a.running;
     a.stop
 }
 
@@ -88,12 +86,6 @@ fn run(
     ending
 }
 
-fn halted(stop: u8, running: Running) -> Stepped
-    ensures { result ≡ stepped stop running }
-{
-    Stepped { stop, running }
-}
-
 // A run from where a running record stands.
 pub fn run_from(
     start: Running,
@@ -113,5 +105,5 @@ pub fn run_from(
 {
     let mut r = start;
     let stop = run(&mut r, job, plan, levels, f, words, values, lines, marks);
-    halted(stop, r)
+    halt(r, stop)
 }

@@ -3,15 +3,17 @@ ghost use Rattle.std.specs.Prelude.{◌≡◌, ◌+◌, ◌-◌, ◌%◌, ◌≤
 ghost use Rattle.rules.specs.Limits.{record_size};
 ghost use Rattle.rules.specs.Bytes.{record_place};
 ghost use Rattle.rules.specs.Script.{content_set, list_set, cover_set};
-ghost use Rattle.fields.specs.Fields.{fields_of};
-ghost use Rattle.actions.specs.Shows.{slices};
+ghost use Rattle.fields.specs.Fields.{fields_of, expression_from};
+ghost use Rattle.actions.specs.Shows.{slices, Readable, Reads};
+ghost use Rattle.actions.specs.Acts.{Evaluates};
 ghost use Rattle.interpreter.specs.Steps.{held, Script, Safe, Carries};
 
 use actions::control::{
     FINISHED, Running, Stepped, come_back, enter_back, enter_if, enter_while, halt, jump, leave,
     onward,
 };
-use actions::evaluate::evaluate;
+use actions::evaluate::{Valued, evaluate};
+use actions::memory::Memory;
 use actions::sets::{content_set, cover_set, list_set};
 use actions::{guards, moves, nodes, variables};
 use fields::records::fields_at;
@@ -26,19 +28,36 @@ pub struct Frame {
     pub places: usize,
 }
 
-// The target of record i, or its mark.
+// What the expression of record i comes to, and its level. It stands in each arm that has one: one code for the seven makes an insertion slower.
+#[inline(always)]
+fn value_at(
+    job: &[u8],
+    f: Frame,
+    i: usize,
+    levels: &[u8],
+    values: &[i32],
+    words: &[u32],
+    m: Memory,
+) -> Valued
+    requires { (record_place f.script i + record_size ≤ length job.now)
+        × (Readable words.now levels.now values.now f.places f.vars m × Reads f.vars (fields_of job.now (record_place f.script i))) }
+    ensures { Evaluates words.now levels.now values.now f.places f.vars m (expression_from (fields_of job.now (record_place f.script i))) result }
+{
+    evaluate(
+        fields_at(job, f.script, i),
+        levels,
+        values,
+        f.vars,
+        words,
+        f.places,
+        m,
+    )
+}
+
+// The target of record i, or its mark, or its readers.
 fn target(job: &[u8], base: usize, i: usize) -> u8
     requires { record_place base i + record_size ≤ length job.now }
     ensures { result ≡ (fields_of job.now (record_place base i)).target }
-{
-    let f = fields_at(job, base, i);
-    f.target
-}
-
-// The readers of the line that record i puts out.
-fn readers_at(job: &[u8], base: usize, i: usize) -> u8
-    requires { record_place base i + record_size ≤ length job.now }
-    ensures { result ≡ (fields_of job.now (record_place base i)).target % 256 }
 {
     let f = fields_at(job, base, i);
     f.target
@@ -76,7 +95,7 @@ fn side(command: u8, first: u8) -> usize
     requires { first ≤ command }
     ensures { result ≡ command - first }
 {
-    (command - first) as usize
+    usize::from(command - first)
 }
 
 // What the plan says of the record that comes next, done; the mark behind the last record is the match's rest.
@@ -100,7 +119,6 @@ pub fn carry_out(
 {
     let at = r.at;
     let base = f.script;
-    let vars = f.vars;
     let places = f.places;
     let m = r.memory;
     let pc = guards::top(r.guards);
@@ -109,15 +127,7 @@ pub fn carry_out(
     match command {
         0 => onward(r, m),
         1 => variables::assign(
-            evaluate(
-                fields_at(job, base, at),
-                levels,
-                values,
-                vars,
-                words,
-                places,
-                m,
-            ),
+            value_at(job, f, at, levels, values, words, m),
             target(job, base, at),
             levels,
             values,
@@ -126,58 +136,26 @@ pub fn carry_out(
         ),
         2 => enter_if(
             r,
-            evaluate(
-                fields_at(job, base, at),
-                levels,
-                values,
-                vars,
-                words,
-                places,
-                m,
-            ),
+            value_at(job, f, at, levels, values, words, m),
             next(word),
         ),
         3 => jump(r, next(word)),
         4 => enter_while(
             r,
-            evaluate(
-                fields_at(job, base, at),
-                levels,
-                values,
-                vars,
-                words,
-                places,
-                m,
-            ),
+            value_at(job, f, at, levels, values, words, m),
             next(word),
         ),
         5 => leave(r, next(word)),
         6 => variables::output(
-            evaluate(
-                fields_at(job, base, at),
-                levels,
-                values,
-                vars,
-                words,
-                places,
-                m,
-            ),
-            readers_at(job, base, at),
+            value_at(job, f, at, levels, values, words, m),
+            target(job, base, at),
             lines,
             pc,
             r,
         ),
         7..=10 => moves::go(command, words, places, pc, r),
         11..=12 => nodes::insert_on(
-            evaluate(
-                fields_at(job, base, at),
-                levels,
-                values,
-                vars,
-                words,
-                places,
-                m,
-            ),
+            value_at(job, f, at, levels, values, words, m),
             content_at(job, base, at),
             list_at(job, base, at),
             side(command, 11),
@@ -188,15 +166,7 @@ pub fn carry_out(
         ),
         13..=14 => nodes::remove(side(command, 13), words, places, pc, r, marks),
         15 => nodes::write(
-            evaluate(
-                fields_at(job, base, at),
-                levels,
-                values,
-                vars,
-                words,
-                places,
-                m,
-            ),
+            value_at(job, f, at, levels, values, words, m),
             words,
             places,
             pc,
@@ -205,15 +175,7 @@ pub fn carry_out(
         16 => moves::raise(cover_at(job, base, at), places, pc, r),
         17 => enter_back(
             r,
-            evaluate(
-                fields_at(job, base, at),
-                levels,
-                values,
-                vars,
-                words,
-                places,
-                m,
-            ),
+            value_at(job, f, at, levels, values, words, m),
             next(word),
             places,
             marks,

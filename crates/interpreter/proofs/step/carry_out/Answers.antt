@@ -4,7 +4,7 @@ use Prim.Native.Nat.{ℕ}
 use native.Mathlib.Omega.{arith}
 use Rattle.rules.specs.Script.{rows, row_of}
 use Rattle.actions.proofs.Doing.{passes_on}
-use Rattle.interpreter.proofs.Commands.{timely, at_cursor, record_there, known_by, outside_by, plain_end, known_back, inner_back, goal_by, as_step, as_end, expressed, evaluated, target_by, mark_by, insert_row, from_seven, from_twenty, skips, assigns, ifs, elses, whiles, ends, backs, comes_back, outputs, goes, goes_left, goes_last, inserts, removes, writes, raises}
+use Rattle.interpreter.proofs.Commands.{timely, at_cursor, record_there, known_by, outside_by, plain_end, known_back, inner_back, goal_by, as_step, as_end, expressed, target_by, mark_by, insert_row, from_seven, from_twenty, skips, assigns, ifs, elses, whiles, ends, backs, comes_back, outputs, goes, goes_left, goes_last, inserts, removes, writes, raises}
 use Rattle.interpreter.proofs.step.carry_out.Goals as goal
 
 pub bounds-plan-at : goal.bounds-plan-at
@@ -16,16 +16,11 @@ onward-requires c = let p = c.requires in
     let i = known_by _ p.0 _ _ _ p.1.0 _ c.code-command.ensures (omega (arith, c.in-0.is)) in
     timely _ p.0 _ _ _ p.1.0 i.inside p.1.1
 
-pub fields_at-requires : goal.fields_at-requires
-fields_at-requires c = let p = c.requires in
-    let i = known_by _ p.0 _ _ _ p.1.0 _ c.code-command.ensures (omega (arith, c.in-1.is)) in
-    record_there _ p.0 _ _ _ p.1.0 i.inside
-
-pub evaluate-requires : goal.evaluate-requires
+pub value_at-requires : goal.value_at-requires
 unfolding rows
-evaluate-requires c = let p = c.requires in
+value_at-requires c = let p = c.requires in
     let i = known_by _ p.0 _ _ _ p.1.0 _ c.code-command.ensures (omega (arith, c.in-1.is)) in
-    expressed _ p.0 _ _ _ p.1.0 i.inside _ i.coded _ c.fields_at.ensures (ap (λ (n : ℕ). (row_of n).expression) c.in-1.is)
+    (record_there _ p.0 _ _ _ p.1.0 i.inside, expressed _ p.0 _ _ _ p.1.0 i.inside _ i.coded (ap (λ (n : ℕ). (row_of n).expression) c.in-1.is))
 
 pub target-requires : goal.target-requires
 target-requires c = let p = c.requires in
@@ -38,16 +33,11 @@ assign-requires c = let p = c.requires in
     let l = target_by _ p.0 _ _ _ p.1.0 i.inside _ i.coded c.in-1.is in
     (timely _ p.0 _ _ _ p.1.0 i.inside p.1.1, (omega (arith, l, c.target.ensures, p.1.0.levelled), omega (arith, l, c.target.ensures, p.1.0.valued)))
 
-pub fields_at-requires-in-2 : goal.fields_at-requires-in-2
-fields_at-requires-in-2 c = let p = c.requires in
-    let i = known_by _ p.0 _ _ _ p.1.0 _ c.code-command.ensures (omega (arith, c.in-2.is)) in
-    record_there _ p.0 _ _ _ p.1.0 i.inside
-
-pub evaluate-requires-in-2 : goal.evaluate-requires-in-2
+pub value_at-requires-in-2 : goal.value_at-requires-in-2
 unfolding rows
-evaluate-requires-in-2 c = let p = c.requires in
+value_at-requires-in-2 c = let p = c.requires in
     let i = known_by _ p.0 _ _ _ p.1.0 _ c.code-command.ensures (omega (arith, c.in-2.is)) in
-    expressed _ p.0 _ _ _ p.1.0 i.inside _ i.coded _ c.fields_at-in-2.ensures (ap (λ (n : ℕ). (row_of n).expression) c.in-2.is)
+    (record_there _ p.0 _ _ _ p.1.0 i.inside, expressed _ p.0 _ _ _ p.1.0 i.inside _ i.coded (ap (λ (n : ℕ). (row_of n).expression) c.in-2.is))
 
 pub enter_if-requires : goal.enter_if-requires
 enter_if-requires c = let p = c.requires in
@@ -59,16 +49,11 @@ jump-requires c = let p = c.requires in
     let i = known_by _ p.0 _ _ _ p.1.0 _ c.code-command.ensures (omega (arith, c.in-3.is)) in
     timely _ p.0 _ _ _ p.1.0 i.inside p.1.1
 
-pub fields_at-requires-in-4 : goal.fields_at-requires-in-4
-fields_at-requires-in-4 c = let p = c.requires in
-    let i = known_by _ p.0 _ _ _ p.1.0 _ c.code-command.ensures (omega (arith, c.in-4.is)) in
-    record_there _ p.0 _ _ _ p.1.0 i.inside
-
-pub evaluate-requires-in-4 : goal.evaluate-requires-in-4
+pub value_at-requires-in-4 : goal.value_at-requires-in-4
 unfolding rows
-evaluate-requires-in-4 c = let p = c.requires in
+value_at-requires-in-4 c = let p = c.requires in
     let i = known_by _ p.0 _ _ _ p.1.0 _ c.code-command.ensures (omega (arith, c.in-4.is)) in
-    expressed _ p.0 _ _ _ p.1.0 i.inside _ i.coded _ c.fields_at-in-4.ensures (ap (λ (n : ℕ). (row_of n).expression) c.in-4.is)
+    (record_there _ p.0 _ _ _ p.1.0 i.inside, expressed _ p.0 _ _ _ p.1.0 i.inside _ i.coded (ap (λ (n : ℕ). (row_of n).expression) c.in-4.is))
 
 pub enter_while-requires : goal.enter_while-requires
 enter_while-requires c = let p = c.requires in
@@ -80,19 +65,14 @@ leave-requires c = let p = c.requires in
     let i = known_by _ p.0 _ _ _ p.1.0 _ c.code-command.ensures (omega (arith, c.in-5.is)) in
     timely _ p.0 _ _ _ p.1.0 i.inside p.1.1
 
-pub fields_at-requires-in-6 : goal.fields_at-requires-in-6
-fields_at-requires-in-6 c = let p = c.requires in
-    let i = known_by _ p.0 _ _ _ p.1.0 _ c.code-command.ensures (omega (arith, c.in-6.is)) in
-    record_there _ p.0 _ _ _ p.1.0 i.inside
-
-pub evaluate-requires-in-6 : goal.evaluate-requires-in-6
+pub value_at-requires-in-6 : goal.value_at-requires-in-6
 unfolding rows
-evaluate-requires-in-6 c = let p = c.requires in
+value_at-requires-in-6 c = let p = c.requires in
     let i = known_by _ p.0 _ _ _ p.1.0 _ c.code-command.ensures (omega (arith, c.in-6.is)) in
-    expressed _ p.0 _ _ _ p.1.0 i.inside _ i.coded _ c.fields_at-in-6.ensures (ap (λ (n : ℕ). (row_of n).expression) c.in-6.is)
+    (record_there _ p.0 _ _ _ p.1.0 i.inside, expressed _ p.0 _ _ _ p.1.0 i.inside _ i.coded (ap (λ (n : ℕ). (row_of n).expression) c.in-6.is))
 
-pub readers_at-requires : goal.readers_at-requires
-readers_at-requires c = let p = c.requires in
+pub target-requires-in-6 : goal.target-requires-in-6
+target-requires-in-6 c = let p = c.requires in
     let i = known_by _ p.0 _ _ _ p.1.0 _ c.code-command.ensures (omega (arith, c.in-6.is)) in
     record_there _ p.0 _ _ _ p.1.0 i.inside
 
@@ -101,16 +81,11 @@ output-requires c = let p = c.requires in
     let i = known_by _ p.0 _ _ _ p.1.0 _ c.code-command.ensures (omega (arith, c.in-6.is)) in
     (timely _ p.0 _ _ _ p.1.0 i.inside p.1.1, p.1.0.room)
 
-pub fields_at-requires-in-15 : goal.fields_at-requires-in-15
-fields_at-requires-in-15 c = let p = c.requires in
-    let i = known_by _ p.0 _ _ _ p.1.0 _ c.code-command.ensures (omega (arith, c.in-15.is)) in
-    record_there _ p.0 _ _ _ p.1.0 i.inside
-
-pub evaluate-requires-in-15 : goal.evaluate-requires-in-15
+pub value_at-requires-in-15 : goal.value_at-requires-in-15
 unfolding rows
-evaluate-requires-in-15 c = let p = c.requires in
+value_at-requires-in-15 c = let p = c.requires in
     let i = known_by _ p.0 _ _ _ p.1.0 _ c.code-command.ensures (omega (arith, c.in-15.is)) in
-    expressed _ p.0 _ _ _ p.1.0 i.inside _ i.coded _ c.fields_at-in-15.ensures (ap (λ (n : ℕ). (row_of n).expression) c.in-15.is)
+    (record_there _ p.0 _ _ _ p.1.0 i.inside, expressed _ p.0 _ _ _ p.1.0 i.inside _ i.coded (ap (λ (n : ℕ). (row_of n).expression) c.in-15.is))
 
 pub write-requires : goal.write-requires
 write-requires c = let p = c.requires in
@@ -127,16 +102,11 @@ raise-requires c = let p = c.requires in
     let i = known_by _ p.0 _ _ _ p.1.0 _ c.code-command.ensures (omega (arith, c.in-16.is)) in
     (timely _ p.0 _ _ _ p.1.0 i.inside p.1.1, p.1.0.cursor)
 
-pub fields_at-requires-in-17 : goal.fields_at-requires-in-17
-fields_at-requires-in-17 c = let p = c.requires in
-    let i = known_by _ p.0 _ _ _ p.1.0 _ c.code-command.ensures (omega (arith, c.in-17.is)) in
-    record_there _ p.0 _ _ _ p.1.0 i.inside
-
-pub evaluate-requires-in-17 : goal.evaluate-requires-in-17
+pub value_at-requires-in-17 : goal.value_at-requires-in-17
 unfolding rows
-evaluate-requires-in-17 c = let p = c.requires in
+value_at-requires-in-17 c = let p = c.requires in
     let i = known_by _ p.0 _ _ _ p.1.0 _ c.code-command.ensures (omega (arith, c.in-17.is)) in
-    expressed _ p.0 _ _ _ p.1.0 i.inside _ i.coded _ c.fields_at-in-17.ensures (ap (λ (n : ℕ). (row_of n).expression) c.in-17.is)
+    (record_there _ p.0 _ _ _ p.1.0 i.inside, expressed _ p.0 _ _ _ p.1.0 i.inside _ i.coded (ap (λ (n : ℕ). (row_of n).expression) c.in-17.is))
 
 pub enter_back-requires : goal.enter_back-requires
 enter_back-requires c = let p = c.requires in
@@ -164,15 +134,10 @@ go-requires c = let p = c.requires in
     let m = c.in-7-to-10.in_default-own.rest in
     (timely _ p.0 _ _ _ p.1.0 i.inside p.1.1, (at_cursor _ p.0 _ _ _ p.1.0 i.inside, (from_seven _ m.0.0.0.0.0.0.0.0.0.0.0.0.1 m.0.0.0.0.0.0.0.0.0.0.0.1 m.0.0.0.0.0.0.0.0.0.0.1 m.0.0.0.0.0.0.0.0.0.1 m.0.0.0.0.0.0.0.0.1 m.0.0.0.0.0.0.0.1 m.0.0.0.0.0.0.1, omega (arith, c.in-7-to-10.if-command-lt11-own.true))))
 
-pub fields_at-requires-in-11-to-12 : goal.fields_at-requires-in-11-to-12
-fields_at-requires-in-11-to-12 c = let p = c.requires in
+pub value_at-requires-in-11-to-12 : goal.value_at-requires-in-11-to-12
+value_at-requires-in-11-to-12 c = let p = c.requires in
     let i = known_by _ p.0 _ _ _ p.1.0 _ c.code-command.ensures (omega (arith, c.in-11-to-12.if-command-lt13-own.true)) in
-    record_there _ p.0 _ _ _ p.1.0 i.inside
-
-pub evaluate-requires-in-11-to-12 : goal.evaluate-requires-in-11-to-12
-evaluate-requires-in-11-to-12 c = let p = c.requires in
-    let i = known_by _ p.0 _ _ _ p.1.0 _ c.code-command.ensures (omega (arith, c.in-11-to-12.if-command-lt13-own.true)) in
-    expressed _ p.0 _ _ _ p.1.0 i.inside _ i.coded _ c.fields_at-in-11-to-12.ensures (insert_row _ c.in-11-to-12.if-command-lt11-own.false c.in-11-to-12.if-command-lt13-own.true).1
+    (record_there _ p.0 _ _ _ p.1.0 i.inside, expressed _ p.0 _ _ _ p.1.0 i.inside _ i.coded (insert_row _ c.in-11-to-12.if-command-lt11-own.false c.in-11-to-12.if-command-lt13-own.true).1)
 
 pub content_at-requires : goal.content_at-requires
 content_at-requires c = let p = c.requires in
@@ -208,12 +173,12 @@ returns-in-1 c = let p = c.requires in
     let k = i.coded in
     let l = target_by _ p.0 _ _ _ p.1.0 i.inside _ k c.in-1.is in
     as_step _ _ _ _ _ _ _ i.inside (assigns _ p.0 _ _ _ p.1.0 i.inside _ k _ refl _ _ _ c.top-pc.ensures (record { words = refl; levels = refl; values = c.values-1.given; board = refl }) _ c.target.ensures c.in-1.is
-    (c.assign.ensures _ _ _ _ _ p.1.0.cursor (omega (arith, l, c.target.ensures)) p.1.0.valued (evaluated _ p.0 _ _ _ p.1.0 i.inside _ i.coded _ c.fields_at.ensures c.evaluate.ensures)))
+    (c.assign.ensures _ _ _ _ _ p.1.0.cursor (omega (arith, l, c.target.ensures)) p.1.0.valued c.value_at.ensures))
 
 pub returns-in-2 : goal.returns-in-2
 returns-in-2 c = let p = c.requires in
     let i = known_by _ p.0 _ _ _ p.1.0 _ c.code-command.ensures (omega (arith, c.in-2.is)) in
-    as_step _ _ _ _ _ _ _ i.inside (ifs _ p.0 _ _ _ p.1.0 i.inside _ i.coded _ (goal_by _ p.0 _ _ _ p.1.0 _ c.code-command.ensures i.inside _ c.next.ensures) _ _ (evaluated _ p.0 _ _ _ p.1.0 i.inside _ i.coded _ c.fields_at-in-2.ensures c.evaluate-in-2.ensures) c.in-2.is c.enter_if.ensures)
+    as_step _ _ _ _ _ _ _ i.inside (ifs _ p.0 _ _ _ p.1.0 i.inside _ i.coded _ (goal_by _ p.0 _ _ _ p.1.0 _ c.code-command.ensures i.inside _ c.next.ensures) _ _ c.value_at-in-2.ensures c.in-2.is c.enter_if.ensures)
 
 pub returns-in-3 : goal.returns-in-3
 returns-in-3 c = let p = c.requires in
@@ -223,7 +188,7 @@ returns-in-3 c = let p = c.requires in
 pub returns-in-4 : goal.returns-in-4
 returns-in-4 c = let p = c.requires in
     let i = known_by _ p.0 _ _ _ p.1.0 _ c.code-command.ensures (omega (arith, c.in-4.is)) in
-    as_step _ _ _ _ _ _ _ i.inside (whiles _ p.0 _ _ _ p.1.0 i.inside _ i.coded _ (goal_by _ p.0 _ _ _ p.1.0 _ c.code-command.ensures i.inside _ c.next-in-4.ensures) _ _ (evaluated _ p.0 _ _ _ p.1.0 i.inside _ i.coded _ c.fields_at-in-4.ensures c.evaluate-in-4.ensures) c.in-4.is c.enter_while.ensures)
+    as_step _ _ _ _ _ _ _ i.inside (whiles _ p.0 _ _ _ p.1.0 i.inside _ i.coded _ (goal_by _ p.0 _ _ _ p.1.0 _ c.code-command.ensures i.inside _ c.next-in-4.ensures) _ _ c.value_at-in-4.ensures c.in-4.is c.enter_while.ensures)
 
 pub returns-in-5 : goal.returns-in-5
 returns-in-5 c = let p = c.requires in
@@ -233,14 +198,14 @@ returns-in-5 c = let p = c.requires in
 pub returns-in-6 : goal.returns-in-6
 returns-in-6 c = let p = c.requires in
     let i = known_by _ p.0 _ _ _ p.1.0 _ c.code-command.ensures (omega (arith, c.in-6.is)) in
-    as_step _ _ _ _ _ _ _ i.inside (outputs _ p.0 _ _ _ p.1.0 i.inside _ i.coded _ refl _ _ _ c.top-pc.ensures (record { words = refl; levels = refl; values = refl; board = c.lines-1.given }) _ c.readers_at.ensures c.in-6.is
-    (c.output.ensures _ _ _ _ _ _ p.1.0.cursor (evaluated _ p.0 _ _ _ p.1.0 i.inside _ i.coded _ c.fields_at-in-6.ensures c.evaluate-in-6.ensures)))
+    as_step _ _ _ _ _ _ _ i.inside (outputs _ p.0 _ _ _ p.1.0 i.inside _ i.coded _ refl _ _ _ c.top-pc.ensures (record { words = refl; levels = refl; values = refl; board = c.lines-1.given }) _ (omega (arith, c.target-in-6.ensures, c.target-in-6.type_inv)) c.in-6.is
+    (c.output.ensures _ _ _ _ _ _ p.1.0.cursor c.value_at-in-6.ensures))
 
 pub returns-in-15 : goal.returns-in-15
 returns-in-15 c = let p = c.requires in
     let i = known_by _ p.0 _ _ _ p.1.0 _ c.code-command.ensures (omega (arith, c.in-15.is)) in
     as_step _ _ _ _ _ _ _ i.inside (writes _ p.0 _ _ _ p.1.0 i.inside _ i.coded _ refl _ _ _ c.top-pc.ensures (record { words = c.words-1.given; levels = refl; values = refl; board = refl }) c.in-15.is
-    (c.write.ensures _ _ _ _ _ (evaluated _ p.0 _ _ _ p.1.0 i.inside _ i.coded _ c.fields_at-in-15.ensures c.evaluate-in-15.ensures)))
+    (c.write.ensures _ _ _ _ _ c.value_at-in-15.ensures))
 
 pub returns-in-16 : goal.returns-in-16
 returns-in-16 c = let p = c.requires in
@@ -251,7 +216,7 @@ pub returns-in-17 : goal.returns-in-17
 returns-in-17 c = let p = c.requires in
     let i = known_by _ p.0 _ _ _ p.1.0 _ c.code-command.ensures (omega (arith, c.in-17.is)) in
     as_step _ _ _ _ _ _ _ i.inside (backs _ p.0 _ _ _ p.1.0 i.inside _ i.coded _ (goal_by _ p.0 _ _ _ p.1.0 _ c.code-command.ensures i.inside _ c.next-in-17.ensures) _ _
-    (evaluated _ p.0 _ _ _ p.1.0 i.inside _ i.coded _ c.fields_at-in-17.ensures c.evaluate-in-17.ensures) _ c.in-17.is c.enter_back.ensures)
+    c.value_at-in-17.ensures _ c.in-17.is c.enter_back.ensures)
 
 pub returns-in-18 : goal.returns-in-18
 returns-in-18 c = let p = c.requires in
@@ -280,7 +245,7 @@ pub returns-in-11-to-12 : goal.returns-in-11-to-12
 returns-in-11-to-12 c = let p = c.requires in
     let i = known_by _ p.0 _ _ _ p.1.0 _ c.code-command.ensures (omega (arith, c.in-11-to-12.if-command-lt13-own.true)) in
     as_step _ _ _ _ _ _ _ i.inside (inserts _ p.0 _ _ _ p.1.0 i.inside _ i.coded _ refl _ _ _ c.top-pc.ensures (record { words = c.insert_on.auto.words; levels = refl; values = refl; board = refl }) _ _ _ c.content_at.ensures c.list_at.ensures
-    (omega (arith, c.side.ensures, c.in-11-to-12.if-command-lt11-own.false)) (omega (arith, c.side.ensures, c.in-11-to-12.if-command-lt11-own.false, c.in-11-to-12.if-command-lt13-own.true)) (c.insert_on.ensures _ _ _ _ _ (evaluated _ p.0 _ _ _ p.1.0 i.inside _ i.coded _ c.fields_at-in-11-to-12.ensures c.evaluate-in-11-to-12.ensures)))
+    (omega (arith, c.side.ensures, c.in-11-to-12.if-command-lt11-own.false)) (omega (arith, c.side.ensures, c.in-11-to-12.if-command-lt11-own.false, c.in-11-to-12.if-command-lt13-own.true)) (c.insert_on.ensures _ _ _ _ _ c.value_at-in-11-to-12.ensures))
 
 pub returns-in-13-to-14 : goal.returns-in-13-to-14
 returns-in-13-to-14 c = let p = c.requires in
