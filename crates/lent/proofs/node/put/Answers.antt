@@ -1,44 +1,13 @@
 -- `lent::put` meets its contract: ten stores into a slice that keeps its length. Assumes nothing.
 use mathlib.Core.Path.{◌∙◌, ap}
 use Prim.Native.Nat.{◌+◌, ◌*◌}
-use native.Mathlib.Omega.{arith}
-use lib.ListN.{length-set, set}
+use lib.ListN.{set}
 use mir.Syntax.{w32}
 use mir.Facts.{to_z-of_z}
 use Rattle.rules.specs.Number.{bits}
 use Rattle.table.specs.Cells.{cell_size}
 use Rattle.lent.specs.Lent.{put_node}
 use Rattle.lent.proofs.node.put.Goals as goal
-
-pub bounds-words-at-2 : goal.bounds-words-at-2
-bounds-words-at-2 c = simp length-set (omega arith)
-
-pub bounds-words-at-3 : goal.bounds-words-at-3
-bounds-words-at-3 c = simp length-set (omega arith)
-
-pub bounds-words-at-4 : goal.bounds-words-at-4
-bounds-words-at-4 c = simp length-set (omega arith)
-
-pub bounds-words-at-5 : goal.bounds-words-at-5
-bounds-words-at-5 c = simp length-set (omega arith)
-
-pub bounds-words-at-6 : goal.bounds-words-at-6
-bounds-words-at-6 c = simp length-set (omega arith)
-
-pub bounds-words-at-7 : goal.bounds-words-at-7
-bounds-words-at-7 c = simp length-set (omega arith)
-
-pub bounds-words-at-8 : goal.bounds-words-at-8
-bounds-words-at-8 c = simp length-set (omega arith)
-
-pub bounds-words-at-9 : goal.bounds-words-at-9
-bounds-words-at-9 c = simp length-set (omega arith)
-
-pub bounds-words-at-10 : goal.bounds-words-at-10
-bounds-words-at-10 c = simp length-set (omega arith)
-
-pub shape_of-words : goal.shape_of-words
-shape_of-words c = simp length-set
 
 pub returns : goal.returns
 unfolding put_node

@@ -6,15 +6,9 @@ use native.Mathlib.Omega.{arith}
 use Rattle.table.specs.Cells.{cells, gone}
 use Rattle.lent.specs.Lent.{cell_of}
 use Rattle.lent.proofs.Copies.{same_cell}
-use Rattle.lent.proofs.Walking.{Walking, turns, walk_start, walk_ready, walk_plain, walk_bytes, walk_turn, walk_end}
+use Rattle.lent.proofs.Walking.{Walking, turns, walk_start, walk_plain, walk_bytes, walk_turn, walk_end}
 use Rattle.lent.proofs.standing.held.Goals as goal
 use Rattle.lent.proofs.standing.held.Goals.{After-ask-x-in-loop-x}
-
-pub clear-requires : goal.clear-requires
-clear-requires c = c.requires.1.marks
-
-pub ask-x-requires : goal.ask-x-requires
-ask-x-requires c = omega (arith, c.requires.0.1)
 
 pub loop-x-init : goal.loop-x-init
 loop-x-init c = let a = c.args in
@@ -26,42 +20,12 @@ loop-x-init c = let a = c.args in
       c.ask-x.ensures,
     )
 
-pub readable-requires : goal.readable-requires
-readable-requires c = omega (arith, c.requires.0.0, c.loop-x-test.true)
-
-pub shape_of-dues-then-not-readable : goal.shape_of-dues-then-not-readable
-shape_of-dues-then-not-readable c = c.loop-x.invariant.0
-
-pub shape_of-bounds-then-not-readable : goal.shape_of-bounds-then-not-readable
-shape_of-bounds-then-not-readable c = c.loop-x.invariant.1
-
-pub shape_of-marks-then-not-readable : goal.shape_of-marks-then-not-readable
-shape_of-marks-then-not-readable c = c.loop-x.invariant.2 ∙ c.clear.auto.marks
-
 pub returns-then-not-readable : goal.returns-then-not-readable
 returns-then-not-readable c = let i = c.loop-x.invariant in
     let le : c.args.places ≤ gone = omega (arith, c.requires.0.1) in record {
       decided = walk_plain le i.3 i.4 c.loop-x-test.true (λ b. true≢false (sym (c.readable.ensures.1 b) ∙ c.if-not-readable.true));
       marked = λ e. absurd (true≢false (sym e));
     }
-
-pub node_of-d-requires : goal.node_of-d-requires
-node_of-d-requires c = omega (arith, c.requires.0.0, c.loop-x-test.true)
-
-pub turn-s-requires : goal.turn-s-requires
-turn-s-requires c = let i = c.loop-x.invariant in
-    let r = c.requires.1 in
-    let le : c.args.places ≤ gone = omega (arith, c.requires.0.1) in (
-      walk_ready le i.3 i.4 c.loop-x-test.true,
-      record {
-        dues = omega (arith, i.0, r.dues);
-        bounds = omega (arith, i.1, r.bounds);
-        marks = omega (arith, i.2, c.clear.auto.marks, r.marks);
-      },
-    )
-
-pub ask-x-requires-in-loop-x : goal.ask-x-requires-in-loop-x
-ask-x-requires-in-loop-x c = omega (arith, c.requires.0.1)
 
 -- a turn
 turned : (c : After-ask-x-in-loop-x)
@@ -88,15 +52,6 @@ pub loop-x-preserved : goal.loop-x-preserved
 loop-x-preserved c = let i = c.loop-x.invariant in
     let k = c.turn-s.auto in
     (k.dues ∙ i.0, k.bounds ∙ i.1, k.marks ∙ i.2, (turned c).0, c.ask-x-in-loop-x.ensures)
-
-pub shape_of-dues : goal.shape_of-dues
-shape_of-dues c = c.loop-x.invariant.0
-
-pub shape_of-bounds : goal.shape_of-bounds
-shape_of-bounds c = c.loop-x.invariant.1
-
-pub shape_of-marks : goal.shape_of-marks
-shape_of-marks c = c.loop-x.invariant.2 ∙ c.clear.auto.marks
 
 pub returns : goal.returns
 returns c = let i = c.loop-x.invariant in

@@ -1,21 +1,10 @@
 -- The invariant: the places with no mark from x on are free, and those with one keep their cells. Assumes nothing.
-use mathlib.Core.Path.{◌≡◌, refl, subst, ◌∙◌}
+use mathlib.Core.Path.{◌≡◌, subst, ◌∙◌}
 use Prim.Native.Nat.{◌+◌, ◌-◌}
 use native.Mathlib.Omega.{arith}
 use Rattle.table.specs.Cells.{cells}
-use Rattle.lent.proofs.Reclaiming.{Spared, spared_none, spared_pass, spared_more, spared_all}
+use Rattle.lent.proofs.Reclaiming.{Spared, spared_pass, spared_more, spared_all}
 use Rattle.lent.proofs.standing.reclaim.Goals as goal
-
-pub loop-x-init : goal.loop-x-init
-loop-x-init c = (refl, spared_none c.args.places c.args.marks.now)
-
-pub bounds-marks-x : goal.bounds-marks-x
-bounds-marks-x c = omega (arith, c.loop-x-test.true, c.loop-x.auto.x, c.requires.0.1, c.requires.1)
-
-pub spare-requires : goal.spare-requires
-spare-requires c = let i = c.loop-x.invariant in
-    let p = c.requires.0 in
-    record { long = omega (arith, i.0, p.0); few = p.1; inside = omega (arith, c.loop-x-test.true, c.loop-x.auto.x) }
 
 pub loop-x-preserved-then-marks-x-eq0 : goal.loop-x-preserved-then-marks-x-eq0
 loop-x-preserved-then-marks-x-eq0 c = let s = c.loop-x in
@@ -36,14 +25,8 @@ loop-x-preserved c = let s = c.loop-x in
           (omega (arith, c.if-marks-x-eq0.false)),
     )
 
-pub shape_of-words : goal.shape_of-words
-shape_of-words c = c.loop-x.invariant.0
-
-pub returns : goal.returns
-returns c = let s = c.loop-x in
+pub returns-clause-reclaimed : goal.returns-clause-reclaimed
+returns-clause-reclaimed c = let s = c.loop-x in
     let a = c.args in
-    let e : s.x ≡ 0 = omega (arith, c.loop-x-test.false) in record {
-      reclaimed = spared_all c.requires.0.1
-          (subst (λ v. Spared (cells a.words.now) (cells s.words) a.places a.marks.now v s.free) e s.invariant.1);
-      behind = s.invariant.1.behind;
-    }
+    let e : s.x ≡ 0 = omega (arith, c.loop-x-test.false) in
+    spared_all c.requires.0.1 (subst (λ v. Spared (cells a.words.now) (cells s.words) a.places a.marks.now v s.free) e s.invariant.1)
