@@ -1,7 +1,7 @@
 -- What the scan of a section comes to, by the searches that it makes: where all records are right, the first that is not both right and clean is the first that is
 -- not clean. Assumes nothing.
-use mathlib.Core.Path.{◌≡◌, refl, sym, ◌∙◌}
-use mathlib.Core.Bool.{Bool, true, false, ◌&&◌}
+use mathlib.Core.Path.{◌≡◌, refl, sym, ap, ◌∙◌}
+use mathlib.Core.Bool.{Bool, true, false, cond, ◌&&◌}
 use mathlib.Core.List.{List}
 use Prim.Native.Nat.{ℕ, ◌≤◌, ◌<◌}
 use native.Mathlib.Omega.{arith}
@@ -15,53 +15,61 @@ use Rattle.rules.specs.Check.{variable_clean, node_clean, record_clean}
 use Rattle.rules.proofs.Tests.{Test, holds, fails, test, both, joined, clash}
 use Rattle.rules.proofs.Lattice.{byte_level, level_byte}
 use Rattle.rules.proofs.Ranges.{all_three}
-use Rattle.rules.proofs.Search.{fault_agree, all_pass, none_faulty}
+use Rattle.rules.proofs.Search.{search, fault, fault_first, fault_agree, all_pass, none_faulty}
 use Rattle.rules.proofs.Checks.{stopped, through}
 use Rattle.job.specs.declared.checks.Edition as Named
 use Rattle.job.specs.declared.checks.Edition.TheVariants.{First, Unordered, Today}
-use Rattle.std.specs.Prelude.{Result, Ok, Err}
+use Rattle.std.specs.Prelude.{Option, Some, None, Result, Ok, Err}
 use Rattle.job.specs.declared.checks.Refusal.{Refusal}
 use Rattle.fields.specs.Fields.{known_rule}
 use Rattle.fields.specs.Fits.{variable_in, label_in, node_in, record_fits}
 use Rattle.job.specs.Hanging.{AllFit}
-use Rattle.job.specs.Answer.{edition_of, highest_of, record_rules, asked, scan_of, scanned}
+use Rattle.std.specs.Option.{option_or}
+use Rattle.job.specs.Answer.{edition_of, highest_of, record_rules, asked, found, scan_of, scanned}
 use Rattle.fields.proofs.Fits.{same_tests}
 
 -- right and clean
 abbrev pub fit : (ℕ → Bool) → (ℕ → Bool) → ℕ → Bool
 fit right clean i = right i && clean i
 
+-- a search ends among the records or behind them
+within : (good : ℕ → Bool) (n : ℕ) → first_fault good n 0 ≤ n
+within good n = rw (fault_first good n 0) (let l = (search (fault good) n 0).to in omega arith)
+
 module _ (number : ℕ) (rules : Edition) (right clean : ℕ → Bool) (n : ℕ) where
-  pub not_asked : rules.spare ≡ false → {k : ℕ} → k ≡ first_fault right n 0 → scan_of number k n n ≡ scanned number rules right clean n
+  pub not_asked : rules.spare ≡ false → {k : ℕ} → k ≡ first_fault right n 0 → scan_of number k None n ≡ scanned number rules right clean n
   unfolding scanned asked
   not_asked a {k} e = rw (a, ← e)
 
-  pub all_fit : rules.spare ≡ true → {r : ℕ} → r ≡ first_fault (fit right clean) n 0 → r ≡ n → Ok n ≡ scanned number rules right clean n
-  unfolding scanned asked scan_of
+  pub all_fit : rules.spare ≡ true → {r : ℕ} → r ≡ first_fault (fit right clean) n 0 → r ≡ n → Ok None ≡ scanned number rules right clean n
+  unfolding scanned asked found scan_of
   all_fit a {r} e h =
       let all = all_pass (fit right clean) n e (omega arith) in
       rw (a, none_faulty right n (λ i l. (both (right i) (clean i) (all i l)).0), none_faulty clean n (λ i l. (both (right i) (clean i) (all i l)).1), le-ltb n n (omega arith))
 
-  pub first_unclean : rules.spare ≡ true → {r k : ℕ} → r ≡ first_fault (fit right clean) n 0 → k ≡ first_fault right n 0 → scan_of number k r n ≡ scanned number rules right clean n
-  unfolding scanned asked scan_of
-  first_unclean a {r} {k} e f = by (test (ltb k n))
+  pub first_unclean : rules.spare ≡ true → {r k : ℕ} → r ≡ first_fault (fit right clean) n 0 → (r ≡ n → ⊥) → k ≡ first_fault right n 0
+      → scan_of number k (Some r) n ≡ scanned number rules right clean n
+  unfolding scanned asked found scan_of
+  first_unclean a {r} {k} e m f = by (test (ltb k n))
     where
-      by : Test (ltb k n) → scan_of number k r n ≡ scanned number rules right clean n
+      by : Test (ltb k n) → scan_of number k (Some r) n ≡ scanned number rules right clean n
       by (holds t) = rw (a, ← f, t)
       by (fails t) =
           let all = all_pass right n f (ltb-false k n t) in
-          rw (a, ← f, t, e ∙ fault_agree (fit right clean) clean n 0 (λ i l m. rw (all i (omega arith))))
+          let g : r ≡ first_fault clean n 0 = e ∙ fault_agree (fit right clean) clean n 0 (λ i l m. rw (all i (omega arith))) in
+          let l = within (fit right clean) n in
+          rw (a, ← f, t, ← g, lt-ltb r n (omega (arith, e)))
 
   pub one_faulty : {k : ℕ} → k ≡ first_fault right n 0 → k < n → Err (record { number = number; index = k }) ≡ scanned number rules right clean n
   unfolding scanned scan_of
   one_faulty {k} e h = rw (← e, lt-ltb k n h)
 
-  pub none_wrong : {k u : ℕ} → k ≡ first_fault right n 0 → n ≤ k → u ≡ asked rules.spare clean n → Ok u ≡ scanned number rules right clean n
+  pub none_wrong : {k : ℕ} {u : Option ℕ} → k ≡ first_fault right n 0 → n ≤ k → u ≡ asked rules.spare clean n → Ok u ≡ scanned number rules right clean n
   unfolding scanned scan_of
   none_wrong {k} {u} e h a = rw (← e, le-ltb k n h, ← a)
 
 -- what a scan that has come to something says
-module _ (number fault unclean n : ℕ) where
+module _ (number fault : ℕ) (unclean : Option ℕ) (n : ℕ) where
   pub was_faulty : (r : Refusal) → scan_of number fault unclean n ≡ Err r → (r ≡ record { number = number; index = fault }) × (fault < n)
   unfolding scan_of
   was_faulty r e = by (test (ltb fault n))
@@ -70,31 +78,39 @@ module _ (number fault unclean n : ℕ) where
       by (holds t) = let f : Err (record { number = number; index = fault }) ≡ Err r = rw t at e in (cc, ltb-true fault n t)
       by (fails t) = let f : Ok unclean ≡ Err r = rw t at e in let z : ◌≡◌ {A = ℕ} 0 1 = cc in absurd (omega arith)
 
-  pub was_passed : (i : ℕ) → scan_of number fault unclean n ≡ Ok i → (n ≤ fault) × (i ≡ unclean)
+  pub was_passed : (i : Option ℕ) → scan_of number fault unclean n ≡ Ok i → (n ≤ fault) × (i ≡ unclean)
   unfolding scan_of
   was_passed i e = by (test (ltb fault n))
     where
       by : Test (ltb fault n) → (n ≤ fault) × (i ≡ unclean)
-      by (holds t) = let f : ◌≡◌ {A = Result ℕ Refusal} (Err (record { number = number; index = fault })) (Ok i) = rw t at e in let z : ◌≡◌ {A = ℕ} 0 1 = cc in absurd (omega arith)
-      by (fails t) = let f : ◌≡◌ {A = Result ℕ Refusal} (Ok unclean) (Ok i) = rw t at e in (ltb-false fault n t, cc)
+      by (holds t) = let f : ◌≡◌ {A = Result (Option ℕ) Refusal} (Err (record { number = number; index = fault })) (Ok i) = rw t at e in let z : ◌≡◌ {A = ℕ} 0 1 = cc in absurd (omega arith)
+      by (fails t) = let f : ◌≡◌ {A = Result (Option ℕ) Refusal} (Ok unclean) (Ok i) = rw t at e in (ltb-false fault n t, cc)
 
--- a check that an edition may not have, by the first record that fails it
-module _ (number : ℕ) (on : Bool) (good : ℕ → Bool) (n : ℕ) (c : Checked) {k : ℕ} (e : k ≡ asked on good n) where
-  pub asked_stopped : k < n → require_if on number good n c ≡ refused number k
-  unfolding require_if asked
-  asked_stopped h = by (test on)
-    where
-      by : Test on → require_if on number good n c ≡ refused number k
-      by (holds t) = rw t (stopped number good n c (rw t at e) h)
-      by (fails t) = let f : k ≡ n = rw t at e in absurd (omega arith)
+-- what a check makes of a chain, by the first record that fails it
+abbrev pub refusing : ℕ → Option ℕ → Checked → Checked
+refusing number None c = c
+refusing number (Some k) c = refused number k
 
-  pub asked_through : n ≤ k → require_if on number good n c ≡ c
-  unfolding require_if asked
-  asked_through h = by (test on)
-    where
-      by : Test on → require_if on number good n c ≡ c
-      by (holds t) = rw t (through number good n c (rw t at e) h)
-      by (fails t) = rw t
+pub refusing_or : (number : ℕ) (o p : Option ℕ) (c : Checked) → refusing number (option_or o p) c ≡ refusing number o (refusing number p c)
+refusing_or number None p c = refl
+refusing_or number (Some k) p c = refl
+
+-- a check that an edition may not have
+pub asked_law : (number : ℕ) (on : Bool) (good : ℕ → Bool) (n : ℕ) (c : Checked) → require_if on number good n c ≡ refusing number (asked on good n) c
+unfolding require_if asked found
+asked_law number true good n c = by (test (ltb (first_fault good n 0) n))
+  where
+    by : Test (ltb (first_fault good n 0) n) → require_each number good n c ≡ refusing number (cond (ltb (first_fault good n 0) n) (Some (first_fault good n 0)) None) c
+    by (holds t) = rw t (stopped number good n c refl (ltb-true (first_fault good n 0) n t))
+    by (fails t) = rw t (through number good n c refl (ltb-false (first_fault good n 0) n t))
+asked_law number false good n c = refl
+
+module _ (number : ℕ) (on : Bool) (good : ℕ → Bool) (n : ℕ) (c : Checked) where
+  pub asked_stopped : {k : ℕ} → Some k ≡ asked on good n → require_if on number good n c ≡ refused number k
+  asked_stopped e = asked_law number on good n c ∙ ap (λ (o : Option ℕ). refusing number o c) (sym e)
+
+  pub asked_through : None ≡ asked on good n → require_if on number good n c ≡ c
+  asked_through e = asked_law number on good n c ∙ ap (λ (o : Option ℕ). refusing number o c) (sym e)
 
 -- a level is no higher than the highest
 
@@ -179,16 +195,16 @@ module _ (rules : Named.Edition) (b : List ℕ) (vars base n : ℕ) where
 
 -- where all n nodes pass 13, 6 and 12, an edition finds no fault in them
 module _ (rules : Edition) (b : List ℕ) (base n : ℕ) (f : AllFit (highest_of rules) b base n) where
-  none_asked : (on : Bool) (good : ℕ → Bool) → ((i : ℕ) → i < n → good i ≡ true) → n ≡ asked on good n
-  unfolding asked
-  none_asked true good h = sym (none_faulty good n h)
+  none_asked : (on : Bool) (good : ℕ → Bool) → ((i : ℕ) → i < n → good i ≡ true) → None ≡ asked on good n
+  unfolding asked found
+  none_asked true good h = rw (none_faulty good n h, le-ltb n n (omega arith))
   none_asked false good h = refl
 
-  pub fit_clean : n ≡ asked rules.spare (node_clean b base) n
+  pub fit_clean : None ≡ asked rules.spare (node_clean b base) n
   fit_clean = none_asked rules.spare (node_clean b base) (λ i h. (f.each i h).clean)
 
   pub fit_through : (c : Checked) → require_if rules.order bad_order (order_rule b base) n (require_each bad_node (node_rule_in rules b base) n c) ≡ c
   fit_through c =
-      asked_through bad_order rules.order (order_rule b base) n _ (none_asked rules.order (order_rule b base) (λ i h. (f.each i h).order)) (omega arith)
+      asked_through bad_order rules.order (order_rule b base) n _ (none_asked rules.order (order_rule b base) (λ i h. (f.each i h).order))
       ∙ through bad_node (node_rule_in rules b base) n c
       (sym (none_faulty (node_rule_in rules b base) n (λ i h. sym (node_top rules b base i) ∙ (f.each i h).node))) (omega arith)

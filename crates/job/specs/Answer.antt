@@ -1,5 +1,5 @@
 -- What the checks hand back, from the rules' definition of the checks. Assumes nothing.
-use Rattle.std.specs.Prelude.{◌≡◌, Bool, cond, List, ℕ, suc, ◌≤◌, ◌<◌, ltb, length, Result, Ok, Err}
+use Rattle.std.specs.Prelude.{◌≡◌, Bool, cond, List, ℕ, suc, ◌≤◌, ◌<◌, ltb, length, Option, Some, None, Result, Ok, Err}
 use Rattle.rules.specs.Limits.{max_records, bad_parent, bad_node, bad_block, bad_spare, bad_order}
 use Rattle.rules.specs.Bytes.{script_at, record_count, record_place}
 use Rattle.rules.specs.Blocks.{block_rule}
@@ -33,16 +33,20 @@ highest_of rules = cond rules.sets 255 1
 abbrev pub record_rules : Check.Edition → List ℕ → ℕ → ℕ → ℕ → Bool
 record_rules rules b vs base i = record_rule_in rules b vs (record_place base i)
 
--- the first of n records that fails a test; the count where there is none, and where it is not asked for
-unfoldable pub asked : Bool → (ℕ → Bool) → ℕ → ℕ
-asked on good n = cond on (first_fault good n 0) n
+-- what a search came to, if it is one of n
+unfoldable pub found : ℕ → ℕ → Option ℕ
+found k n = cond (ltb k n) (Some k) None
+
+-- the first of n records that fails a test, where it is asked for
+unfoldable pub asked : Bool → (ℕ → Bool) → ℕ → Option ℕ
+asked on good n = cond on (found (first_fault good n 0) n) None
 
 -- a scan of n records by the check k, which found a first fault, or else a first record that is not clean
-unfoldable pub scan_of : ℕ → ℕ → ℕ → ℕ → Result ℕ Refusal
+unfoldable pub scan_of : ℕ → ℕ → Option ℕ → ℕ → Result (Option ℕ) Refusal
 scan_of k fault unclean n = cond (ltb fault n) (Err (record { number = k; index = fault })) (Ok unclean)
 
 -- what the scan of n records comes to
-unfoldable pub scanned : ℕ → Check.Edition → (ℕ → Bool) → (ℕ → Bool) → ℕ → Result ℕ Refusal
+unfoldable pub scanned : ℕ → Check.Edition → (ℕ → Bool) → (ℕ → Bool) → ℕ → Result (Option ℕ) Refusal
 scanned k rules right clean n = scan_of k (first_fault right n 0) (asked rules.spare clean n) n
 
 -- what is not clean, section by section
@@ -55,7 +59,7 @@ unclean_of rules b l =
     }
 
 -- what is not clean in front of the script
-pub record Fronted (rules : Check.Edition) (b : List ℕ) (l : Layout) (variable node : ℕ) : Type 0 where
+pub record Fronted (rules : Check.Edition) (b : List ℕ) (l : Layout) (variable node : Option ℕ) : Type 0 where
   pub variables : variable ≡ asked rules.spare (variable_clean b) l.variables
   pub nodes : node ≡ asked rules.spare (node_clean b l.tree) l.nodes
 

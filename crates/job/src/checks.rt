@@ -6,7 +6,7 @@ ghost use Rattle.rules.specs.Bytes.{record_place};
 ghost use Rattle.rules.specs.Check.{variable_rule_in, order_rule, node_rule_in, variable_clean, node_clean, record_clean, today, check_bytes_by, check_bytes};
 ghost use Rattle.fields.specs.Layout.{layout_of, Inside};
 ghost use Rattle.fields.specs.Siblings.{Linked};
-ghost use Rattle.job.specs.Answer.{answer, edition_of, highest_of, record_rules, asked, scan_of, scanned, unclean_of, Fitted, Fronted, from_blocks, from_spare, from_script, from_nodes, from_variables, ScriptTold, JobTold, Prepared};
+ghost use Rattle.job.specs.Answer.{answer, edition_of, highest_of, record_rules, asked, found, scan_of, scanned, unclean_of, Fitted, Fronted, from_blocks, from_spare, from_script, from_nodes, from_variables, ScriptTold, JobTold, Prepared};
 
 use crate::plan::WORDS;
 use crate::spare::first_unfit;
@@ -94,9 +94,21 @@ impl Edition {
     }
 }
 
-// What a scan of a section comes to: its first faulty record turns it back, with the number of the check; where none is faulty, the first with a spare byte that is not zero.
-// Where there is none, or none is asked for, that is the count.
-fn scan_of(number: u8, fault: usize, unclean: usize, count: usize) -> Result<usize, Refusal>
+// What a search came to: an index, unless all of so many records passed.
+fn found(index: usize, count: usize) -> Option<usize>
+    ensures { result ≡ found index count }
+{
+    (index < count).then_some(index)
+}
+
+// What a scan of a section comes to: its first faulty record turns it back, with the number of the check; where none is faulty, the first with a spare byte that is not zero,
+// if one is asked for.
+fn scan_of(
+    number: u8,
+    fault: usize,
+    unclean: Option<usize>,
+    count: usize,
+) -> Result<Option<usize>, Refusal>
     ensures { result ≡ scan_of number fault unclean count }
 {
     if fault < count {
@@ -110,36 +122,38 @@ fn scan_of(number: u8, fault: usize, unclean: usize, count: usize) -> Result<usi
 }
 
 // The checks 4 and 12, of the variables.
-fn scan_variables(job: &[u8], l: Layout, rules: Edition) -> Result<usize, Refusal>
+fn scan_variables(job: &[u8], l: Layout, rules: Edition) -> Result<Option<usize>, Refusal>
     requires { Inside job.now l }
     ensures { result ≡ scanned bad_variable (edition_of rules) (variable_rule_in (edition_of rules) job.now) (variable_clean job.now) l.variables }
 {
     let count = l.variables;
     let top = rules.highest();
-    let mut unclean = count;
+    let mut unclean = None;
     if rules.has_spare() {
-        unclean = first_that_fails(count, |i| variable_fits(job, i, top));
-        if unclean == count {
-            return Ok(count);
+        let index = first_that_fails(count, |i| variable_fits(job, i, top));
+        if index == count {
+            return Ok(None);
         }
+        unclean = Some(index);
     }
     let fault = first_that_fails(count, |i| variable_ok(job, i, top));
     scan_of(BAD_VARIABLE, fault, unclean, count)
 }
 
-// Check 13, where it is asked for: the first node that fails it, or the count.
-fn first_unordered(job: &[u8], l: Layout, rules: Edition) -> usize
+// Check 13, where it is asked for: the first node that fails it.
+fn first_unordered(job: &[u8], l: Layout, rules: Edition) -> Option<usize>
     requires { Inside job.now l × Linked job.now l.tree l.nodes }
     ensures { result ≡ asked (edition_of rules).order (order_rule job.now l.tree) l.nodes }
 {
     if !rules.has_order() {
-        return l.nodes;
+        return None;
     }
-    first_that_fails(l.nodes, |i| order_ok(job, l.tree, i))
+    let index = first_that_fails(l.nodes, |i| order_ok(job, l.tree, i));
+    found(index, l.nodes)
 }
 
 // The checks 6 and 12, of the nodes.
-fn scan_nodes(job: &[u8], l: Layout, rules: Edition) -> Result<usize, Refusal>
+fn scan_nodes(job: &[u8], l: Layout, rules: Edition) -> Result<Option<usize>, Refusal>
     requires { Linked job.now l.tree l.nodes }
     ensures { result ≡ scanned bad_node (edition_of rules) (node_rule_in (edition_of rules) job.now l.tree) (node_clean job.now l.tree) l.nodes }
 {
@@ -152,23 +166,30 @@ fn scan_nodes(job: &[u8], l: Layout, rules: Edition) -> Result<usize, Refusal>
         });
     }
     if rules.has_spare() {
-        return Ok(nodes::first_unclean(job, l.tree, l.nodes));
+        let index = nodes::first_unclean(job, l.tree, l.nodes);
+        return Ok(found(index, l.nodes));
     }
-    Ok(l.nodes)
+    Ok(None)
 }
 
 // The checks 7 and 12, of the script.
-fn scan_records(bytes: &[u8], l: Layout, variables: usize, rules: Edition) -> Result<usize, Refusal>
+fn scan_records(
+    bytes: &[u8],
+    l: Layout,
+    variables: usize,
+    rules: Edition,
+) -> Result<Option<usize>, Refusal>
     requires { record_place l.script l.records ≤ length bytes.now }
     ensures { result ≡ scanned bad_record (edition_of rules) (record_rules (edition_of rules) bytes.now variables l.script) (record_clean (edition_of rules).sets bytes.now l.script) l.records }
 {
     let count = l.records;
-    let mut unclean = count;
+    let mut unclean = None;
     if rules.has_spare() {
-        unclean = first_unfit(bytes, l.script, count, variables, rules.has_sets());
-        if unclean == count {
-            return Ok(count);
+        let index = first_unfit(bytes, l.script, count, variables, rules.has_sets());
+        if index == count {
+            return Ok(None);
         }
+        unclean = Some(index);
     }
     let fault = records::first_fault(bytes, l.script, count, variables, rules.commands());
     scan_of(BAD_RECORD, fault, unclean, count)
@@ -188,12 +209,12 @@ fn check_blocks(bytes: &[u8], l: Layout, plan: &mut [u32]) -> Result<(), Refusal
     }
 }
 
-// Of each section the first record with a spare byte that is not zero, or the count.
-#[derive(Drop)]
+// Of each section the first record with a spare byte that is not zero.
+#[derive(Clone, Copy)]
 pub struct Unclean {
-    pub variables: usize,
-    pub nodes: usize,
-    pub records: usize,
+    pub variables: Option<usize>,
+    pub nodes: Option<usize>,
+    pub records: Option<usize>,
 }
 
 // The checks 12 and 8: sections in file order.
@@ -207,22 +228,11 @@ fn check_spare(
     requires { Fitted bytes.now l plan.old × (unclean ≡ unclean_of (edition_of rules) bytes.now l) }
     ensures { ScriptTold bytes.now l (from_spare bytes.now l (edition_of rules)) plan.old plan.new result }
 {
-    if unclean.variables < l.variables {
+    let first = unclean.variables.or(unclean.nodes).or(unclean.records);
+    if let Some(index) = first {
         return Err(Refusal {
             number: BAD_SPARE,
-            index: unclean.variables,
-        });
-    }
-    if unclean.nodes < l.nodes {
-        return Err(Refusal {
-            number: BAD_SPARE,
-            index: unclean.nodes,
-        });
-    }
-    if unclean.records < l.records {
-        return Err(Refusal {
-            number: BAD_SPARE,
-            index: unclean.records,
+            index,
         });
     }
     check_blocks(bytes, l, plan)
@@ -233,8 +243,8 @@ pub fn check_script(
     bytes: &[u8],
     l: Layout,
     variables: usize,
-    variable: usize,
-    node: usize,
+    variable: Option<usize>,
+    node: Option<usize>,
     rules: Edition,
     plan: &mut [u32],
 ) -> Result<(), Refusal>
@@ -254,8 +264,8 @@ pub fn check_script(
 fn check_job_script(
     job: &[u8],
     l: Layout,
-    variable: usize,
-    node: usize,
+    variable: Option<usize>,
+    node: Option<usize>,
     rules: Edition,
     plan: &mut [u32],
 ) -> Result<Layout, Refusal>
@@ -270,7 +280,7 @@ fn check_job_script(
 fn check_nodes(
     job: &[u8],
     l: Layout,
-    variable: usize,
+    variable: Option<usize>,
     rules: Edition,
     plan: &mut [u32],
 ) -> Result<Layout, Refusal>
@@ -286,10 +296,9 @@ fn check_nodes(
     }
     // Nodes that pass 13, 6 and 12 have no fault, also where 13 and 12 are not asked for.
     if preorder::all_fit(job, l.tree, l.nodes, rules.highest()) {
-        return check_job_script(job, l, variable, l.nodes, rules, plan);
+        return check_job_script(job, l, variable, None, rules, plan);
     }
-    let index = first_unordered(job, l, rules);
-    if index < l.nodes {
+    if let Some(index) = first_unordered(job, l, rules) {
         return Err(Refusal {
             number: BAD_ORDER,
             index,

@@ -33,7 +33,7 @@ fn check_section(section: &[u8], variables: usize, plan: &mut [u32]) -> Result<(
         script: 0,
         records: section.len() / RECORD_SIZE,
     };
-    check_script(section, l, variables, 0, 0, Edition::Today, plan)
+    check_script(section, l, variables, None, None, Edition::Today, plan)
 }
 
 // The checks of a section's bytes where so many variables stand, and for a sound one its plan, as `prepare` has it for a job.

@@ -76,7 +76,7 @@ fn kind_word(job: &[u8], at: usize, sets: bool) -> usize
     ensures { result ≡ kind_word sets job.now at }
 {
     if sets {
-        return byte_at(job, at + 4) + byte_at(job, at + 7) * 16777216;
+        return u32::from_le_bytes([job[at + 4], 0, 0, job[at + 7]]) as usize;
     }
     full_at(job, at + 4) as usize
 }

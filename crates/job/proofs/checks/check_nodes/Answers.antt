@@ -59,12 +59,12 @@ returns-then-all_fit c = let e = past5 (goal.at.returns-then-all_fit c).Else-ind
     let s = c.check_job_script.ensures in
     record { answered = s.answered ∙ sym (ap (answer _) e); plans = plans_along e s.plans }
 
-pub first_unordered-index-requires : goal.first_unordered-index-requires
-first_unordered-index-requires c = (c.requires.0, linked (goal.at.first_unordered-index-requires c).Else-index-l)
+pub first_unordered-requires : goal.first_unordered-requires
+first_unordered-requires c = (c.requires.0, linked (goal.at.first_unordered-requires c).Else-index-l)
 
-pub returns-then-index-l-2 : goal.returns-then-index-l-2
+pub returns-in-Some : goal.returns-in-Some
 unfolding answer
-returns-then-index-l-2 c = let e = past5 (goal.at.returns-then-index-l-2 c).Else-index-l ∙ asked_stopped bad_order _ _ _ _ c.first_unordered-index.ensures c.if-index-l-2.true in
+returns-in-Some c = let e = past5 (goal.at.returns-in-Some c).Else-index-l ∙ asked_stopped bad_order _ _ _ _ c.in-Some.ensures in
     record { answered = sym (ap (answer _) e); plans = plans_not _ _ _ _ _ bad_order _ (λ q. omega arith) e refl }
 
 pub scan_nodes-requires : goal.scan_nodes-requires
@@ -80,12 +80,12 @@ pub returns-in_err-node : goal.returns-in_err-node
 unfolding scanned answer
 returns-in_err-node c = let p = err_from_is_err_and c.from_residual.result c.from_residual.ensures.1 in
     let w = was_faulty _ _ _ _ _ (sym c.scan_nodes.ensures ∙ c.in_err-node.was) in
-    let e = past5 (goal.at.returns-in_err-node c).Else-index-l ∙ asked_through bad_order _ _ _ _ c.first_unordered-index.ensures c.if-index-l-2.false ∙ stopped bad_node _ _ _ refl w.1 in
+    let e = past5 (goal.at.returns-in_err-node c).Else-index-l ∙ asked_through bad_order _ _ _ _ c.in_default.ensures ∙ stopped bad_node _ _ _ refl w.1 in
     rw (p.1, p.2, w.0) (record { answered = sym (ap (answer _) e); plans = plans_not _ _ _ _ _ bad_node _ (λ q. omega arith) e refl })
 
 pub returns : goal.returns
 unfolding scanned
 returns c = let w = was_passed _ _ _ _ _ (sym c.scan_nodes.ensures ∙ c.in_ok-node.was) in
-    let e = past5 (goal.at.returns c).Else-index-l ∙ asked_through bad_order _ _ _ _ c.first_unordered-index.ensures c.if-index-l-2.false ∙ through bad_node _ _ _ refl w.0 in
+    let e = past5 (goal.at.returns c).Else-index-l ∙ asked_through bad_order _ _ _ _ c.in_default.ensures ∙ through bad_node _ _ _ refl w.0 in
     let s = c.check_job_script-2.ensures in
     record { answered = s.answered ∙ sym (ap (answer _) e); plans = plans_along e s.plans }

@@ -10,7 +10,7 @@ returns-then-fault-l c = one_faulty _ _ _ _ _ (c.first_fault-fault.ensures ∙ n
 pub returns-then-has_spare : goal.returns-then-has_spare
 unfolding asked
 returns-then-has_spare c = none_wrong _ _ _ _ _ (c.first_fault-fault.ensures ∙ nodes_right _ _ _ c.highest-top.ensures _) c.if-fault-l.false
-    (rw (sym c.has_spare.ensures ∙ c.if-has_spare.true) c.first_unclean.ensures)
+    (rw (sym c.has_spare.ensures ∙ c.if-has_spare.true, ← c.first_unclean-index.ensures) c.found.ensures)
 
 pub returns : goal.returns
 unfolding asked

@@ -5,7 +5,7 @@ use Rattle.rules.specs.Limits.{bad_follow_on}
 use Rattle.rules.specs.Check.{first_fault, ordered, today}
 use Rattle.rules.specs.History.{section_count}
 use Rattle.rules.proofs.Checks.{turned, met}
-use Rattle.job.specs.Answer.{told, edition_of, asked}
+use Rattle.job.specs.Answer.{told, edition_of, asked, found}
 use Rattle.job.specs.FollowOn.{check_section}
 use Rattle.job.proofs.Answers.{plans_not, plans_along}
 use Rattle.job.proofs.FollowOns.{section_few}
@@ -17,7 +17,7 @@ returns-then-not-section_ok c = let e = turned bad_follow_on _ (sym c.section_ok
     record { answered = sym (ap told e); plans = plans_not _ _ _ _ _ bad_follow_on _ (λ q. omega arith) e refl }
 
 pub check_script-requires : goal.check_script-requires
-unfolding section_count asked edition_of ordered today first_fault
+unfolding section_count asked found edition_of ordered today first_fault
 check_script-requires c = let h = section_few _ (sym c.section_ok.ensures ∙ c.if-not-section_ok.false) in (
   record { inside = omega arith; short = omega arith; room = omega (arith, c.requires) },
   record { variables = refl; nodes = refl },
