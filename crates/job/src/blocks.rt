@@ -146,9 +146,10 @@ pub fn first_fault(job: &[u8], base: usize, count: usize, plan: &mut [u32]) -> O
         }
         depth = advance(job, base, &mut begun, &mut opened, depth, i, plan);
     }
-    if depth != 0 {
-        return Some(count);
+    if depth == 0 {
+        plan[count] = END_MARK;
+        None
+    } else {
+        Some(count)
     }
-    plan[count] = END_MARK;
-    None
 }

@@ -1,4 +1,5 @@
 // The plan of a script, for a run: a word for each record, and the end mark behind the last, so that a run need not count records.
+// A word packs a command and a place, since a step of a run reads both with one load.
 ghost use Rattle.std.specs.Prelude.{◌≡◌};
 ghost use Rattle.job.specs.Plan.{code_of, next_of};
 

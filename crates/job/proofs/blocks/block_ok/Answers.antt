@@ -11,9 +11,6 @@ use Rattle.job.specs.Parts.{placed_at}
 use Rattle.job.proofs.Stack.{opening, plain, depth, top, bottom}
 use Rattle.job.proofs.blocks.block_ok.Goals as goal
 
-pub innermost-requires : goal.innermost-requires
-innermost-requires c = let s = c.requires.spells in (c.if-depth-eq0.false, omega (arith, s.deep, s.size))
-
 pub code_at-requires-in-3 : goal.code_at-requires-in-3
 code_at-requires-in-3 c = omega (arith, before _ _ _ _ (top _ _ _ c.requires.spells c.if-depth-eq0.false))
 

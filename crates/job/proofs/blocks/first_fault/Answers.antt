@@ -54,20 +54,17 @@ loop-i-preserved c = let v = c.loop-i.invariant in
       rw add-one (s.ensures.plans _ _ (search rules) v.4),
     )
 
-pub bounds-plan-count : goal.bounds-plan-count
-bounds-plan-count c = omega (arith, c.loop-i.invariant.3)
-
-pub returns-then-depth-ne0 : goal.returns-then-depth-ne0
-returns-then-depth-ne0 c = let v = c.loop-i.invariant in
+pub returns-else-depth-eq0 : goal.returns-else-depth-eq0
+returns-else-depth-eq0 c = let v = c.loop-i.invariant in
     let e : c.loop-i.i ≡ c.args.count = omega arith in
-    let z = ap (λ (n : ℕ). eqb n 0) (depth _ _ _ v.1) ∙ ne_eqb _ 0 c.if-depth-ne0.true in
+    let z = ap (λ (n : ℕ). eqb n 0) (depth _ _ _ v.1) ∙ ne_eqb _ 0 c.if-depth-eq0.false in
     (sym e ∙ scan_stop _ _ v.0 (search rules) (rule_end _ _ _ (search rules) ∙ z), search rules, as_many e v.4)
 
-pub returns : goal.returns
-returns c = let v = c.loop-i.invariant in
+pub returns-then-depth-eq0 : goal.returns-then-depth-eq0
+returns-then-depth-eq0 c = let v = c.loop-i.invariant in
     let e : c.loop-i.i ≡ c.args.count = omega arith in
     let r : suc c.args.count ≡ c.loop-i.i + 1 = omega arith in
-    let z = ap (λ (n : ℕ). eqb n 0) (depth _ _ _ v.1) ∙ eq-eqb _ 0 c.if-depth-ne0.false in (
+    let z = ap (λ (n : ℕ). eqb n 0) (depth _ _ _ v.1) ∙ eq-eqb _ 0 c.if-depth-eq0.true in (
       r ∙ scan_end _ _ (scan_next _ _ v.0 (search rules) (rule_end _ _ _ (search rules) ∙ z)) (search rules),
-      completed _ _ _ _ _ e (omega (arith, v.3)) (bottom _ _ _ v.1 c.if-depth-ne0.false) v.4,
+      completed _ _ _ _ _ e (omega (arith, v.3)) (bottom _ _ _ v.1 c.if-depth-eq0.true) v.4,
     )

@@ -10,9 +10,6 @@ use Rattle.job.proofs.Answers.{plans_not, plans_along}
 use Rattle.job.proofs.Scans.{was_faulty, was_passed}
 use Rattle.job.proofs.checks.check_records.Goals as goal
 
-pub scan_variables-requires : goal.scan_variables-requires
-scan_variables-requires c = c.requires.0
-
 pub returns-in_err-variable : goal.returns-in_err-variable
 unfolding scanned answer check_records
 returns-in_err-variable c = let p = err_from_is_err_and c.from_residual.result c.from_residual.ensures.1 in

