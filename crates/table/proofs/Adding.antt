@@ -3,8 +3,8 @@
 use mathlib.Core.Path.{◌≡◌, sym, ap, subst}
 use Prim.Native.Nat.{ℕ, suc, ◌<◌, ◌≤◌}
 use native.Mathlib.Omega.{arith}
-use Rattle.rules.specs.Tree.{Label, Forest, Place, to, up, change, insert, after_insert}
-use Rattle.table.specs.Cells.{cell, Table, gone, side_of, left_on}
+use Rattle.rules.specs.Tree.{Label, Forest, Side, Place, to, up, change, insert, after_insert}
+use Rattle.table.specs.Cells.{cell, Table, gone, left_on}
 use Rattle.table.specs.Holds.{Placed, empty, node, head, Spare, hit, times, Holds}
 use Rattle.table.specs.Promises.{Leads, Added}
 use Rattle.table.specs.Steps.{with_word, Put, LedBack, Attached, Took}
@@ -21,17 +21,16 @@ use Rattle.table.proofs.Sides.{return, link_above, at, way_on, forest_on, view_o
 use Rattle.table.proofs.Words.{with_link_law, one_more_law}
 
 -- the place y is linked in, with the label a
-module _ {m m' : Table} {n used free x y u : ℕ} {t : Forest} {l : Label} {o f : Placed} {k : Way} {s : Spare} (side : ℕ) (lt : side < 2) (a : Label) where
-  hung : Focus m n used free t (loose y) (step (side_of side) x l o k) f s → y < used → u ≡ parent_of (step (side_of side) x l o k) → u < n
-      → Attached side a m m' n x u y
-      → Focus m' n used free (change (to (side_of side) (path_of k)) (insert a) t) empty (step (side_of side) x l o k) (node y a empty f) s
+module _ {m m' : Table} {n used free x y u : ℕ} {t : Forest} {l : Label} {o f : Placed} {k : Way} {s : Spare} (d : Side) (a : Label) where
+  hung : Focus m n used free t (loose y) (step d x l o k) f s → y < used → u ≡ parent_of (step d x l o k) → u < n
+      → Attached d a m m' n x u y
+      → Focus m' n used free (change (to d (path_of k)) (insert a) t) empty (step d x l o k) (node y a empty f) s
   unfolding with_word
   hung h ly z lu g =
-      let d = side_of side in
       let placed : Put m g.m₁ y (cell gone (head f) (parent_of (step d x l o k)) (left_on d x) gone 0 a) =
       subst (λ v. Put m g.m₁ y (cell gone (head f) v (left_on d x) gone 0 a)) z
       (subst (λ v. Put m g.m₁ y (cell gone v u (left_on d x) gone 0 a)) (link_above d h) g.placed) in
-      let linked = subst (λ v. Put g.m₁ g.m₂ x v) (with_link_law side y (g.m₁ x) lt) g.linked in
+      let linked = subst (λ v. Put g.m₁ g.m₂ x v) (with_link_law d y (g.m₁ x)) g.linked in
       let back : LedBack g.m₂ n (head f) (parent_of (step d x l o k)) y g.m₃ =
       subst (λ v. LedBack g.m₂ n (head f) v y g.m₃) z (subst (λ v. LedBack g.m₂ n v u y g.m₃) (link_above d h) g.back) in
       let ne : parent_of (step d x l o k) ≡ gone → ⊥ = λ i. omega (arith, h.few) in
@@ -45,19 +44,19 @@ module _ {m m' : Table} {n used free x y u : ℕ} {t : Forest} {l : Label} {o f 
       grow a g.bytes h ly ne placed linked back (subst (λ v. Put g.m₃ m' v (with_count (suc (g.m₃ v).children) (g.m₃ v))) z counted)
 
 -- adding on a side of the cursor's node, under its parent there
-module _ {m : Table} {n used free x : ℕ} {t : Forest} {p : Place} {u : ℕ} (h : Holds m n used free x t p) (side : ℕ) (lt : side < 2) (lu : u < n)
-    (z : Leads m n used free t (up (to (side_of side) p)) u) where
+module _ {m : Table} {n used free x : ℕ} {t : Forest} {p : Place} {u : ℕ} (h : Holds m n used free x t p) (d : Side) (lu : u < n)
+    (z : Leads m n used free t (up (to d p)) u) where
   abbrev there : Way
-  there = way_on h (side_of side)
+  there = way_on h d
 
-  view : Focus m n used free t empty there (forest_on h (side_of side)) (at h).s
-  view = view_on h (side_of side)
+  view : Focus m n used free t empty there (forest_on h d) (at h).s
+  view = view_on h d
 
   is_parent : u ≡ parent_of there
-  is_parent = one_lead z (subst (λ q. Leads m n used free t (up (to (side_of side) q)) (parent_of there)) (at h).is_path (climb there _ view)) lu
+  is_parent = one_lead z (subst (λ q. Leads m n used free t (up (to d q)) (parent_of there)) (at h).is_path (climb there _ view)) lu
 
   module _ {m₁ : Table} {y free' used' : ℕ} (took : Took m n used free m₁ y free' used') where
-    pub added_none : {a : Label} → n ≤ y → Added (side_of side) a m m₁ n used free x y free' used' t p
+    pub added_none : {a : Label} → n ≤ y → Added d a m m₁ n used free x y free' used' t p
     added_none ge =
         record {
           when = found_room view took;
@@ -69,11 +68,10 @@ module _ {m : Table} {n used free x : ℕ} {t : Forest} {p : Place} {u : ℕ} (h
           moved = λ i. absurd (omega arith);
         }
 
-    pub added : {a : Label} {m' : Table} → y < n → Attached side a m₁ m' n x u y → Added (side_of side) a m m' n used free x y free' used' t p
+    pub added : {a : Label} {m' : Table} → y < n → Attached d a m₁ m' n x u y → Added d a m m' n used free x y free' used' t p
     added {a} {m'} ly g =
-        let d = side_of side in
         let new = handed view took ly in
-        let f = hung side lt a new.focus new.below is_parent lu g in
+        let f = hung d a new.focus new.below is_parent lu g in
         record {
           when = found_room view took;
           none = λ i. absurd (omega arith);
@@ -83,7 +81,7 @@ module _ {m : Table} {n used free x : ℕ} {t : Forest} {p : Place} {u : ℕ} (h
           vacant =
               λ _ q k.
               omega
-              (arith, lives k, ap (times y) (placing k view), plug_times y there (forest_on h (side_of side)), new.focus.once y, hit_same y);
+              (arith, lives k, ap (times y) (placing k view), plug_times y there (forest_on h d), new.focus.once y, hit_same y);
           moved =
               λ _ i q k.
               let held = whole there f in

@@ -6,7 +6,7 @@ use native.Mathlib.Decide.{ℕ_discrete}
 use Rattle.rules.specs.Limits.{max_nodes}
 use Rattle.rules.specs.Number.{range}
 use Rattle.rules.specs.Tree.{Label, Side, child, sibling}
-use Rattle.table.specs.Cells.{cell, Table, gone, word_of, ByteLevels, side_of, link, left_on}
+use Rattle.table.specs.Cells.{cell, Table, gone, word_of, ByteLevels, word_on, link, left_on}
 use Rattle.table.specs.Promises.{Behind}
 use Rattle.table.specs.Steps.{with_word, Put, one_more, one_less, LedBack, next, final, Attached, Detached, Pushed, some, none, Popped, Took, again, fresh, full, Cleared, Entered, under, alone}
 use Rattle.table.proofs.Behind.{put_behind, then_behind, same_behind}
@@ -17,15 +17,15 @@ left_fits : (d : Side) (x : ℕ) → x < range → word_of (left_on d x) ≡ lef
 left_fits child x lt = fits gone (omega arith)
 left_fits sibling x lt = fits x lt
 
-pub attached : {m m₁ m₂ m₃ m₄ m' : Table} {n x u y old prev : ℕ} {l : Label} (side : ℕ) → ByteLevels l → n ≤ max_nodes → x < n → u < n → y < n
-    → old ≡ link (side_of side) (m x) → prev ≡ word_of (left_on (side_of side) x)
+pub attached : {m m₁ m₂ m₃ m₄ m' : Table} {n x u y old prev : ℕ} {l : Label} (d : Side) → ByteLevels l → n ≤ max_nodes → x < n → u < n → y < n
+    → old ≡ link d (m x) → prev ≡ word_of (left_on d x)
     → Put m m₁ y (with_word 5 0 (with_word 9 gone (with_word 0 gone (m y))))
     → Put m₁ m₂ y (cell (m₁ y).first old (word_of u) prev (m₁ y).last (m₁ y).children l)
-    → Put m₂ m₃ x (with_word side (word_of y) (m₂ x)) → LedBack m₃ n old u (word_of y) m₄ → Put m₄ m' u (with_word 5 (one_more (m₄ u).children) (m₄ u))
-    → Attached side l m m' n x u y
+    → Put m₂ m₃ x (with_word (word_on d) (word_of y) (m₂ x)) → LedBack m₃ n old u (word_of y) m₄ → Put m₄ m' u (with_word 5 (one_more (m₄ u).children) (m₄ u))
+    → Attached d l m m' n x u y
 unfolding with_word
-attached {m₂ = m₂} {m₃} {m₄} {x = x} {u} {y} {old} {prev} {l} side b few lx lu ly i w p q s k z =
-    let left : prev ≡ left_on (side_of side) x = w ∙ left_fits (side_of side) x (omega arith) in
+attached {m₂ = m₂} {m₃} {m₄} {x = x} {u} {y} {old} {prev} {l} d b few lx lu ly i w p q s k z =
+    let left : prev ≡ left_on d x = w ∙ left_fits d x (omega arith) in
     record {
       bytes = b;
       m₁ = m₂;
@@ -38,10 +38,10 @@ attached {m₂ = m₂} {m₃} {m₄} {x = x} {u} {y} {old} {prev} {l} side b few
       counted = z;
     }
 
-pub detached : {m m₁ m₂ m₃ m₄ m' : Table} {n x u y e next prev : ℕ} (side : ℕ) → next ≡ (m y).right → prev ≡ (m y).left
-    → Put m m₁ x (with_word side next (m x)) → LedBack m₁ n next u prev m₂ → Put m₂ m₃ y (with_word 1 gone (m₂ y)) → Put m₃ m₄ y (with_word 2 e (m₃ y))
-    → Put m₄ m' u (with_word 5 (one_less (m₄ u).children) (m₄ u)) → Detached side m m' n x u y e
-detached {m₁ = m₁} {m₂} {m₃} {m₄} side i j p k q s z =
+pub detached : {m m₁ m₂ m₃ m₄ m' : Table} {n x u y e next prev : ℕ} (d : Side) → next ≡ (m y).right → prev ≡ (m y).left
+    → Put m m₁ x (with_word (word_on d) next (m x)) → LedBack m₁ n next u prev m₂ → Put m₂ m₃ y (with_word 1 gone (m₂ y)) → Put m₃ m₄ y (with_word 2 e (m₃ y))
+    → Put m₄ m' u (with_word 5 (one_less (m₄ u).children) (m₄ u)) → Detached d m m' n x u y e
+detached {m₁ = m₁} {m₂} {m₃} {m₄} d i j p k q s z =
     record { m₁ = m₁; m₂ = m₂; m₃ = m₃; m₄ = m₄; passed = rw i at p; back = rw (i, j) at k; cut = q; stacked = s; counted = z }
 
 pub popped : {m m₁ m' : Table} {n x right rest first e r : ℕ} → right ≡ (m x).right → rest ≡ (m x).parent → first ≡ (m x).first
@@ -65,12 +65,12 @@ led_behind : {m m' : Table} {n x u v : ℕ} → u < n → LedBack m n x u v m' �
 led_behind lu (next lt p) = put_behind lt p
 led_behind lu (final ge p) = put_behind lu p
 
-pub attached_behind : {side n x u y : ℕ} {l : Label} {m m' : Table} → x < n → u < n → y < n → Attached side l m m' n x u y → Behind n m m'
+pub attached_behind : {d : Side} {n x u y : ℕ} {l : Label} {m m' : Table} → x < n → u < n → y < n → Attached d l m m' n x u y → Behind n m m'
 attached_behind lx lu ly g =
     then_behind (then_behind (then_behind (put_behind ly g.placed) (put_behind lx g.linked)) (led_behind lu g.back))
     (put_behind lu g.counted)
 
-pub detached_behind : {side n x u y e : ℕ} {m m' : Table} → x < n → u < n → y < n → Detached side m m' n x u y e → Behind n m m'
+pub detached_behind : {d : Side} {n x u y e : ℕ} {m m' : Table} → x < n → u < n → y < n → Detached d m m' n x u y e → Behind n m m'
 detached_behind lx lu ly g =
     then_behind
     (then_behind (then_behind (then_behind (put_behind lx g.passed) (led_behind lu g.back)) (put_behind ly g.cut)) (put_behind ly g.stacked))

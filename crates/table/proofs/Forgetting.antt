@@ -9,8 +9,8 @@ use native.Mathlib.Omega.{arith}
 use native.Mathlib.Decide.{ℕ_discrete, dec_lt}
 use lib.ListN.{length, set}
 use lib.Seq.{get_or-set_same, get_or-set_other}
-use Rattle.rules.specs.Tree.{Forest, Place}
-use Rattle.table.specs.Cells.{Table, gone, side_of}
+use Rattle.rules.specs.Tree.{Forest, Side, Place}
+use Rattle.table.specs.Cells.{Table, gone}
 use Rattle.table.specs.Holds.{Placed, head, Spare, end, more, top, Linked, Free, hit, times, spare_times, Holds}
 use Rattle.table.specs.Promises.{Behind}
 use Rattle.table.specs.Since.{never, number, Forgotten, Clears, Clearing, Forgets}
@@ -155,20 +155,20 @@ forgotten {m} {m₁} {m'} {n} {used} {x} {below} {since} {since'} c least room l
     each w y z (no i) = w.each y (omega (arith, z, hit_other y x i, onto_times y c end))
 
 -- the node at y, the first on a side of the cursor's, and all below it are forgotten
-module _ {m m' : Table} {n used free x y : ℕ} {t : Forest} {p : Place} {since since' : List ℕ} (h : Holds m n used free x t p) (side : ℕ)
-    (o : First y (forest_on h (side_of side))) where
+module _ {m m' : Table} {n used free x y : ℕ} {t : Forest} {p : Place} {since since' : List ℕ} (h : Holds m n used free x t p) (d : Side)
+    (o : First y (forest_on h d)) where
   subtree : Clearing n m m' y since since' → Forgotten (λ i. hit i y + times i o.c) (λ i. times i o.c) m m' since since'
   subtree w =
-      let v = seen_first h side o in
+      let v = seen_first h d o in
       w.done used o.c h.room (ap (λ a. a.first) v.stored.1) (still_linked m used y gone o.c v.stored.2) (λ i. omega (arith, v.once i))
 
-  forgets : Forgotten (λ i. hit i y + times i o.c) (λ i. times i o.c) m m' since since' → {b : Bool} → Forgets b (side_of side) m n used free t p since since'
+  forgets : Forgotten (λ i. hit i y + times i o.c) (λ i. times i o.c) m m' since since' → {b : Bool} → Forgets b d m n used free t p since since'
   forgets f =
       record {
-        lost = λ _ i q k z. f.each i (gone_below h side o i q k z);
-        other = λ i q q' k z. f.other i (not_below h side o i q q' k z);
+        lost = λ _ i q k z. f.each i (gone_below h d o i q k z);
+        other = λ i q q' k z. f.other i (not_below h d o i q q' k z);
         either = λ i. either i (dec_lt 0 (hit i y + times i o.c));
-        behind = λ i ge. f.other i (omega (arith, none_new (seen_first h side o) i (omega (arith, h.room))));
+        behind = λ i ge. f.other i (omega (arith, none_new (seen_first h d o) i (omega (arith, h.room))));
       }
     where
       either : (i : ℕ) → Dec (0 < hit i y + times i o.c) → (number since' i ≡ number since i) ⊎ (number since' i ≡ never)
@@ -177,17 +177,17 @@ module _ {m m' : Table} {n used free x y : ℕ} {t : Forest} {p : Place} {since 
 
 -- the node at y, the first on a side of the cursor's, may go: it is forgotten with all below it, if any block remembers a node, and of the table only parent
 -- words below it are touched
-pub record Ready (remembered : Bool) (side n x y : ℕ) (m m' : Table) (since since' : List ℕ) : Type 0 where
+pub record Ready (remembered : Bool) (d : Side) (n x y : ℕ) (m m' : Table) (since since' : List ℕ) : Type 0 where
   pub behind : Behind n m m'
-  pub done : {used free : ℕ} {t : Forest} {p : Place} (h : Holds m n used free x t p) (o : First y (forest_on h (side_of side)))
-      → Reparented (λ i. times i o.c) m m' × Forgets remembered (side_of side) m n used free t p since since'
+  pub done : {used free : ℕ} {t : Forest} {p : Place} (h : Holds m n used free x t p) (o : First y (forest_on h d))
+      → Reparented (λ i. times i o.c) m m' × Forgets remembered d m n used free t p since since'
 
-module _ {side n x y : ℕ} {m : Table} {since : List ℕ} where
-  pub all_forgotten : {b : Bool} {m' : Table} {since' : List ℕ} → Clearing n m m' y since since' → Ready b side n x y m m' since since'
-  all_forgotten w = record { behind = w.behind; done = λ h o. let f = subtree h side o w in (f.links, forgets h side o f) }
+module _ {d : Side} {n x y : ℕ} {m : Table} {since : List ℕ} where
+  pub all_forgotten : {b : Bool} {m' : Table} {since' : List ℕ} → Clearing n m m' y since since' → Ready b d n x y m m' since since'
+  all_forgotten w = record { behind = w.behind; done = λ h o. let f = subtree h d o w in (f.links, forgets h d o f) }
 
   -- where no block remembers a node there is nothing to forget
-  pub none_kept : Ready false side n x y m m since since
+  pub none_kept : Ready false d n x y m m since since
   none_kept =
       record {
         behind = same_behind (λ y. refl);

@@ -4,8 +4,8 @@ use mathlib.Core.Path.{◌≡◌, refl, sym, ap, subst, ◌∙◌}
 use mathlib.Core.Option.{none, some}
 use Prim.Native.Nat.{ℕ, ◌+◌, ◌-◌, ◌<◌, ◌≤◌}
 use native.Mathlib.Omega.{arith}
-use Rattle.rules.specs.Tree.{Label, Forest, Place, to, change, remove, count, after_remove}
-use Rattle.table.specs.Cells.{Table, gone, word_of, side_of, left_on}
+use Rattle.rules.specs.Tree.{Label, Forest, Side, Place, to, change, remove, count, after_remove}
+use Rattle.table.specs.Cells.{Table, gone, word_of, left_on}
 use Rattle.table.specs.Holds.{Placed, empty, node, head, Spare, end, more, hit, times, Holds}
 use Rattle.table.specs.Promises.{Leads, Removed}
 use Rattle.table.specs.Steps.{with_word, Put, Reparented, LedBack, Detached}
@@ -31,18 +31,17 @@ first empty e ne = absurd (ne e)
 first (node q l c r) e ne = record { l = l; c = c; r = r; was = ap (λ v. node v l c r) (sym e) }
 
 -- it goes from the end of the way; the parent words below it may have changed before
-module _ {m m₀ m' : Table} {n used free x y u : ℕ} {t : Forest} {l a : Label} {o c r : Placed} {k : Way} {s : Spare} (side : ℕ) (lt : side < 2) where
-  cut_off : Focus m n used free t empty (step (side_of side) x l o k) (node y a c r) s → u ≡ parent_of (step (side_of side) x l o k) → u < n
-      → Reparented (λ i. times i c) m m₀ → Detached side m₀ m' n x u y free
-      → Focus m' n used y (change (to (side_of side) (path_of k)) remove t) empty (step (side_of side) x l o k) r (more y c empty s)
+module _ {m m₀ m' : Table} {n used free x y u : ℕ} {t : Forest} {l a : Label} {o c r : Placed} {k : Way} {s : Spare} (d : Side) where
+  cut_off : Focus m n used free t empty (step d x l o k) (node y a c r) s → u ≡ parent_of (step d x l o k) → u < n
+      → Reparented (λ i. times i c) m m₀ → Detached d m₀ m' n x u y free
+      → Focus m' n used y (change (to d (path_of k)) remove t) empty (step d x l o k) r (more y c empty s)
   unfolding with_word count
   cut_off h z lu p g =
-      let d = side_of side in
       let K = step d x l o k in
       let right : (m₀ y).right ≡ head r = ap (λ v. v.right) (p.rest y) ∙ ap (λ v. v.right) h.stored.1 in
       let left : (m₀ y).left ≡ left_on d x = ap (λ v. v.left) (p.rest y) ∙ ap (λ v. v.left) h.stored.1 in
       let passed : Put m₀ g.m₁ x (with_link d (head r) (m₀ x)) =
-      subst (λ v. Put m₀ g.m₁ x v) (with_link_law side (m₀ y).right (m₀ x) lt ∙ ap (λ v. with_link d v (m₀ x)) right) g.passed in
+      subst (λ v. Put m₀ g.m₁ x v) (with_link_law d (m₀ y).right (m₀ x) ∙ ap (λ v. with_link d v (m₀ x)) right) g.passed in
       let back : LedBack g.m₁ n (head r) (parent_of K) (left_on d x) g.m₂ = rw (right, left, z) at g.back in
       let ne : parent_of K ≡ gone → ⊥ = λ i. omega (arith, h.few) in
       let kept : (g.m₄ u).children ≡ (m (parent_of K)).children =
@@ -58,21 +57,21 @@ free_fits {s = end} h = fits _ (omega (arith, h.leads))
 free_fits {s = more x c r s} h = fits _ (omega (arith, h.leads, h.freed.0, h.room, h.few))
 
 -- removal on a side of the cursor's node
-module _ {m : Table} {n used free x : ℕ} {t : Forest} {p : Place} (h : Holds m n used free x t p) (side : ℕ) where
+module _ {m : Table} {n used free x : ℕ} {t : Forest} {p : Place} (h : Holds m n used free x t p) (d : Side) where
   abbrev there : Way
-  there = way_on h (side_of side)
+  there = way_on h d
 
-  module _ {y : ℕ} (ly : y < n) (e : Leads m n used free t (some (to (side_of side) p)) y) where
-    is_head : y ≡ head (forest_on h (side_of side))
-    is_head = one_lead e (to_side h (side_of side)) ly ∙ link_above (side_of side) (view_on h (side_of side))
+  module _ {y : ℕ} (ly : y < n) (e : Leads m n used free t (some (to d p)) y) where
+    is_head : y ≡ head (forest_on h d)
+    is_head = one_lead e (to_side h d) ly ∙ link_above d (view_on h d)
 
     -- a node stands there
-    pub found : First y (forest_on h (side_of side))
-    found = first (forest_on h (side_of side)) is_head (λ z. omega (arith, h.few))
+    pub found : First y (forest_on h d)
+    found = first (forest_on h d) is_head (λ z. omega (arith, h.few))
 
-  module _ {y : ℕ} (o : First y (forest_on h (side_of side))) where
+  module _ {y : ℕ} (o : First y (forest_on h d)) where
     pub seen_first : Focus m n used free t empty there (node y o.l o.c o.r) (at h).s
-    seen_first = subst (λ f. Focus m n used free t empty there f (at h).s) o.was (view_on h (side_of side))
+    seen_first = subst (λ f. Focus m n used free t empty there f (at h).s) o.was (view_on h d)
 
     -- its cell leads to its parent
     above : (m y).parent ≡ parent_of there
@@ -81,15 +80,15 @@ module _ {m : Table} {n used free x : ℕ} {t : Forest} {p : Place} (h : Holds m
     -- which is a node
     pub never_parentless : {u : ℕ} → u ≡ (m y).parent → n ≤ u → ⊥
     never_parentless z ge =
-        omega (arith, has_parent (side_of side) (at h).k _ seen_first (omega (arith, seen_first.stored.0, h.room)), above, z)
+        omega (arith, has_parent d (at h).k _ seen_first (omega (arith, seen_first.stored.0, h.room)), above, z)
 
     -- it has gone
     abbrev pub Gone : Table → Type 0
     Gone m' = Focus m' n used y (change (path_of there) remove t) empty there o.r (more y o.c empty (at h).s)
 
-    pub pruned : {m₀ m' : Table} {u : ℕ} → side < 2 → u ≡ (m y).parent → u < n → Reparented (λ i. times i o.c) m m₀
-        → Detached side m₀ m' n x u y (word_of free) → Gone m'
-    pruned lt z lu g d = cut_off side lt seen_first (z ∙ above) lu g (rw (free_fits seen_first) at d)
+    pub pruned : {m₀ m' : Table} {u : ℕ} → u ≡ (m y).parent → u < n → Reparented (λ i. times i o.c) m m₀
+        → Detached d m₀ m' n x u y (word_of free) → Gone m'
+    pruned z lu g w = cut_off d seen_first (z ∙ above) lu g (rw (free_fits seen_first) at w)
 
     -- a node that stood in the tree
     stood : {i : ℕ} {q : Place} → Holds m n used free i t q → Stands i q (plug there (node y o.l o.c o.r))
@@ -99,21 +98,21 @@ module _ {m : Table} {n used free x : ℕ} {t : Forest} {p : Place} (h : Holds m
     stays : {i : ℕ} {q q' : Place} → Holds m n used free i t q → after_remove (path_of there) q ≡ some q' → Stands i q' (plug there o.r)
     stays {q = q} {q'} k w = stands_pruned q there y o.l o.c o.r q' w (stood k)
 
-    pub removed : {m' : Table} → Gone m' → Removed (side_of side) m m' n used free y x t p
+    pub removed : {m' : Table} → Gone m' → Removed d m m' n used free y x t p
     removed {m'} g =
-        let held : Holds m' n used y x (change (path_of there) remove t) (path_of (at h).k) = return (side_of side) (at h).k g in
-        subst (λ q. Removed (side_of side) m m' n used free y x t q) (at h).is_path
+        let held : Holds m' n used y x (change (path_of there) remove t) (path_of (at h).k) = return d (at h).k g in
+        subst (λ q. Removed d m m' n used free y x t q) (at h).is_path
         (record {
           done = held;
           moved = λ i q q' k w. elsewhere held (subst (Stands i q') (sym (placing held g)) (stays k w));
         })
 
     -- or is one of those that have gone
-    pub gone_below : (i : ℕ) (q : Place) → Holds m n used free i t q → after_remove (to (side_of side) p) q ≡ none → 0 < hit i y + times i o.c
+    pub gone_below : (i : ℕ) (q : Place) → Holds m n used free i t q → after_remove (to d p) q ≡ none → 0 < hit i y + times i o.c
     gone_below i q k w =
-        stands_lost q there y o.l o.c o.r (subst (λ v. after_remove (to (side_of side) v) q ≡ none) (sym (at h).is_path) w) (stood k)
+        stands_lost q there y o.l o.c o.r (subst (λ v. after_remove (to d v) q ≡ none) (sym (at h).is_path) w) (stood k)
 
-    pub not_below : (i : ℕ) (q q' : Place) → Holds m n used free i t q → after_remove (to (side_of side) p) q ≡ some q' → hit i y + times i o.c ≡ 0
+    pub not_below : (i : ℕ) (q q' : Place) → Holds m n used free i t q → after_remove (to d p) q ≡ some q' → hit i y + times i o.c ≡ 0
     not_below i q q' k w =
-        let s = stays k (subst (λ v. after_remove (to (side_of side) v) q ≡ some q') (sym (at h).is_path) w) in
+        let s = stays k (subst (λ v. after_remove (to d v) q ≡ some q') (sym (at h).is_path) w) in
         omega (arith, standing i q' _ s.0 s.1, plug_times i there o.r, seen_first.once i)

@@ -4,14 +4,14 @@ use mathlib.Core.List.{List}
 use mathlib.Core.Bool.{cond}
 use Prim.Native.Nat.{ℕ, zero, suc, ◌+◌, ◌-◌, ◌*◌, ◌<◌, ◌≤◌}
 use Rattle.rules.specs.Number.{range}
-use Rattle.rules.specs.Tree.{Label}
+use Rattle.rules.specs.Tree.{Label, Side, child, sibling}
 use native.Mathlib.Omega.{arith}
 use native.Mathlib.Decide.{ℕ_discrete}
 use lib.Dec.{eqb}
 use lib.ListN.{length, set}
 use lib.Seq.{get_or-set_same, get_or-set_other}
 use borrow.Author.Tests.{eq-eqb, ne_eqb}
-use Rattle.table.specs.Cells.{Cell, cell, Table, cell_size, word, word_of, label_with, cells, side_of, link}
+use Rattle.table.specs.Cells.{Cell, cell, Table, cell_size, word, word_of, label_with, cells, word_on, link}
 use Rattle.table.specs.Steps.{with_word, with_label, Put, one_more, one_less}
 use Rattle.table.proofs.Links.{with_link}
 
@@ -76,17 +76,15 @@ module _ {m m₁ m₂ m₃ m₄ : Table} {x : ℕ} where
   filled {u = u} {v} {l} p₁ p₂ p₃ p₄ = twice (with_label l) (twice (with_word 8 v) (twice (with_word 2 u) p₁ p₂) p₃) p₄
 
 -- links by their word
-pub link_word : (b : List ℕ) (x j : ℕ) → j < 2 → word b x j ≡ link (side_of j) (cells b x)
-unfolding cells side_of
-link_word b x zero lt = refl
-link_word b x (suc zero) lt = refl
-link_word b x (suc (suc j)) lt = absurd (omega arith)
+pub link_word : (b : List ℕ) (x : ℕ) (d : Side) → word b x (word_on d) ≡ link d (cells b x)
+unfolding cells
+link_word b x child = refl
+link_word b x sibling = refl
 
-pub with_link_law : (j v : ℕ) (a : Cell) → j < 2 → with_word j v a ≡ with_link (side_of j) v a
-unfolding with_word side_of
-with_link_law zero v a lt = refl
-with_link_law (suc zero) v a lt = refl
-with_link_law (suc (suc j)) v a lt = absurd (omega arith)
+pub with_link_law : (d : Side) (v : ℕ) (a : Cell) → with_word (word_on d) v a ≡ with_link d v a
+unfolding with_word
+with_link_law child v a = refl
+with_link_law sibling v a = refl
 
 -- counts that fit
 pub one_more_law : (j : ℕ) → j < 4294967295 → one_more j ≡ suc j

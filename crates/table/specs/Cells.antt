@@ -1,8 +1,10 @@
 -- The table's words, `cellSize` to a place of one slice, and the cell that they spell. Assumes nothing.
-use Rattle.std.specs.Prelude.{List, ℕ, zero, suc, ◌+◌, ◌*◌, ◌%◌, ◌<◌, ◌≤◌, get_or, length}
+use Rattle.std.specs.Prelude.{List, ℕ, ◌+◌, ◌*◌, ◌%◌, ◌<◌, ◌≤◌, get_or, length}
 use Rattle.rules.specs.Limits.{max_nodes, no_parent}
 use Rattle.rules.specs.Number.{range, signed}
 use Rattle.rules.specs.Tree.{Label, Side, child, sibling}
+use Rattle.table.specs.declared.Side as Sides
+use Rattle.table.specs.declared.Side.TheVariants.{First, Right}
 use Rattle.table.specs.declared.shape.NewNode.{NewNode}
 
 -- what a link holds where it leads to no node: a number that is no place
@@ -59,10 +61,15 @@ cells b x =
     cell (word b x 0) (word b x 1) (word b x 2) (word b x 8) (word b x 9) (word b x 5)
     (label_with (word b x 4) (word b x 3) (word b x 6) (word b x 7))
 
--- the side that the link in word j leads to
-unfoldable pub side_of : ℕ → Side
-side_of zero = child
-side_of (suc j) = sibling
+-- the side of the rules' tree
+abbrev pub side_of : Sides.Side → Side
+side_of First = child
+side_of Right = sibling
+
+-- the word of the link to a side
+abbrev pub word_on : Side → ℕ
+word_on child = 0
+word_on sibling = 1
 
 -- the link to a side
 abbrev pub link : Side → Cell → ℕ

@@ -1,8 +1,8 @@
 -- What the table's private functions do to its cells. Assumes nothing.
 use Rattle.std.specs.Prelude.{◌≡◌, ℕ, zero, suc, ◌+◌, ◌-◌, ◌<◌, ◌≤◌, ℤ}
 use Rattle.rules.specs.Number.{range, signed}
-use Rattle.rules.specs.Tree.{Label}
-use Rattle.table.specs.Cells.{Cell, cell, Table, ByteLevels, gone, word_of, side_of, link, left_on}
+use Rattle.rules.specs.Tree.{Label, Side}
+use Rattle.table.specs.Cells.{Cell, cell, Table, ByteLevels, gone, word_of, word_on, link, left_on}
 
 -- a cell with another label
 abbrev pub with_label : Label → Cell → Cell
@@ -51,24 +51,24 @@ pub data LedBack (m : Table) (n x u v : ℕ) (m' : Table) : Type 0 where
   next : x < n → Put m m' x (with_word 8 v (m x)) → LedBack m n x u v m'
   final : n ≤ x → Put m m' u (with_word 9 v (m u)) → LedBack m n x u v m'
 
--- the place y, with the label l, was linked in front of what stands on a side of the node at x, under the parent u
-pub record Attached (side : ℕ) (l : Label) (m m' : Table) (n x u y : ℕ) : Type 0 where
+-- the place y, with the label l, was linked in front of what stands on the side d of the node at x, under the parent u
+pub record Attached (d : Side) (l : Label) (m m' : Table) (n x u y : ℕ) : Type 0 where
   pub bytes : ByteLevels l
   pub m₁ : Table
   pub m₂ : Table
   pub m₃ : Table
-  pub placed : Put m m₁ y (cell gone (link (side_of side) (m x)) u (left_on (side_of side) x) gone 0 l)
-  pub linked : Put m₁ m₂ x (with_word side y (m₁ x))
-  pub back : LedBack m₂ n (link (side_of side) (m x)) u y m₃
+  pub placed : Put m m₁ y (cell gone (link d (m x)) u (left_on d x) gone 0 l)
+  pub linked : Put m₁ m₂ x (with_word (word_on d) y (m₁ x))
+  pub back : LedBack m₂ n (link d (m x)) u y m₃
   pub counted : Put m₃ m' u (with_word 5 (one_more (m₃ u).children) (m₃ u))
 
--- the first node on a side of the one at x, which stands at y, was taken out from under the parent u; its parent word leads to e
-pub record Detached (side : ℕ) (m m' : Table) (n x u y e : ℕ) : Type 0 where
+-- the first node on the side d of the one at x, which stands at y, was taken out from under the parent u; its parent word leads to e
+pub record Detached (d : Side) (m m' : Table) (n x u y e : ℕ) : Type 0 where
   pub m₁ : Table
   pub m₂ : Table
   pub m₃ : Table
   pub m₄ : Table
-  pub passed : Put m m₁ x (with_word side (m y).right (m x))
+  pub passed : Put m m₁ x (with_word (word_on d) (m y).right (m x))
   pub back : LedBack m₁ n (m y).right u (m y).left m₂
   pub cut : Put m₂ m₃ y (with_word 1 gone (m₂ y))
   pub stacked : Put m₃ m₄ y (with_word 2 e (m₃ y))

@@ -2,6 +2,9 @@
 // lent; a link to no node holds NIL, which is no place.
 #![tactic(auto)]
 
+ghost use Rattle.std.specs.Prelude.{◌≡◌, ◌<◌};
+ghost use Rattle.table.specs.Cells.{side_of, word_on};
+
 mod cells;
 mod levels;
 pub mod node;
@@ -23,10 +26,27 @@ pub const WORDS: usize = CELL * MAX_NODES;
 
 pub const NIL: usize = 65535;
 
-// The two sides of a node, by the word that has the link: its first child, its right sibling.
+// The words of the links to the two sides of a node.
 pub const FIRST: usize = 0;
 
 pub const RIGHT: usize = 1;
+
+// The two sides of a node: where its first child stands, and where its right sibling does.
+#[derive(Clone, Copy, Debug, PartialEq, Eq)]
+pub enum Side {
+    First,
+    Right,
+}
+
+// The word of the link to a side.
+fn word_on(side: Side) -> usize
+    ensures { (result ≡ word_on (side_of side)) × (result < 2) }
+{
+    match side {
+        Side::First => FIRST,
+        Side::Right => RIGHT,
+    }
+}
 
 // The place of a new node, or NIL where there is none for it, and what leads to the free places and the first never-used place then.
 #[derive(Drop)]

@@ -10,7 +10,7 @@ ghost use Rattle.table.specs.Steps.{Attached, Detached};
 
 use super::cells::word_of;
 use super::since::forget;
-use super::{Taken, cells, space};
+use super::{Side, Taken, cells, space, word_on};
 
 // What a new node shows: its value, as its 32 bits, and its three levels.
 #[derive(Drop)]
@@ -22,14 +22,13 @@ pub struct NewNode {
 }
 
 // The place of the left sibling that the first node on a side of the one at `at` has: none, or `at` itself.
-fn left_on(at: usize, side: usize) -> usize
-    requires { side < 2 }
+fn left_on(at: usize, side: Side) -> usize
     ensures { result ≡ left_on (side_of side) at }
 {
-    if side == super::FIRST {
-        return super::NIL;
+    match side {
+        Side::First => super::NIL,
+        Side::Right => at,
     }
-    at
 }
 
 // Links the place y in front of what stands on a side of the node at `at`, under the parent u.
@@ -37,32 +36,33 @@ fn attach(
     words: &mut [u32],
     places: usize,
     at: usize,
-    side: usize,
+    side: Side,
     u: usize,
     y: usize,
     node: NewNode,
 )
-    requires { Within words.old places at × ((side < 2) × ((u < places) × (y < places))) }
-    ensures { Attached side (label_new node)
+    requires { Within words.old places at × ((u < places) × (y < places)) }
+    ensures { Attached (side_of side) (label_new node)
         (cells words.old) (cells words.new) places at u y }
 {
-    let old = cells::get(words, places, at, side);
+    let word = word_on(side);
+    let old = cells::get(words, places, at, word);
     let prev = left_on(at, side);
     cells::clear(words, places, y);
     cells::fill(words, places, y, old, word_of(u), word_of(prev), node);
-    cells::store(words, places, at, side, word_of(y));
+    cells::store(words, places, at, word, word_of(y));
     cells::lead_back(words, places, old, u, word_of(y));
     cells::count_up(words, places, u);
 }
 
 // Takes the node at y out from a side of the one at `at`, under the parent u, and puts it onto the free places that `free` leads to.
-fn detach(words: &mut [u32], places: usize, at: usize, side: usize, u: usize, y: usize, free: usize)
-    requires { Within words.old places at × ((side < 2) × ((u < places) × (y < places))) }
-    ensures { Detached side (cells words.old) (cells words.new) places at u y (word_of free) }
+fn detach(words: &mut [u32], places: usize, at: usize, side: Side, u: usize, y: usize, free: usize)
+    requires { Within words.old places at × ((u < places) × (y < places)) }
+    ensures { Detached (side_of side) (cells words.old) (cells words.new) places at u y (word_of free) }
 {
     let next = cells::get(words, places, y, super::RIGHT);
     let prev = cells::get(words, places, y, cells::LEFT);
-    cells::store(words, places, at, side, next);
+    cells::store(words, places, at, word_on(side), next);
     cells::lead_back(words, places, next, u, prev);
     cells::store(words, places, y, super::RIGHT, word_of(super::NIL));
     cells::store(words, places, y, cells::PARENT, word_of(free));
@@ -77,11 +77,11 @@ pub fn add(
     used: usize,
     free: usize,
     at: usize,
-    side: usize,
+    side: Side,
     above: usize,
     node: NewNode,
 ) -> Taken
-    requires { Within words.old places at × ((side < 2) × (above < places)) }
+    requires { Within words.old places at × (above < places) }
     ensures added { (t : Forest) (p : Place) → Holds (cells words.old) places used free at t p
         → Leads (cells words.old) places used free t (up (to (side_of side) p)) above
         → Added (side_of side) (label_new node)
@@ -103,12 +103,12 @@ pub fn remove(
     places: usize,
     free: usize,
     at: usize,
-    side: usize,
+    side: Side,
     old: usize,
     since: &mut [u16],
     remembered: bool,
 ) -> usize
-    requires { Within words.old places at × ((side < 2) × ((old < places) × (places ≤ length since.old))) }
+    requires { Within words.old places at × ((old < places) × (places ≤ length since.old)) }
     ensures by_index { (used : ℕ) (t : Forest) (p : Place) → Holds (cells words.old) places used free at t p
         → Leads (cells words.old) places used free t (some (to (side_of side) p)) old
         → Removed (side_of side) (cells words.old) (cells words.new) places used free result at t p

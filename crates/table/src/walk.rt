@@ -1,13 +1,13 @@
 // The cursor's moves: each gives the place of the node moved to, or a number that is no place where there is none.
 ghost use Rattle.std.proofs.Math.Option.{some};
-ghost use Rattle.std.specs.Prelude.{ℕ, ◌<◌};
+ghost use Rattle.std.specs.Prelude.{ℕ};
 ghost use Rattle.rules.specs.Tree.{Forest, Place, to, up, left_of, last_of};
 ghost use Rattle.rules.specs.Tree as Tree;
 ghost use Rattle.table.specs.Cells.{Table, cells, side_of, Within};
 ghost use Rattle.table.specs.Holds.{Holds};
 ghost use Rattle.table.specs.Promises.{Leads};
 
-use super::cells;
+use super::{Side, cells, word_on};
 
 // To the root.
 pub fn root() -> usize
@@ -26,12 +26,12 @@ pub fn parent(words: &[u32], places: usize, at: usize) -> usize
 }
 
 // Down to the first child, or on to the right sibling.
-pub fn beside(words: &[u32], places: usize, at: usize, side: usize) -> usize
-    requires { Within words.now places at × (side < 2) }
+pub fn beside(words: &[u32], places: usize, at: usize, side: Side) -> usize
+    requires { Within words.now places at }
     ensures { (used free : ℕ) (t : Forest) (p : Place) → Holds (cells words.now) places used free at t p
         → Leads (cells words.now) places used free t (some (to (side_of side) p)) result }
 {
-    cells::link(words, places, at, side)
+    cells::link(words, places, at, word_on(side))
 }
 
 // Back to the left sibling.

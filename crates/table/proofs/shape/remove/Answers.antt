@@ -1,7 +1,7 @@
 -- The subtree is forgotten, and then the node goes, from under the parent that its cell leads to; it has one. Assumes nothing.
 use mathlib.Core.Path.{◌≡◌, refl, ap, ◌∙◌}
 use lib.ListN.{length}
-use Rattle.table.specs.Cells.{cells}
+use Rattle.table.specs.Cells.{cells, side_of}
 use Rattle.table.proofs.Behind.{then_behind}
 use Rattle.table.proofs.Removing.{found, removed, pruned, never_parentless}
 use Rattle.table.proofs.Effects.{detached_behind}
@@ -17,7 +17,7 @@ parent_word c = c.link-u.ensures
 
 -- where both ways meet again
 ready : (c : Joined-remembered)
-    → let a = c.args in Ready a.remembered a.side a.places a.at a.old (cells a.words.now) (cells c.if-remembered.words) a.since.now c.if-remembered.since
+    → let a = c.args in Ready a.remembered (side_of a.side) a.places a.at a.old (cells a.words.now) (cells c.if-remembered.words) a.since.now c.if-remembered.since
 ready c = elim c.if-remembered.branch [ then-remembered w ↦ rw (w.words-is, w.since-is) (all_forgotten w.forget.ensures) | else-remembered w ↦ rw (w.words-is, w.since-is, w.if-remembered.false) none_kept ]
 
 lengths : (c : Joined-remembered)
@@ -40,14 +40,14 @@ returns-then-u-places c = let r = ready (goal.at.returns-then-u-places c).Joined
     let lu = c.if-u-places.true in
     let d = c.detach.ensures in record {
       by_index = λ used t p h e.
-          let o = found h c.args.side c.requires.1.1.0 e in
+          let o = found h (side_of c.args.side) c.requires.1.0 e in
           let f = r.done h o in
-          (removed h c.args.side o (pruned h c.args.side o c.requires.1.0 (parent_word (goal.at.returns-then-u-places c).After-link-u) lu f.0 d), f.1);
-      behind = then_behind r.behind (detached_behind c.requires.0.inside lu c.requires.1.1.0 d);
+          (removed h (side_of c.args.side) o (pruned h (side_of c.args.side) o (parent_word (goal.at.returns-then-u-places c).After-link-u) lu f.0 d), f.1);
+      behind = then_behind r.behind (detached_behind c.requires.0.inside lu c.requires.1.0 d);
     }
 
 pub returns : goal.returns
 returns c = record {
-  by_index = λ used t p h e. absurd (never_parentless h c.args.side (found h c.args.side c.requires.1.1.0 e) (parent_word (goal.at.returns c).After-link-u) c.if-u-places.false);
+  by_index = λ used t p h e. absurd (never_parentless h (side_of c.args.side) (found h (side_of c.args.side) c.requires.1.0 e) (parent_word (goal.at.returns c).After-link-u) c.if-u-places.false);
   behind = record { same = λ _ _. refl };
 }

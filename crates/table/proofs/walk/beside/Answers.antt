@@ -4,4 +4,4 @@ use Rattle.table.proofs.Words.{link_word}
 use Rattle.table.proofs.walk.beside.Goals as goal
 
 pub returns : goal.returns
-returns c = λ used free t p h. rw (c.link.ensures, link_word _ _ _ c.requires.1) (to_side h _)
+returns c = λ used free t p h. rw (c.link.ensures, c.word_on.ensures.0, link_word _ _ _) (to_side h _)
