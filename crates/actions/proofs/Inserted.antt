@@ -13,13 +13,13 @@ use Rattle.rules.specs.Limits.{max_nodes}
 use Rattle.rules.specs.Number.{Fits, bits, signed}
 use Rattle.std.specs.Prelude.{None, Some, IfSome}
 use Rattle.rules.specs.Level.{join, not_above}
-use Rattle.rules.specs.Tree.{Forest, Place, to, up, sub, label}
+use Rattle.rules.specs.Tree.{Forest, Place, Side, child, sibling, to, up, sub, label}
 use Rattle.rules.specs.Script.{Expression}
 use Rattle.rules.specs.Run as Run
 use Rattle.rules.specs.Run.{Result, flow, absent, tableFull, stop_number, need, with_tree, current, position, flow_of, may_touch, new_label, insert_at, remove_at}
 use Rattle.rules.proofs.Tests.{Test, holds, fails, test, clash}
 use Rattle.rules.proofs.Number.{signed_bits}
-use Rattle.table.specs.Cells.{cells, side_of, label_new}
+use Rattle.table.specs.Cells.{cells, label_new}
 use Rattle.table.specs.Holds.{Holds}
 use Rattle.table.specs.Since.{number, Forgets}
 use Rattle.table.specs.Promises.{Whenever, Leads, found, Behind, Added, Removed, Valued as Revalued}
@@ -66,47 +66,47 @@ LeadsTo w places m o r =
     (used free : ℕ) (t : Forest) (p : Place) → Holds (cells w) places used free m.cursor t p → Leads (cells w) places used free t (o p) r
 
 -- the place on a side of the cursor, and that of the parent which a node there has
-abbrev pub Beside : List ℕ → ℕ → Memory → ℕ → ℕ → Type 0
-Beside w places m side = LeadsTo w places m (λ p. some (to (side_of side) p))
+abbrev pub Beside : List ℕ → ℕ → Memory → Side → ℕ → Type 0
+Beside w places m side = LeadsTo w places m (λ p. some (to side p))
 
-abbrev pub Above : List ℕ → ℕ → Memory → ℕ → ℕ → Type 0
-Above w places m side = LeadsTo w places m (λ p. up (to (side_of side) p))
+abbrev pub Above : List ℕ → ℕ → Memory → Side → ℕ → Type 0
+Above w places m side = LeadsTo w places m (λ p. up (to side p))
 
 -- the parent is the cursor's node, or that node's own
 module _ (w : List ℕ) {places : ℕ} (m : Memory) where
-  pub above_first : m.cursor < places → Above w places m 0 m.cursor
-  unfolding side_of up
+  pub above_first : m.cursor < places → Above w places m child m.cursor
+  unfolding up
   above_first lt used free t p h = found p lt refl h
 
-  pub above_right : {r : ℕ} → LeadsTo w places m up r → Above w places m 1 r
-  unfolding side_of up
+  pub above_right : {r : ℕ} → LeadsTo w places m up r → Above w places m sibling r
+  unfolding up
   above_right leads = leads
 
 -- removals
-module _ (r : Running) (pc side : ℕ) {places vars old : ℕ} {w l b : List ℕ} {v : List ℤ} (inside : r.memory.cursor < places)
+module _ (r : Running) (pc : ℕ) (side : Side) {places vars old : ℕ} {w l b : List ℕ} {v : List ℤ} (inside : r.memory.cursor < places)
     (beside : Beside w places r.memory side old) where
   pub remove_absent : {a : Stepped} {ks : List ℕ} → places ≤ old → a ≡ stepped 22 r
-      → Acting (closed_up side) (Becomes ks ks) places vars (slices w l v b) (slices w l v b) r a (λ μ. remove_at pc μ (to (side_of side) μ.cursor))
+      → Acting (closed_up side) (Becomes ks ks) places vars (slices w l v b) (slices w l v b) r a (λ μ. remove_at pc μ (to side μ.cursor))
   unfolding remove_at
   remove_absent ge is = stays_by (λ k k' q. q.1 ∙ sym q.0) inside is (λ z. omega arith) (λ μ s. refuses absent _ (nowhere (beside _ _ _ _ s.tree) ge) absent_number s)
 
   module _ {c : ℕ} {ok : Bool} (at : c ≡ join pc (level_in r.memory)) (lt : old < places) (may : MayTouch w places r.memory c old ok) where
-    touched : {μ : Run.Memory} → Shows places vars (slices w l v b) r.memory μ → may_touch pc μ (sub (to (side_of side) μ.cursor) μ.tree) ≡ ok
+    touched : {μ : Run.Memory} → Shows places vars (slices w l v b) r.memory μ → may_touch pc μ (sub (to side μ.cursor) μ.tree) ≡ ok
     touched {μ} s = sym (may.touch pc μ _ (position_is pc at s) (beside _ _ _ _ s.tree))
 
     pub remove_refused : {a : Stepped} {ks : List ℕ} → ok ≡ false → a ≡ stepped 21 r
-        → Acting (closed_up side) (Becomes ks ks) places vars (slices w l v b) (slices w l v b) r a (λ μ. remove_at pc μ (to (side_of side) μ.cursor))
+        → Acting (closed_up side) (Becomes ks ks) places vars (slices w l v b) (slices w l v b) r a (λ μ. remove_at pc μ (to side μ.cursor))
     unfolding remove_at
     remove_refused e is =
         stays_by (λ k k' q. q.1 ∙ sym q.0) inside is (λ z. omega arith) (λ μ s. passes absent (stands (there (beside _ _ _ _ s.tree) lt)) (refuses flow _ (touched s ∙ e) flow_number s))
 
     pub removed : {w' : List ℕ} {free : ℕ} {a : Stepped} {ks ks' : List ℕ} {kept : Bool} → ok ≡ true → kept ≡ ltb 0 (number ks count_at)
         → ((used : ℕ) (t : Forest) (p : Place) → Holds (cells w) places used r.memory.free r.memory.cursor t p
-        → Leads (cells w) places used r.memory.free t (some (to (side_of side) p)) old
-        → Removed (side_of side) (cells w) (cells w') places used r.memory.free free r.memory.cursor t p
-        × Forgets kept (side_of side) (cells w) places used r.memory.free t p ks ks')
+        → Leads (cells w) places used r.memory.free t (some (to side p)) old
+        → Removed side (cells w) (cells w') places used r.memory.free free r.memory.cursor t p
+        × Forgets kept side (cells w) places used r.memory.free t p ks ks')
         → Behind places (cells w) (cells w') → places ≤ max_nodes → a ≡ went r (with_space r.memory free r.memory.used)
-        → Acting (closed_up side) (Becomes ks ks') places vars (slices w l v b) (slices w' l v b) r a (λ μ. remove_at pc μ (to (side_of side) μ.cursor))
+        → Acting (closed_up side) (Becomes ks ks') places vars (slices w l v b) (slices w' l v b) r a (λ μ. remove_at pc μ (to side μ.cursor))
     unfolding remove_at with_tree
     removed {ks = ks} {ks'} {kept} e any gone behind few is =
         moves_on _ is inside (λ h. h) (words_only behind)
@@ -120,7 +120,7 @@ module _ (r : Running) (pc side : ℕ) {places vars old : ℕ} {w l b : List ℕ
           moves = λ some-open.
               rw (q.0, q.1)
               (removed_relocates d.0
-              (subst (λ z. Forgets z (side_of side) (cells w) places r.memory.used r.memory.free μ.tree μ.cursor ks ks') (any ∙ lt-ltb 0 (number ks count_at) (open_some (rw q.0 at some-open))) d.1));
+              (subst (λ z. Forgets z side (cells w) places r.memory.used r.memory.free μ.tree μ.cursor ks ks') (any ∙ lt-ltb 0 (number ks count_at) (open_some (rw q.0 at some-open))) d.1));
           behind = λ y h. rw (q.0, q.1) (d.1.behind y (omega arith));
         }))))
 
@@ -155,11 +155,11 @@ module _ {w l : List ℕ} {v : List ℤ} {places vars : ℕ} {m : Memory} {e : E
       }
 
 -- insertions
-abbrev pub Inserts : ℕ → ℕ → ℕ → ℕ → ℕ → Expression → Run.Memory → Result Run.Memory
-Inserts pc side content list places e μ = insert_at pc μ places (to (side_of side) μ.cursor) (up (to (side_of side) μ.cursor)) content list e
+abbrev pub Inserts : ℕ → Side → ℕ → ℕ → ℕ → Expression → Run.Memory → Result Run.Memory
+Inserts pc side content list places e μ = insert_at pc μ places (to side μ.cursor) (up (to side μ.cursor)) content list e
 
 -- what an insertion on a side asks of the table: the parent's place, what stands on the side, and whether C may add a node there
-pub record Asked (w : List ℕ) (places : ℕ) (m : Memory) (pc side above : ℕ) (ok : Bool) : Type 0 where
+pub record Asked (w : List ℕ) (places : ℕ) (m : Memory) (pc : ℕ) (side : Side) (above : ℕ) (ok : Bool) : Type 0 where
   pub old : ℕ
   pub c : ℕ
   pub inside : m.cursor < places
@@ -169,33 +169,33 @@ pub record Asked (w : List ℕ) (places : ℕ) (m : Memory) (pc side above : ℕ
   pub lt : above < places
   pub may : MayAdd w places m above old c ok
 
-module _ (r : Running) (pc side content list : ℕ) (e : Expression) {places vars : ℕ} {w l b : List ℕ} {v : List ℤ} where
+module _ (r : Running) (pc : ℕ) (side : Side) (content list : ℕ) (e : Expression) {places vars : ℕ} {w l b : List ℕ} {v : List ℤ} where
   pub insert_absent : {above : ℕ} {a : Stepped} → r.memory.cursor < places → Above w places r.memory side above → places ≤ above → a ≡ stepped 22 r
       → Acting (shifted side) Same places vars (slices w l v b) (slices w l v b) r a (Inserts pc side content list places e)
   unfolding insert_at
   insert_absent inside on ge is =
       stays inside is (λ z. omega arith)
       (λ μ s.
-      does_as (ap (λ o. insert_at pc μ places (to (side_of side) μ.cursor) o content list e) (no_parent_law (side_of side) s.tree (on _ _ _ _ s.tree) ge))
+      does_as (ap (λ o. insert_at pc μ places (to side μ.cursor) o content list e) (no_parent_law side s.tree (on _ _ _ _ s.tree) ge))
       (does_stop absent absent_number s))
 
   module _ {above : ℕ} {ok : Bool} (g : Asked w places r.memory pc side above ok) where
     -- the parent's place
     parent : {μ : Run.Memory} → Shows places vars (slices w l v b) r.memory μ
-        → Under (cells w) places r.memory.used r.memory.free above μ.tree (up (to (side_of side) μ.cursor))
+        → Under (cells w) places r.memory.used r.memory.free above μ.tree (up (to side μ.cursor))
     parent s = under (g.on _ _ _ _ s.tree) g.lt
 
     gated : {μ : Run.Memory} (s : Shows places vars (slices w l v b) r.memory μ)
-        → ok ≡ (not_above (position pc μ) (label (sub (parent s).place μ.tree)).structure && may_touch pc μ (sub (to (side_of side) μ.cursor) μ.tree))
+        → ok ≡ (not_above (position pc μ) (label (sub (parent s).place μ.tree)).structure && may_touch pc μ (sub (to side μ.cursor) μ.tree))
     gated {μ} s =
         let i = position_is pc g.at s in
         g.may.add pc μ _ _ i (parent s).holds (g.beside _ _ _ _ s.tree)
-        ∙ ap (λ z. not_above z (label (sub (parent s).place μ.tree)).structure && may_touch pc μ (sub (to (side_of side) μ.cursor) μ.tree)) i
+        ∙ ap (λ z. not_above z (label (sub (parent s).place μ.tree)).structure && may_touch pc μ (sub (to side μ.cursor) μ.tree)) i
 
     -- the insertion under that parent
     as_under : {μ : Run.Memory} (s : Shows places vars (slices w l v b) r.memory μ)
-        → Inserts pc side content list places e μ ≡ insert_at pc μ places (to (side_of side) μ.cursor) (some (parent s).place) content list e
-    as_under {μ} s = ap (λ o. insert_at pc μ places (to (side_of side) μ.cursor) o content list e) (parent s).is
+        → Inserts pc side content list places e μ ≡ insert_at pc μ places (to side μ.cursor) (some (parent s).place) content list e
+    as_under {μ} s = ap (λ o. insert_at pc μ places (to side μ.cursor) o content list e) (parent s).is
 
     pub insert_refused : {a : Stepped} → ok ≡ false → a ≡ stepped 21 r
         → Acting (shifted side) Same places vars (slices w l v b) (slices w l v b) r a (Inserts pc side content list places e)
@@ -215,11 +215,11 @@ module _ (r : Running) (pc side content list : ℕ) (e : Expression) {places var
 
       module _ {u : ℤ} (has : y.value ≡ Some u) (w' : List ℕ) {got : Taken} (new : NewNode)
           (added : (t : Forest) (p : Place) → Holds (cells w) places r.memory.used r.memory.free r.memory.cursor t p
-          → Leads (cells w) places r.memory.used r.memory.free t (up (to (side_of side) p)) above
-          → Added (side_of side) (label_new new) (cells w) (cells w') places r.memory.used r.memory.free r.memory.cursor got.place got.free got.used t p)
+          → Leads (cells w) places r.memory.used r.memory.free t (up (to side p)) above
+          → Added side (label_new new) (cells w) (cells w') places r.memory.used r.memory.free r.memory.cursor got.place got.free got.used t p)
           (behind : Behind places (cells w) (cells w')) where
         result : {μ : Run.Memory} → Shows places vars (slices w l v b) r.memory μ
-            → Added (side_of side) (label_new new) (cells w) (cells w') places r.memory.used r.memory.free r.memory.cursor got.place got.free got.used μ.tree μ.cursor
+            → Added side (label_new new) (cells w) (cells w') places r.memory.used r.memory.free r.memory.cursor got.place got.free got.used μ.tree μ.cursor
         result s = added _ _ s.tree (g.on _ _ _ _ s.tree)
 
         insert_full : {a : Stepped} → places ≤ got.place → a ≡ stepped 23 (with_memory r (with_space r.memory got.free got.used))
@@ -245,7 +245,7 @@ module _ (r : Running) (pc side content list : ℕ) (e : Expression) {places var
         insert_done labels i is =
             moves_on _ is g.inside (λ h. h) (words_only behind)
             (λ k k' q μ s.
-            let done = subst (λ a. Added (side_of side) a (cells w) (cells w') places r.memory.used r.memory.free r.memory.cursor
+            let done = subst (λ a. Added side a (cells w) (cells w') places r.memory.used r.memory.free r.memory.cursor
             got.place got.free got.used μ.tree μ.cursor) (labels μ s) (result s) in
             does_as (as_under s)
             (both_passed _ _ _ (sym (gated s) ∙ may-go)

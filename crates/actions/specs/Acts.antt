@@ -3,12 +3,12 @@ use Rattle.std.specs.Prelude.{◌≡◌, Bool, cond, ◌&&◌, ℕ, suc, ◌-◌
 use Rattle.std.proofs.Math.Option.{Option, some}
 use Rattle.rules.specs.Number.{Fits, fitting, bits}
 use Rattle.rules.specs.Level.{join, not_above}
-use Rattle.rules.specs.Tree.{Forest, Place, root, to, up, sub, label, child, sibling, after_insert, after_remove}
+use Rattle.rules.specs.Tree.{Forest, Place, Side, root, to, up, sub, label, child, sibling, after_insert, after_remove}
 use Rattle.rules.specs.Script.{Operand, Expression}
 use Rattle.rules.specs.Run as Run
 use Rattle.rules.specs.Job.{expression}
 use Rattle.rules.specs.Run.{State, Result, next, on_block, onward, stop, stop_number, operand_value, operand_level, value, level_of, position, may_touch, insert_at, move_to, go_to}
-use Rattle.table.specs.Cells.{cells, side_of}
+use Rattle.table.specs.Cells.{cells}
 use Rattle.table.specs.Holds.{Holds}
 use Rattle.table.specs.Promises.{Leads, Behind}
 use Rattle.table.specs.declared.Taken.{Taken}
@@ -57,11 +57,11 @@ pub record Kept (places vars : ℕ) (x x' : Slices) (n n' : ℕ) : Type 0 where
 abbrev pub keep : Place → Place → Option Place
 keep c q = some q
 
-abbrev pub shifted : ℕ → Place → Place → Option Place
-shifted side c q = some (after_insert (to (side_of side) c) q)
+abbrev pub shifted : Side → Place → Place → Option Place
+shifted side c q = some (after_insert (to side c) q)
 
-abbrev pub closed_up : ℕ → Place → Place → Option Place
-closed_up side c q = after_remove (to (side_of side) c) q
+abbrev pub closed_up : Side → Place → Place → Option Place
+closed_up side c q = after_remove (to side c) q
 
 -- the marks stay, or one list of them becomes another
 abbrev pub Same : List ℕ → List ℕ → Type 0
@@ -138,8 +138,8 @@ pub record Placed (places : ℕ) (r : Running) (got : Taken) (a : Stepped) : Typ
   pub full : places ≤ got.place → a ≡ stepped 23 (with_memory r (with_space r.memory got.free got.used))
 
 -- from the words w and the running record r to w' and the answer a: a new node on a side of the cursor's, with what e comes to
-abbrev pub InsertsOn : (side content list places pc : ℕ) (w w' : List ℕ) (e : Valued) (r : Running) (a : Stepped) → Type 0
+abbrev pub InsertsOn : (side : Side) (content list places pc : ℕ) (w w' : List ℕ) (e : Valued) (r : Running) (a : Stepped) → Type 0
 InsertsOn side content list places pc w w' e r a =
     (l b : List ℕ) (v : List ℤ) (vars : ℕ) (x : Expression) → Evaluates w l v places vars r.memory x e
     → Acting (shifted side) Same places vars (slices w l v b) (slices w' l v b) r a
-    (λ μ. insert_at pc μ places (to (side_of side) μ.cursor) (up (to (side_of side) μ.cursor)) content list x)
+    (λ μ. insert_at pc μ places (to side μ.cursor) (up (to side μ.cursor)) content list x)

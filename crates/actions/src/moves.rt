@@ -13,7 +13,7 @@ use super::control::{Running, Stepped, halt, onward};
 use super::memory::{Memory, level_of};
 use rules::levels::{join, not_above};
 use rules::limits::{ABSENT, FLOW};
-use table::{node, walk};
+use table::{Side, node, walk};
 
 // The cursor at another place or level, where the context is not above its level.
 fn move_to(pc: u8, r: Running, place: usize, level: u8) -> Stepped
@@ -77,14 +77,14 @@ pub fn go(command: u8, words: &[u32], places: usize, pc: u8, r: Running) -> Step
             places,
             pc,
             r,
-            walk::beside(words, places, at, table::FIRST),
+            walk::beside(words, places, at, Side::First),
         ),
         10 => go_to(
             words,
             places,
             pc,
             r,
-            walk::beside(words, places, at, table::RIGHT),
+            walk::beside(words, places, at, Side::Right),
         ),
         _ => move_to(pc, r, walk::root(), pc),
     }

@@ -1,7 +1,7 @@
 // The actions on nodes: commands 11 to 15.
 ghost use Rattle.std.specs.Prelude.{◌≡◌, List, ℕ, ◌*◌, ◌≤◌, ◌<◌, ℤ, length};
 ghost use Rattle.rules.specs.Limits.{max_nodes};
-ghost use Rattle.rules.specs.Tree.{to, up};
+ghost use Rattle.rules.specs.Tree.{child, sibling, to, up};
 ghost use Rattle.rules.specs.Run as Run;
 ghost use Rattle.rules.specs.Script.{Expression};
 ghost use Rattle.table.specs.Cells.{cell_size, Within, side_of};
@@ -17,7 +17,7 @@ use super::memory::{Memory, flow, position};
 use rules::levels::{join, not_above};
 use rules::limits::{ABSENT, FLOW, OVERFLOW, TABLE_FULL};
 use rules::numbers;
-use table::{Taken, node, shape, walk};
+use table::{Side, Taken, node, shape, walk};
 
 // Whether C is not above the existence of the node at a place, if it is one.
 fn may_touch(words: &[u32], places: usize, m: Memory, c: u8, place: usize) -> bool
@@ -81,11 +81,11 @@ fn insert_first(
     r: Running,
 ) -> Stepped
     requires { Timely r × Within words.old places r.memory.cursor }
-    ensures { InsertsOn 0 content list places pc words.old words.new e r result }
+    ensures { InsertsOn child content list places pc words.old words.new e r result }
 {
     let m = r.memory;
     let c = position(pc, m);
-    let old = walk::beside(words, places, m.cursor, table::FIRST);
+    let old = walk::beside(words, places, m.cursor, Side::First);
     if !may_add(words, places, m, m.cursor, old, c) {
         return halt(r, FLOW);
     }
@@ -99,7 +99,7 @@ fn insert_first(
         m.used,
         m.free,
         m.cursor,
-        table::FIRST,
+        Side::First,
         m.cursor,
         new,
     );
@@ -117,7 +117,7 @@ fn insert_right(
     r: Running,
 ) -> Stepped
     requires { Timely r × Within words.old places r.memory.cursor }
-    ensures { InsertsOn 1 content list places pc words.old words.new e r result }
+    ensures { InsertsOn sibling content list places pc words.old words.new e r result }
 {
     let m = r.memory;
     let above = walk::parent(words, places, m.cursor);
@@ -125,7 +125,7 @@ fn insert_right(
         return halt(r, ABSENT);
     }
     let c = position(pc, m);
-    let old = walk::beside(words, places, m.cursor, table::RIGHT);
+    let old = walk::beside(words, places, m.cursor, Side::Right);
     if !may_add(words, places, m, above, old, c) {
         return halt(r, FLOW);
     }
@@ -139,7 +139,7 @@ fn insert_right(
         m.used,
         m.free,
         m.cursor,
-        table::RIGHT,
+        Side::Right,
         above,
         new,
     );
@@ -152,34 +152,34 @@ pub fn insert_on(
     e: Valued,
     content: u8,
     list: u8,
-    side: usize,
+    side: Side,
     words: &mut [u32],
     places: usize,
     pc: u8,
     r: Running,
 ) -> Stepped
-    requires { Timely r × (Within words.old places r.memory.cursor × (side < 2)) }
+    requires { Timely r × Within words.old places r.memory.cursor }
     ensures { (l b : List ℕ) (v : List ℤ) (vars : ℕ) (x : Expression) → Evaluates words.old l v places vars r.memory x e
-        → Acting (shifted side) Same places vars (slices words.old l v b) (slices words.new l v b) r result
+        → Acting (shifted (side_of side)) Same places vars (slices words.old l v b) (slices words.new l v b) r result
         (λ μ. Run.insert_at pc μ places (to (side_of side) μ.cursor) (up (to (side_of side) μ.cursor)) content list x) }
 {
-    if side == table::FIRST {
-        return insert_first(e, content, list, words, places, pc, r);
+    match side {
+        Side::First => insert_first(e, content, list, words, places, pc, r),
+        Side::Right => insert_right(e, content, list, words, places, pc, r),
     }
-    insert_right(e, content, list, words, places, pc, r)
 }
 
 // Commands 13 and 14: the first node on a side goes, with its subtree.
 pub fn remove(
-    side: usize,
+    side: Side,
     words: &mut [u32],
     places: usize,
     pc: u8,
     r: Running,
     marks: &mut [u16],
 ) -> Stepped
-    requires { Timely r × (Within words.old places r.memory.cursor × ((side < 2) × (marks_size ≤ length marks.old))) }
-    ensures { (l : List ℕ) (v : List ℤ) (b : List ℕ) (vars : ℕ) → Acting (closed_up side) (Becomes marks.old marks.new) places vars
+    requires { Timely r × (Within words.old places r.memory.cursor × (marks_size ≤ length marks.old)) }
+    ensures { (l : List ℕ) (v : List ℤ) (b : List ℕ) (vars : ℕ) → Acting (closed_up (side_of side)) (Becomes marks.old marks.new) places vars
         (slices words.old l v b) (slices words.new l v b) r result (λ μ. Run.remove_at pc μ (to (side_of side) μ.cursor)) }
 {
     let m = r.memory;

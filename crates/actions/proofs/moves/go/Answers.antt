@@ -3,7 +3,6 @@ use native.Mathlib.Omega.{arith}
 use mathlib.Core.Path.{refl}
 use mathlib.Core.Option.{some}
 use Rattle.rules.specs.Tree.{up, root, to, child, sibling}
-use Rattle.table.specs.Cells.{side_of}
 use Rattle.actions.proofs.Moved.{at_zero, acts_move, is_root, is_up, is_child, is_sibling}
 use Rattle.actions.proofs.moves.go.Goals as goal
 
@@ -11,12 +10,10 @@ pub returns-in-8 : goal.returns-in-8
 returns-in-8 c = λ l v b vars. is_up c.args.pc c.in-8.is (c.go_to.ensures l v b vars (λ t p. up p) (record { leads = c.parent.ensures _ _ }))
 
 pub returns-in-9 : goal.returns-in-9
-unfolding side_of
 returns-in-9 c = λ l v b vars.
     is_child c.args.pc c.in-9.is (c.go_to-in-9.ensures l v b vars (λ t p. some (to child p)) (record { leads = c.beside.ensures _ _ }))
 
 pub returns-in-10 : goal.returns-in-10
-unfolding side_of
 returns-in-10 c = λ l v b vars.
     is_sibling c.args.pc c.in-10.is (c.go_to-in-10.ensures l v b vars (λ t p. some (to sibling p)) (record { leads = c.beside-in-10.ensures _ _ }))
 
