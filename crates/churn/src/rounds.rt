@@ -12,38 +12,38 @@
 ghost use Rattle.std.specs.Prelude.{◌<◌};
 
 use super::run::Run;
-use table::{FIRST, RIGHT};
+use table::Side;
 
 // A child with 72 children, on a side of the cursor's node: their values are v, v + 1, .. in order. The cursor ends at the child.
-fn branch(run: &mut Run, side: usize, v: u32)
-    requires { (side < 2) × (v < 512) }
+fn branch(run: &mut Run, side: Side, v: u32)
+    requires { v < 512 }
 {
     run.add(side, v, true);
     run.go_side(side);
-    run.add(FIRST, v + 1, true);
-    run.go_side(FIRST);
+    run.add(Side::First, v + 1, true);
+    run.go_side(Side::First);
     for k in 2..73 {
-        run.add(RIGHT, v + k, true);
-        run.go_side(RIGHT);
+        run.add(Side::Right, v + k, true);
+        run.go_side(Side::Right);
     }
     run.go_up();
 }
 
 // From a root alone to a full table.
 fn build(run: &mut Run) {
-    branch(run, FIRST, 1);
+    branch(run, Side::First, 1);
     for j in 1..7 {
-        branch(run, RIGHT, 1 + 73 * j);
+        branch(run, Side::Right, 1 + 73 * j);
     }
 }
 
 // On to the next node in order; at the last one back to the root.
 fn next(run: &mut Run) {
-    if run.try_side(FIRST) {
+    if run.try_side(Side::First) {
         return;
     }
     for _ in 0..512 {
-        if run.try_side(RIGHT) {
+        if run.try_side(Side::Right) {
             return;
         }
         if !run.try_up() {
@@ -89,11 +89,11 @@ fn walk(run: &mut Run, again: bool) {
 // The first, third and fifth child of the root go.
 fn prune(run: &mut Run) {
     run.home();
-    run.remove(FIRST);
-    run.go_side(FIRST);
-    run.remove(RIGHT);
-    run.go_side(RIGHT);
-    run.remove(RIGHT);
+    run.remove(Side::First);
+    run.go_side(Side::First);
+    run.remove(Side::Right);
+    run.go_side(Side::Right);
+    run.remove(Side::Right);
     run.home();
     run.children(4);
 }
@@ -101,17 +101,17 @@ fn prune(run: &mut Run) {
 // A chain of 219 nodes in front of the cursor's children; the table is full then.
 fn refill(run: &mut Run) {
     for k in 0..219 {
-        run.add(FIRST, 1000 + k, true);
-        run.go_side(FIRST);
+        run.add(Side::First, 1000 + k, true);
+        run.go_side(Side::First);
     }
-    run.add(FIRST, 0, false);
+    run.add(Side::First, 0, false);
 }
 
 // The five children of the root go.
 fn clear(run: &mut Run) {
     run.home();
     for _ in 0..5 {
-        run.remove(FIRST);
+        run.remove(Side::First);
     }
     run.children(0);
 }
@@ -119,7 +119,7 @@ fn clear(run: &mut Run) {
 // One round, from a root alone to a root alone.
 pub fn round(run: &mut Run) {
     build(run);
-    run.add(FIRST, 0, false);
+    run.add(Side::First, 0, false);
     run.home();
     run.children(7);
     walk(run, false);

@@ -1,7 +1,7 @@
 // The table's operations at the cursor, each counted, in a table of 512 places.
 ghost use Rattle.std.specs.Prelude.{◌≡◌, ◌+◌, ◌%◌, ◌^◌, ◌<◌, true, false};
 
-use table::{FIRST, NIL, Taken, WORDS, node, shape, walk};
+use table::{NIL, Side, Taken, WORDS, node, shape, walk};
 
 const PLACES: usize = 512;
 
@@ -80,9 +80,7 @@ impl Run {
     }
 
     // Tries to go to the first child or the right sibling; tells whether there is one.
-    pub fn try_side(&mut self, side: usize) -> bool
-        requires { side < 2 }
-    {
+    pub fn try_side(&mut self, side: Side) -> bool {
         let to = walk::beside(&self.words, PLACES, place(self.at), side);
         self.arrive(to)
     }
@@ -94,9 +92,7 @@ impl Run {
     }
 
     // Goes to the first child or the right sibling, which must be there.
-    pub fn go_side(&mut self, side: usize)
-        requires { side < 2 }
-    {
+    pub fn go_side(&mut self, side: Side) {
         let arrived = self.try_side(side);
         self.must(arrived);
     }
@@ -108,19 +104,17 @@ impl Run {
     }
 
     // The place of the parent that nodes on a side of the one at `at` have, or no place.
-    fn parent_on(&self, at: usize, side: usize) -> usize
+    fn parent_on(&self, at: usize, side: Side) -> usize
         requires { at < 512 }
     {
-        if side == FIRST {
-            return at;
+        match side {
+            Side::First => at,
+            Side::Right => walk::parent(&self.words, PLACES, at),
         }
-        walk::parent(&self.words, PLACES, at)
     }
 
     // Tries to add a node of a value on a side: there is none beside the root.
-    fn attempt(&mut self, side: usize, value: u32) -> Taken
-        requires { side < 2 }
-    {
+    fn attempt(&mut self, side: Side, value: u32) -> Taken {
         let n = shape::NewNode {
             value: value,
             existence: 0,
@@ -149,9 +143,7 @@ impl Run {
     }
 
     // Adds a node of a value on a side, which must come out as the last argument says.
-    pub fn add(&mut self, side: usize, value: u32, well: bool)
-        requires { side < 2 }
-    {
+    pub fn add(&mut self, side: Side, value: u32, well: bool) {
         let got = self.attempt(side, value);
         let ok = got.place < PLACES;
         self.count();
@@ -166,9 +158,7 @@ impl Run {
     }
 
     // Removes what must stand on a side.
-    pub fn remove(&mut self, side: usize)
-        requires { side < 2 }
-    {
+    pub fn remove(&mut self, side: Side) {
         let at = place(self.at);
         let old = walk::beside(&self.words, PLACES, at, side);
         self.count();

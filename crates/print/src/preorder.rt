@@ -7,7 +7,7 @@ ghost use Rattle.table.specs.Holds.{Holds};
 ghost use Rattle.print.specs.Preorder as Preorder;
 ghost use Rattle.print.specs.Preorder.{Stands, Goes, First, from};
 
-use table::{FIRST, RIGHT, walk};
+use table::{Side, walk};
 
 // A node that the walk stands at: its place, and how many steps it stands below the root.
 #[derive(Clone, Copy)]
@@ -35,7 +35,7 @@ fn after(words: &[u32], places: usize, at: usize, depth: usize) -> Option<Visit>
     let mut x = at;
     let mut d = depth;
     loop {
-        let right = walk::beside(words, places, x, RIGHT);
+        let right = walk::beside(words, places, x, Side::Right);
         if right < places {
             return Some(Visit {
                 place: right,
@@ -62,7 +62,7 @@ pub fn next(words: &[u32], places: usize, v: Visit) -> Option<Visit>
 {
     let at = v.place;
     let depth = v.depth;
-    let down = walk::beside(words, places, at, FIRST);
+    let down = walk::beside(words, places, at, Side::First);
     if down < places {
         return Some(Visit {
             place: down,

@@ -1,7 +1,6 @@
 -- `after` meets its contract: each turn stands at a node from which the climb has met no right sibling. Assumes nothing.
 use native.Mathlib.Omega.{arith}
 use borrow.Author.Rules.{rules}
-use Rattle.table.specs.Cells.{side_of}
 use Rattle.print.proofs.Visiting.{climb, passes, tops, leaves, rises}
 use Rattle.print.proofs.preorder.after.Goals as goal
 
@@ -9,7 +8,6 @@ pub loop-places-init : goal.loop-places-init
 loop-places-init c = (search rules, search rules, λ used free t p h e. climb p h e)
 
 pub returns-then-right-places : goal.returns-then-right-places
-unfolding side_of
 returns-then-right-places c = record {
   place_lt_places = (search rules, search rules);
   by_index = λ used free t p h e.
@@ -18,7 +16,6 @@ returns-then-right-places c = record {
 }
 
 pub returns-then-d-eq0 : goal.returns-then-d-eq0
-unfolding side_of
 returns-then-d-eq0 c = record {
   place_lt_places = search rules;
   by_index = λ used free t p h e.
@@ -27,7 +24,6 @@ returns-then-d-eq0 c = record {
 }
 
 pub returns-then-x-places : goal.returns-then-x-places
-unfolding side_of
 returns-then-x-places c = record {
   place_lt_places = search rules;
   by_index = λ used free t p h e.
@@ -37,7 +33,6 @@ returns-then-x-places c = record {
 }
 
 pub loop-places-preserved : goal.loop-places-preserved
-unfolding side_of
 loop-places-preserved c = (
   search rules,
   search rules,
