@@ -11,7 +11,7 @@ use lib.Dec.{eqb, ltb}
 use borrow.Author.Tests.{eq-eqb, eqb-true, ltb-true, ltb-false}
 use Rattle.rules.specs.Limits.{max_depth, record_size, command_count}
 use Rattle.rules.specs.Level.{join}
-use Rattle.rules.specs.Tree.{Place, child, sibling, to, up, left_of}
+use Rattle.rules.specs.Tree.{Place, Side, child, sibling, to, up, left_of}
 use Rattle.rules.specs.Bytes.{byte, record_place}
 use Rattle.rules.specs.Blocks.{branches, opens, closes, goes_to, nest}
 use Rattle.rules.specs.Job.{script_from, command_of, command_by, set_at, expression_of}
@@ -30,7 +30,7 @@ use Rattle.fields.specs.declared.records.Fields.{Fields}
 use Rattle.fields.specs.Fields.{fields_of, expression_from, commands_from, command_from}
 use Rattle.job.specs.Plan.{code_of, next_of, end_mark, end_back, end_code, plan_code}
 use Rattle.job.proofs.Words.{code_entry, next_entry, code_mark}
-use Rattle.table.specs.Cells.{side_of, Within}
+use Rattle.table.specs.Cells.{word_on, Within}
 use Rattle.actions.specs.declared.evaluate.Valued.{Valued}
 use Rattle.actions.specs.declared.control.Running.{Running}
 use Rattle.actions.specs.declared.control.Stepped.{Stepped}
@@ -341,23 +341,21 @@ module _ (h : Held) (sc : Script h) where
           goes_last key = by_number k 19 Action.goLast _ key refl (λ lent μ l. refl) refl refl
 
           -- 11 and 12
-          pub inserts : (d q side : ℕ) → d ≡ content_set f.target (f.fifth % 256) → q ≡ list_set f.target (f.sixth % 256) → c ≡ side + 11 → side < 2
+          pub inserts : (d q : ℕ) (side : Side) → d ≡ content_set f.target (f.fifth % 256) → q ≡ list_set f.target (f.sixth % 256) → c ≡ word_on side + 11
               → Acting (shifted side) Same h.places h.vars x x' r a
-              (λ μ. Run.insert_at pc μ h.places (to (side_of side) μ.cursor) (up (to (side_of side) μ.cursor)) d q (expression_from f))
+              (λ μ. Run.insert_at pc μ h.places (to side μ.cursor) (up (to side μ.cursor)) d q (expression_from f))
               → Steps h x x' k k r a
-          unfolding commands commands_from effect relocate side_of
-          inserts d q zero is so key l acts = by_number k 11 (Action.insert child _ _ _) _ key refl (λ lent μ l. rw (l.places, is, so)) refl refl acts
-          inserts d q (suc zero) is so key l acts = by_number k 12 (Action.insert sibling _ _ _) _ key refl (λ lent μ l. rw (l.places, is, so)) refl refl acts
-          inserts d q (suc (suc side)) is so key l acts = absurd (omega arith)
+          unfolding commands commands_from effect relocate
+          inserts d q child is so key acts = by_number k 11 (Action.insert child _ _ _) _ key refl (λ lent μ l. rw (l.places, is, so)) refl refl acts
+          inserts d q sibling is so key acts = by_number k 12 (Action.insert sibling _ _ _) _ key refl (λ lent μ l. rw (l.places, is, so)) refl refl acts
 
           -- 13 and 14
-          pub removes : (k' : List ℕ) (side : ℕ) → c ≡ side + 13 → side < 2 → length k' ≡ length k
-              → Acting (closed_up side) (Becomes k k') h.places h.vars x x' r a (λ μ. Run.remove_at pc μ (to (side_of side) μ.cursor))
+          pub removes : (k' : List ℕ) (side : Side) → c ≡ word_on side + 13 → length k' ≡ length k
+              → Acting (closed_up side) (Becomes k k') h.places h.vars x x' r a (λ μ. Run.remove_at pc μ (to side μ.cursor))
               → Steps h x x' k k' r a
-          unfolding commands commands_from effect relocate side_of
-          removes k' zero key l long acts = by_number k' 13 (Action.remove child) _ key refl (λ lent μ l. refl) long (refl, refl) acts
-          removes k' (suc zero) key l long acts = by_number k' 14 (Action.remove sibling) _ key refl (λ lent μ l. refl) long (refl, refl) acts
-          removes k' (suc (suc side)) key l long acts = absurd (omega arith)
+          unfolding commands commands_from effect relocate
+          removes k' child key long acts = by_number k' 13 (Action.remove child) _ key refl (λ lent μ l. refl) long (refl, refl) acts
+          removes k' sibling key long acts = by_number k' 14 (Action.remove sibling) _ key refl (λ lent μ l. refl) long (refl, refl) acts
 
 -- the numbers that no single arm takes
 

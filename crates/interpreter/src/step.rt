@@ -3,6 +3,7 @@ ghost use Rattle.std.specs.Prelude.{◌≡◌, ◌+◌, ◌-◌, ◌%◌, ◌≤
 ghost use Rattle.rules.specs.Limits.{record_size};
 ghost use Rattle.rules.specs.Bytes.{record_place};
 ghost use Rattle.rules.specs.Script.{content_set, list_set, cover_set};
+ghost use Rattle.table.specs.Cells.{side_of, word_on};
 ghost use Rattle.fields.specs.Fields.{fields_of, expression_from};
 ghost use Rattle.actions.specs.Shows.{slices, Readable, Reads};
 ghost use Rattle.actions.specs.Acts.{Evaluates};
@@ -18,6 +19,7 @@ use actions::sets::{content_set, cover_set, list_set};
 use actions::{guards, moves, nodes, variables};
 use fields::records::fields_at;
 use job::plan::{END_BACK, code, next};
+use table::Side;
 
 // Where the script starts in the job's bytes and how many records it has, how many variables there are, and how many places.
 #[derive(Clone, Copy)]
@@ -90,12 +92,16 @@ fn cover_at(job: &[u8], base: usize, i: usize) -> u8
     cover_set(f.fifth)
 }
 
-// Which of two neighbouring commands it is: 0 for the first, on the side of the children, 1 for the second, on that of the right siblings.
-fn side(command: u8, first: u8) -> usize
-    requires { first ≤ command }
-    ensures { result ≡ command - first }
+// The side of one of two neighbouring commands: the first is on that of the children, the second on that of the right siblings.
+fn side(command: u8, first: u8) -> Side
+    requires { (first ≤ command) × (command < first + 2) }
+    ensures { command ≡ word_on (side_of result) + first }
 {
-    usize::from(command - first)
+    if command == first {
+        Side::First
+    } else {
+        Side::Right
+    }
 }
 
 // What the plan says of the record that comes next, done; the mark behind the last record is the match's rest.

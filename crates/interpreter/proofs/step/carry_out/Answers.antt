@@ -154,12 +154,12 @@ list_at-requires c = let p = c.requires in
 pub insert_on-requires : goal.insert_on-requires
 insert_on-requires c = let p = c.requires in
     let i = known_by _ p.0 _ _ _ p.1.0 _ c.code-command.ensures (omega (arith, c.in-11-to-12.if-command-lt13-own.true)) in
-    (timely _ p.0 _ _ _ p.1.0 i.inside p.1.1, (at_cursor _ p.0 _ _ _ p.1.0 i.inside, omega (arith, c.side.ensures, c.in-11-to-12.if-command-lt11-own.false, c.in-11-to-12.if-command-lt13-own.true)))
+    (timely _ p.0 _ _ _ p.1.0 i.inside p.1.1, at_cursor _ p.0 _ _ _ p.1.0 i.inside)
 
 pub remove-requires : goal.remove-requires
 remove-requires c = let p = c.requires in
     let i = known_by _ p.0 _ _ _ p.1.0 _ c.code-command.ensures (omega (arith, c.in-13-to-14.if-command-lt15-own.true)) in
-    (timely _ p.0 _ _ _ p.1.0 i.inside p.1.1, (at_cursor _ p.0 _ _ _ p.1.0 i.inside, (omega (arith, c.side-in-13-to-14.ensures, c.in-13-to-14.if-command-lt13-own.false, c.in-13-to-14.if-command-lt15-own.true), p.1.0.marks)))
+    (timely _ p.0 _ _ _ p.1.0 i.inside p.1.1, (at_cursor _ p.0 _ _ _ p.1.0 i.inside, p.1.0.marks))
 
 pub returns-in-0 : goal.returns-in-0
 returns-in-0 c = let p = c.requires in
@@ -245,13 +245,13 @@ pub returns-in-11-to-12 : goal.returns-in-11-to-12
 returns-in-11-to-12 c = let p = c.requires in
     let i = known_by _ p.0 _ _ _ p.1.0 _ c.code-command.ensures (omega (arith, c.in-11-to-12.if-command-lt13-own.true)) in
     as_step _ _ _ _ _ _ _ i.inside (inserts _ p.0 _ _ _ p.1.0 i.inside _ i.coded _ refl _ _ _ c.top-pc.ensures (record { words = c.insert_on.auto.words; levels = refl; values = refl; board = refl }) _ _ _ c.content_at.ensures c.list_at.ensures
-    (omega (arith, c.side.ensures, c.in-11-to-12.if-command-lt11-own.false)) (omega (arith, c.side.ensures, c.in-11-to-12.if-command-lt11-own.false, c.in-11-to-12.if-command-lt13-own.true)) (c.insert_on.ensures _ _ _ _ _ c.value_at-in-11-to-12.ensures))
+    c.side.ensures (c.insert_on.ensures _ _ _ _ _ c.value_at-in-11-to-12.ensures))
 
 pub returns-in-13-to-14 : goal.returns-in-13-to-14
 returns-in-13-to-14 c = let p = c.requires in
     let i = known_by _ p.0 _ _ _ p.1.0 _ c.code-command.ensures (omega (arith, c.in-13-to-14.if-command-lt15-own.true)) in
     as_step _ _ _ _ _ _ _ i.inside (removes _ p.0 _ _ _ p.1.0 i.inside _ i.coded _ refl _ _ _ c.top-pc.ensures (record { words = c.remove.auto.words; levels = refl; values = refl; board = refl }) _ _
-    (omega (arith, c.side-in-13-to-14.ensures, c.in-13-to-14.if-command-lt13-own.false)) (omega (arith, c.side-in-13-to-14.ensures, c.in-13-to-14.if-command-lt13-own.false, c.in-13-to-14.if-command-lt15-own.true)) c.remove.auto.marks (c.remove.ensures _ _ _ _))
+    c.side-in-13-to-14.ensures c.remove.auto.marks (c.remove.ensures _ _ _ _))
 
 pub returns-in_default : goal.returns-in_default
 returns-in_default c = let p = c.requires in
