@@ -1,6 +1,6 @@
 -- The report, call by call: from a place to the next change nothing is dirty, so what is left of the report from the one is what is left from the other. Assumes
 -- nothing.
-use mathlib.Core.Path.{◌≡◌, refl, sym, ap, ◌∙◌}
+use mathlib.Core.Path.{◌≡◌, sym, ap, ◌∙◌}
 use Prim.Native.Nat.{ℕ, zero, suc, ◌+◌, ◌-◌, ◌≤◌, ◌<◌}
 use native.Mathlib.Omega.{arith}
 use native.Mathlib.Decide.{dec_lt}
@@ -8,16 +8,19 @@ use mathlib.Core.Bool.{true, false, ◌&&◌}
 use mathlib.Core.List.{List, [], ◌∷◌}
 use lib.Dec.{ltb}
 use lib.ListN.{length}
-use borrow.Author.Tests.{lt-ltb, le-ltb}
+use borrow.Author.Tests.{lt-ltb, le-ltb, ltb-true}
 use Rattle.rules.specs.Blocks.{first_from}
-use Rattle.rules.specs.Check.{length_rule, offset_rule, check_bytes_by, first, accepted}
-use Rattle.rules.specs.Clean.{Change, change_at, is_dirty, changes, report}
-use Rattle.rules.proofs.Tests.{Test, holds, fails, test}
+use Rattle.rules.specs.Check.{length_rule, offset_rule, first}
+use Rattle.rules.specs.Bytes.{nodes_at, script_at, trailer_at}
+use Rattle.rules.specs.Clean.{Change, change_at, spot_in, spot_of, is_dirty, changes, report}
+use Rattle.rules.proofs.Tests.{Test, holds, fails, test, both}
 use Rattle.rules.proofs.Search.{search}
 use Rattle.rules.proofs.Accepted.{right_by}
 use Rattle.rules.proofs.Reported.{changes_yes, changes_no}
-use Rattle.cleaner.specs.declared.changes.Next.TheVariants.{Found, End}
-use Rattle.cleaner.specs.Cleaner.{next_place, found, next_of, handed, HandsReport}
+use Rattle.std.specs.Prelude.{Some, None}
+use Rattle.std.proofs.lemmas.Option.{same_Some, none-some}
+use Rattle.cleaner.specs.declared.changes.Change as Program
+use Rattle.cleaner.specs.Cleaner.{next_place, spot_held, found, said, next_of, handed, HandsReport}
 
 module _ (b : List ℕ) where
   -- what is left of the report from a place on
@@ -60,21 +63,32 @@ module _ (b : List ℕ) where
   unfolding next_place
   next_from from = (search (is_dirty b) (length b - from) from).from
 
-  -- one call
-  one_found : (n from after : ℕ) (c : Change) → next_of b from ≡ found c after → handed b (suc n) from ≡ c ∷ handed b n after
-  unfolding handed found
-  one_found n from after c e = rw (e, handed)
+  -- a change says what the rules' does: its section is one of the four
+  said_found : (at after : ℕ) → said (found (change_at b at) after) ≡ change_at b at
+  unfolding found change_at spot_held spot_of spot_in
+  said_found at after = by (test (ltb at (nodes_at b))) (test (ltb at (script_at b))) (test (ltb at (trailer_at b)))
+    where
+      by : Test (ltb at (nodes_at b)) → Test (ltb at (script_at b)) → Test (ltb at (trailer_at b)) → said (found (change_at b at) after) ≡ change_at b at
+      by (holds t) u v = rw t
+      by (fails t) (holds u) v = rw (t, u)
+      by (fails t) (fails u) (holds v) = rw (t, u, v)
+      by (fails t) (fails u) (fails v) = rw (t, u, v)
 
-  one_end : (n from : ℕ) → next_of b from ≡ End → handed b (suc n) from ≡ []
+  -- one call
+  one_found : (n from at : ℕ) → next_of b from ≡ Some (found (change_at b at) (suc at)) → handed b (suc n) from ≡ change_at b at ∷ handed b n (suc at)
+  unfolding handed found
+  one_found n from at e = rw (e, handed) (ap (λ (c : Change). c ∷ handed b n (suc at)) (said_found at (suc at)))
+
+  one_end : (n from : ℕ) → next_of b from ≡ None → handed b (suc n) from ≡ []
   unfolding handed
   one_end n from e = rw (e, handed)
 
   module _ (d : length_rule (length b) ≡ true) (e : offset_rule b ≡ true) where
-    pub is_found : (from : ℕ) → next_place b from < length b → next_of b from ≡ found (change_at b (next_place b from)) (suc (next_place b from))
+    pub is_found : (from : ℕ) → next_place b from < length b → next_of b from ≡ Some (found (change_at b (next_place b from)) (suc (next_place b from)))
     unfolding next_of
     is_found from h = rw (d, e, lt-ltb (next_place b from) (length b) h)
 
-    pub is_end_law : (from : ℕ) → length b ≤ next_place b from → next_of b from ≡ End
+    pub is_end_law : (from : ℕ) → length b ≤ next_place b from → next_of b from ≡ None
     unfolding next_of
     is_end_law from h = rw (d, e, le-ltb (next_place b from) (length b) h)
 
@@ -86,29 +100,30 @@ module _ (b : List ℕ) where
         by : Dec (next_place b from < length b) → ((k : ℕ) → k ≤ length b → length b ≤ k + n → handed b n k ≡ left k) → handed b (suc n) from ≡ left from
         by (yes z) r =
             let p = next_place b from in
-            one_found n from (suc p) (change_at b p) (is_found from z)
+            one_found n from p (is_found from z)
             ∙ ap (λ (cs : List Change). change_at b p ∷ cs) (r (suc p) (omega arith) (omega (arith, next_from from)))
             ∙ sym (to_next from h ∙ left_here p z (next_dirty from z))
         by (no z) r = one_end n from (is_end_law from (omega arith)) ∙ sym (to_next from h ∙ left_end (next_place b from) (omega arith))
 
-  -- each call comes further
-  pub found_later : (from i j k old after : ℕ) → next_of b from ≡ Found i j k old after → from < after
+  -- each call comes further, and not behind the end
+  pub found_later : (from : ℕ) (c : Program.Change) → next_of b from ≡ Some c → (from < c.after) × (c.after ≤ length b)
   unfolding next_of found
-  found_later from i j k old after e = by (test (length_rule (length b) && offset_rule b && ltb (next_place b from) (length b)))
+  found_later from c e = by (test (length_rule (length b) && offset_rule b && ltb (next_place b from) (length b)))
     where
-      by : Test (length_rule (length b) && offset_rule b && ltb (next_place b from) (length b)) → from < after
+      by : Test (length_rule (length b) && offset_rule b && ltb (next_place b from) (length b)) → (from < c.after) × (c.after ≤ length b)
       by (holds t) =
           let q = next_from from in
-          let f : found (change_at b (next_place b from)) (suc (next_place b from)) ≡ Found i j k old after = rw t at e in
-          let z : suc (next_place b from) ≡ after = cc in omega arith
-      by (fails t) = let f : End ≡ Found i j k old after = rw t at e in let z : ◌≡◌ {A = ℕ} 0 1 = cc in absurd (omega arith)
+          let l = ltb-true (next_place b from) (length b) (both (length_rule (length b) && offset_rule b) (ltb (next_place b from) (length b)) t).1 in
+          let z : suc (next_place b from) ≡ c.after = ap (λ (x : Program.Change). x.after) (same_Some _ _ (rw t at e)) in
+          (omega (arith, q, z), omega (arith, l, z))
+      by (fails t) = absurd (none-some _ (rw t at e))
 
   -- none where the sections do not lie within the bytes
-  pub not_long : (from : ℕ) → length_rule (length b) ≡ false → next_of b from ≡ End
+  pub not_long : (from : ℕ) → length_rule (length b) ≡ false → next_of b from ≡ None
   unfolding next_of
   not_long from d = rw d
 
-  pub not_laid : (from : ℕ) → length_rule (length b) ≡ true → offset_rule b ≡ false → next_of b from ≡ End
+  pub not_laid : (from : ℕ) → length_rule (length b) ≡ true → offset_rule b ≡ false → next_of b from ≡ None
   unfolding next_of
   not_laid from d e = rw (d, e)
 

@@ -6,5 +6,6 @@ mod changes;
 mod cleaning;
 mod spots;
 
-pub use changes::{Next, next_change};
-pub use cleaning::{Cleaning, clean};
+pub use changes::{Change, next_change};
+pub use cleaning::clean;
+pub use spots::{Section, Spot};

@@ -6,7 +6,7 @@ ghost use Rattle.rules.specs.Script.{row_of};
 ghost use Rattle.rules.specs.Check.{has_number, reads_right, record_reads};
 ghost use Rattle.rules.specs.Clean.{spot_in, spot_of, is_read, clean_byte, is_dirty};
 ghost use Rattle.fields.specs.Fields.{row_held};
-ghost use Rattle.cleaner.specs.Cleaner.{spot_held, Laid};
+ghost use Rattle.cleaner.specs.Cleaner.{number_of, spot_held, Laid};
 
 use fields::reads::byte_at;
 use fields::records::ALONE;
@@ -14,26 +14,26 @@ use fields::rows::{Row, row_of};
 use fields::sections::Layout;
 use rules::limits::{COMMANDS, NODE_SIZE, RECORD_SIZE, TRAILER_SIZE, VARIABLE_SIZE};
 
-// The sections, in file order.
-pub const VARIABLES: u8 = 0;
-
-pub const NODES: u8 = 1;
-
-pub const SCRIPT: u8 = 2;
-
-pub const TRAILER: u8 = 3;
+// The sections, in file order: as numbers, 0 to 3.
+#[derive(Clone, Copy, Debug, PartialEq, Eq)]
+pub enum Section {
+    Variables,
+    Nodes,
+    Script,
+    Trailer,
+}
 
 // A byte by its section, its record and its place there.
-#[derive(Drop)]
+#[derive(Clone, Copy, Debug, PartialEq, Eq)]
 pub struct Spot {
-    pub section: u8,
+    pub section: Section,
     pub index: usize,
     pub byte: usize,
 }
 
-fn spot_in(section: u8, base: usize, size: usize, at: usize) -> Spot
+fn spot_in(section: Section, base: usize, size: usize, at: usize) -> Spot
     requires { (base ≤ at) × (0 < size) }
-    ensures { result ≡ spot_held (spot_in section base size at) }
+    ensures { result ≡ spot_held (spot_in (number_of section) base size at) }
 {
     Spot {
         section,
@@ -48,15 +48,15 @@ pub fn spot_of(job: &[u8], l: Layout, at: usize) -> Spot
 {
     let trailer = job.len() - TRAILER_SIZE;
     if at < l.tree {
-        return spot_in(VARIABLES, 0, VARIABLE_SIZE, at);
+        return spot_in(Section::Variables, 0, VARIABLE_SIZE, at);
     }
     if at < l.script {
-        return spot_in(NODES, l.tree, NODE_SIZE, at);
+        return spot_in(Section::Nodes, l.tree, NODE_SIZE, at);
     }
     if at < trailer {
-        return spot_in(SCRIPT, l.script, RECORD_SIZE, at);
+        return spot_in(Section::Script, l.script, RECORD_SIZE, at);
     }
-    spot_in(TRAILER, trailer, TRAILER_SIZE, at)
+    spot_in(Section::Trailer, trailer, TRAILER_SIZE, at)
 }
 
 // Which bytes of a variable are read, from the first on.

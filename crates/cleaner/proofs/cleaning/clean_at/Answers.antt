@@ -1,5 +1,4 @@
 -- `clean_at` meets its contract: one store. Assumes nothing.
-use borrow.Author.Rules.{rules}
 use Rattle.cleaner.proofs.cleaning.clean_at.Goals as goal
 
 pub returns : goal.returns

@@ -1,7 +1,6 @@
 -- `clean_byte` meets its contract: it is the definition. Assumes nothing.
 use mathlib.Core.Path.{sym, ◌∙◌}
 use Rattle.rules.specs.Clean.{clean_byte}
-use borrow.Author.Rules.{rules}
 use Rattle.cleaner.proofs.spots.clean_byte.Goals as goal
 
 pub returns-then-is_read : goal.returns-then-is_read

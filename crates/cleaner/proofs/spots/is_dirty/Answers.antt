@@ -2,7 +2,6 @@
 use mathlib.Core.Path.{sym, ap, ◌∙◌}
 use mathlib.Core.Bool.{not}
 use Rattle.cleaner.proofs.Located.{dirty_zero, dirty_other}
-use borrow.Author.Rules.{rules}
 use Rattle.cleaner.proofs.spots.is_dirty.Goals as goal
 
 pub returns-then-job-at-eq0 : goal.returns-then-job-at-eq0

@@ -5,7 +5,6 @@ use Prim.Native.Nat.{◌-◌, ◌%◌}
 use native.Mathlib.Omega.{arith}
 use Rattle.rules.specs.Check.{variable_reads, node_reads}
 use Rattle.cleaner.proofs.Located.{get_d_any, long, read_variable, read_node, read_record, read_trailer, record_within}
-use borrow.Author.Rules.{rules}
 use Rattle.cleaner.proofs.spots.is_read.Goals as goal
 
 pub returns-then-at-l : goal.returns-then-at-l

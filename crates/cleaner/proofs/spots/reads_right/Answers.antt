@@ -1,7 +1,6 @@
 -- `reads_right` meets its contract: it is the definition. Assumes nothing.
 use Rattle.rules.specs.Check.{reads_right}
 use Rattle.fields.specs.Fields.{row_held}
-use borrow.Author.Rules.{rules}
 use Rattle.cleaner.proofs.spots.reads_right.Goals as goal
 
 pub returns : goal.returns

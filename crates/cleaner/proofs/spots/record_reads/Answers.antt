@@ -6,7 +6,6 @@ use Rattle.rules.specs.Bytes.{byte}
 use Rattle.rules.specs.Script.{row_of}
 use Rattle.rules.specs.Check.{reads_target, record_reads, field_reads}
 use Rattle.fields.specs.Fields.{row_held}
-use borrow.Author.Rules.{rules}
 use Rattle.cleaner.proofs.spots.record_reads.Goals as goal
 
 pub reads_right-right-requires : goal.reads_right-right-requires

@@ -4,7 +4,6 @@ use mathlib.Core.Bool.{false}
 use lib.ListN.{get_or-eq_default}
 use Rattle.rules.specs.Script.{rows, row}
 use Rattle.fields.specs.Fields.{row_held}
-use borrow.Author.Rules.{rules}
 use Rattle.cleaner.proofs.spots.row_at.Goals as goal
 
 pub returns : goal.returns

@@ -6,7 +6,6 @@ use Rattle.rules.specs.Bytes.{record_place}
 use Rattle.rules.specs.Check.{record_reads}
 use Rattle.rules.proofs.ReadBytes.{records_16}
 use Rattle.cleaner.proofs.Located.{get_d_any}
-use borrow.Author.Rules.{rules}
 use Rattle.cleaner.proofs.spots.script_reads.Goals as goal
 
 pub returns : goal.returns

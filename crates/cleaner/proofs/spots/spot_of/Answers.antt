@@ -2,7 +2,6 @@
 use mathlib.Core.Path.{sym, ap, ◌∙◌}
 use Rattle.cleaner.specs.Cleaner.{spot_held}
 use Rattle.cleaner.proofs.Located.{long, spot_variable, spot_node, spot_record, spot_trailer}
-use borrow.Author.Rules.{rules}
 use Rattle.cleaner.proofs.spots.spot_of.Goals as goal
 
 pub overflow_sub-trailer : goal.overflow_sub-trailer
