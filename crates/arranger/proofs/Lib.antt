@@ -1,5 +1,4 @@
 -- Laws that the proofs of this crate cite.
-pub mod Copying
 pub mod Weighing
 pub mod Placing
 pub mod Putting

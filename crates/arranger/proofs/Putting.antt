@@ -9,8 +9,7 @@ use native.Mathlib.Decide.{ℕ_discrete, dec_lt}
 use lib.Dec.{eqb-suc-zero}
 use lib.ListN.{length, get_or, set, length-set}
 use lib.Seq.{ext_get_or, get_or-set_same, get_or-set_other}
-use Rattle.rules.specs.Limits.{no_parent}
-use Rattle.rules.specs.Bytes.{byte, half, two, nodes_at, script_at, node_count, node_place}
+use Rattle.rules.specs.Bytes.{byte, two, nodes_at, script_at, node_count, node_place}
 use Rattle.rules.specs.Check.{accepted, parent, unordered, check_bytes_by}
 use Rattle.rules.specs.Arrange.{Moved, moves, moved_bytes, arranged}
 use Rattle.rules.proofs.Accepted.{Right, right_by, parent_before}
@@ -18,7 +17,7 @@ use Rattle.rules.proofs.SameReads.{Laid, laid}
 use Rattle.rules.proofs.Packed.{half_agree}
 use Rattle.rules.proofs.Arranged.{moved_byte, same_length, in_front_law, behind, inside}
 use Rattle.fields.specs.Siblings.{Linked}
-use Rattle.arranger.specs.Arranger.{no_move, Moves, Met, Placed, Copied, Put, new_parent, Ready}
+use Rattle.arranger.specs.Arranger.{no_move, Placed, Copied, Put, new_parent, Ready}
 
 -- the nodes of an accepted job
 module _ (b : List ℕ) (base n : ℕ) (taken : check_bytes_by unordered b ≡ accepted) (tree : base ≡ nodes_at b) (count : n ≡ node_count b) where

@@ -3,16 +3,9 @@ use Rattle.std.specs.Prelude.{◌≡◌, ◌⊎◌, cond, List, ℕ, suc, ◌+�
 use Rattle.rules.specs.Limits.{max_nodes, node_size, no_parent}
 use Rattle.rules.specs.Tree.{size}
 use Rattle.rules.specs.Bytes.{byte, nodes_at, node_count, node_place}
-use Rattle.rules.specs.Check as Check
 use Rattle.rules.specs.Check.{accepted, parent, unordered, check_bytes_by}
 use Rattle.rules.specs.Job.{children_of}
 use Rattle.rules.specs.Arrange.{Moved, moved, moves, moved_bytes}
-use Rattle.arranger.specs.declared.arranging.Answer.{Answer}
-
--- "answers 0; a job turned back so far gets its number and index"
-unfoldable pub told : Check.Checked → Answer
-told Check.accepted = record { number = 0; index = 0 }
-told (Check.refused k i) = record { number = k; index = i }
 
 -- n bytes from start on were copied to at and on
 pub record Copied (n : ℕ) (to : List ℕ) (at : ℕ) (from : List ℕ) (start : ℕ) (new : List ℕ) : Type 0 where

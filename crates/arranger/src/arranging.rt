@@ -4,21 +4,15 @@ ghost use Rattle.rules.specs.Limits.{node_size};
 ghost use Rattle.rules.specs.Bytes.{nodes_at, node_count, node_place};
 ghost use Rattle.rules.specs.Check.{accepted, parent, unordered, check_bytes_by};
 ghost use Rattle.rules.specs.Arrange.{arranged, left_arranged};
-ghost use Rattle.arranger.specs.Arranger.{Put, new_parent, Ready, told};
+ghost use Rattle.job.specs.Answer.{told};
+ghost use Rattle.arranger.specs.Arranger.{Put, new_parent, Ready};
 
 use crate::copies::copy;
 use crate::places::places_of;
 use crate::weights::weights_of;
 use fields::nodes::parent_at;
-use job::{Checked, Edition, check_by};
+use job::{Edition, Refusal, check_by};
 use rules::limits::{MAX_NODES, NO_PARENT, NODE_SIZE};
-
-// 0 where the job was rearranged; else the number with which it is turned back, and the index.
-#[derive(Drop)]
-pub struct Answer {
-    pub number: u8,
-    pub index: usize,
-}
 
 // Puts the old record i at a place, with another parent.
 fn put(job: &mut [u8], base: usize, old: &[u8], i: usize, at: usize, parent: usize)
@@ -26,8 +20,9 @@ fn put(job: &mut [u8], base: usize, old: &[u8], i: usize, at: usize, parent: usi
     ensures { Put job.old base old.now i at parent job.new }
 {
     let to = base + NODE_SIZE * at;
-    job[to] = (parent % 256) as u8;
-    job[to + 1] = (parent / 256 % 256) as u8;
+    let [low, high] = (parent as u16).to_le_bytes();
+    job[to] = low;
+    job[to + 1] = high;
     copy(job, to + 2, old, NODE_SIZE * i + 2, NODE_SIZE - 2);
 }
 
@@ -48,11 +43,9 @@ fn put_all(job: &mut [u8], base: usize, count: usize, old: &[u8], own: &[usize])
     requires { Ready job.old base count old.now own.now }
     ensures { job.new ≡ arranged job.old }
 {
-    let mut i = 0;
-    while i < count {
+    for i in 0..count {
         let parent = new_parent(old, own, i);
         put(job, base, old, i, own[i], parent);
-        i += 1;
     }
 }
 
@@ -69,19 +62,11 @@ fn arrange_nodes(job: &mut [u8], base: usize, count: usize)
 }
 
 // Rearranges a job that was accepted so far; one that was turned back stays as it is.
-pub fn arrange(job: &mut [u8]) -> Answer
+pub fn arrange(job: &mut [u8]) -> Result<(), Refusal>
     ensures value { result ≡ told (check_bytes_by unordered job.old) }
     ensures job_after { job.new ≡ left_arranged job.old }
 {
-    let checked = check_by(job, Edition::Unordered);
-    match checked {
-        Checked::Accepted(l) => {
-            arrange_nodes(job, l.tree, l.nodes);
-            Answer {
-                number: 0,
-                index: 0,
-            }
-        }
-        Checked::Refused { number, index } => Answer { number, index },
-    }
+    let l = check_by(job, Edition::Unordered)?;
+    arrange_nodes(job, l.tree, l.nodes);
+    Ok(())
 }

@@ -6,9 +6,5 @@ pub fn copy(to: &mut [u8], at: usize, from: &[u8], start: usize, n: usize)
     requires { (at + n ≤ length to.old) × (start + n ≤ length from.now) }
     ensures { Copied n to.old at from.now start to.new }
 {
-    let mut k = 0;
-    while k < n {
-        to[at + k] = from[start + k];
-        k += 1;
-    }
+    to[at..at + n].copy_from_slice(&from[start..start + n]);
 }

@@ -7,4 +7,4 @@ mod copies;
 mod places;
 mod weights;
 
-pub use arranging::{Answer, arrange};
+pub use arranging::arrange;

@@ -33,10 +33,8 @@ pub fn places_of(job: &[u8], base: usize, count: usize, weights: &[usize]) -> [u
 {
     let mut own = [0usize; MAX_NODES];
     let mut next = [1usize; MAX_NODES];
-    let mut i = 1;
-    while i < count {
+    for i in 1..count {
         place(job, base, count, weights, &mut own, &mut next, i);
-        i += 1;
     }
     own
 }

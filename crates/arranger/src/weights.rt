@@ -12,7 +12,7 @@ fn weigh(job: &[u8], base: usize, count: usize, weights: &mut [usize], i: usize)
     ensures { Weighed job.now base count i weights.new }
 {
     let p = parent_at(job, base, i);
-    weights[p] = weights[p] + weights[i];
+    weights[p] += weights[i];
 }
 
 pub fn weights_of(job: &[u8], base: usize, count: usize) -> [usize; MAX_NODES]
@@ -20,9 +20,7 @@ pub fn weights_of(job: &[u8], base: usize, count: usize) -> [usize; MAX_NODES]
     ensures { Weighed job.now base count 1 result }
 {
     let mut weights = [1usize; MAX_NODES];
-    let mut i = count;
-    while 1 < i {
-        i -= 1;
+    for i in (1..count).rev() {
         weigh(job, base, count, &mut weights, i);
     }
     weights

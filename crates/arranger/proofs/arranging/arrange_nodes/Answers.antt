@@ -4,7 +4,6 @@ use native.Mathlib.Nat.{zero-add}
 use native.Mathlib.Omega.{arith}
 use Rattle.rules.specs.Bytes.{byte}
 use Rattle.arranger.proofs.Putting.{nodes_linked, nodes_some}
-use borrow.Author.Rules.{rules}
 use Rattle.arranger.proofs.arranging.arrange_nodes.Goals as goal
 
 pub weights_of-weights-requires : goal.weights_of-weights-requires

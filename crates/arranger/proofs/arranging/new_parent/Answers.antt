@@ -2,7 +2,6 @@
 use native.Mathlib.Omega.{arith}
 use borrow.Author.Tests.{eq-eqb, ne_eqb}
 use Rattle.arranger.specs.Arranger.{new_parent}
-use borrow.Author.Rules.{rules}
 use Rattle.arranger.proofs.arranging.new_parent.Goals as goal
 
 pub returns-then-i-eq0 : goal.returns-then-i-eq0

@@ -3,7 +3,6 @@ use mathlib.Core.Path.{◌∙◌}
 use native.Mathlib.Omega.{arith}
 use lib.ListN.{set, length-set}
 use Rattle.arranger.proofs.Putting.{is_put}
-use borrow.Author.Rules.{rules}
 use Rattle.arranger.proofs.arranging.put.Goals as goal
 
 pub bounds-job-to-2 : goal.bounds-job-to-2
@@ -16,4 +15,4 @@ pub shape_of-job : goal.shape_of-job
 shape_of-job c = let a = c.args in c.copy.ensures.long ∙ length-set (set a.job.now _ _) _ _ ∙ length-set a.job.now _ _
 
 pub returns : goal.returns
-returns c = is_put _ _ _ _ _ _ _ c.requires.0 c.copy.ensures
+returns c = is_put _ _ _ _ _ _ _ c.requires.0 (rw c.to_le_bytes.ensures at c.copy.ensures)

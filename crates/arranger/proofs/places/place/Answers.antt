@@ -7,7 +7,6 @@ use Rattle.rules.proofs.Accepted.{parent_before}
 use Rattle.arranger.specs.Arranger.{weight}
 use Rattle.arranger.proofs.Weighing.{weight_late}
 use Rattle.arranger.proofs.Placing.{placing_room, placing_next}
-use borrow.Author.Rules.{rules}
 use Rattle.arranger.proofs.places.place.Goals as goal
 use Rattle.arranger.proofs.places.place.Goals.{After-parent_at-p}
 

@@ -4,7 +4,6 @@ use native.Mathlib.Omega.{arith}
 use lib.ListN.{get_or}
 use Rattle.rules.proofs.Accepted.{parent_before}
 use Rattle.arranger.proofs.Weighing.{weight_few, weighed_next}
-use borrow.Author.Rules.{rules}
 use Rattle.arranger.proofs.weights.weigh.Goals as goal
 use Rattle.arranger.proofs.weights.weigh.Goals.{After-parent_at-p}
 
