@@ -1,5 +1,4 @@
 use mathlib.Core.Path.{◌≡◌}
-use Prim.Native.Nat.{◌≤◌, ◌-◌}
 use lib.ListN.{length}
 use Rattle.table.specs.Cells.{cells}
 use Rattle.table.specs.Promises.{Behind}
@@ -7,7 +6,4 @@ use Rattle.table.specs.Steps.{Cleared}
 use Rattle.table.proofs.records.clear.Given as goal
 
 abbrev pub invariant-loop-x : goal.invariant-loop-x
-invariant-loop-x l = (l.x ≤ l.n) × (length l.words ≡ length l.initial.words) × Cleared (cells l.words) l.x × Behind l.n (cells l.initial.words) (cells l.words)
-
-abbrev pub decreases-loop-x : goal.decreases-loop-x
-decreases-loop-x l = l.n - l.x
+invariant-loop-x l = (length l.words ≡ length l.initial.words) × Cleared (cells l.words) l.x × Behind l.n (cells l.initial.words) (cells l.words)

@@ -19,9 +19,6 @@ loop-x-preserved c = let i = c.loop-x.invariant in (
   then_behind i.3 (entered_behind (omega arith) c.enter.ensures),
 )
 
-pub returns : goal.returns
-returns c = let e : c.loop-x.x ≡ 1 = omega arith in
-    let i = c.loop-x.invariant in record {
-      loaded = loaded c.args.job.now c.args.base c.args.n c.requires.some (rw e at i.2) c.enter-2.ensures;
-      behind = then_behind (then_behind c.clear.ensures.behind i.3) (entered_behind c.requires.some c.enter-2.ensures);
-    }
+pub returns-clause-loaded : goal.returns-clause-loaded
+returns-clause-loaded c = let e : c.loop-x.x ≡ 1 = omega arith in
+    loaded c.args.job.now c.args.base c.args.n c.requires.some (rw e at c.loop-x.invariant.2) c.enter-2.ensures

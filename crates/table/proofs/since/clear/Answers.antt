@@ -1,6 +1,6 @@
 -- The invariant: the walk has come to where next leads, and at most `left` places wait. Assumes nothing.
 use mathlib.Core.Path.{◌≡◌, refl, subst, ◌∙◌}
-use mathlib.Core.Logic.{inl, inr}
+use mathlib.Core.Logic.{inl}
 use Prim.Native.Nat.{suc, ◌-◌}
 use native.Mathlib.Omega.{arith}
 use lib.ListN.{length-set}
@@ -17,14 +17,6 @@ loop-left-init c = let a = c.args in (
   record { same = λ _ _. refl },
   λ used s room f e once. going_start (omega (arith, c.requires.1.0)) room s once (cells a.words.now) a.since.now f e,
 )
-
-pub returns-then-next-places : goal.returns-then-next-places
-returns-then-next-places c = let i = c.loop-left.invariant in
-    record {
-      size = i.1;
-      behind = i.2;
-      done = λ used s room f e once. going_done (omega (arith, c.requires.1.0)) room s once _ _ (i.3 used s room f e once) (inr c.if-next-places.true);
-    }
 
 pub loop-left-preserved : goal.loop-left-preserved
 loop-left-preserved c = let i = c.loop-left.invariant in

@@ -1,16 +1,11 @@
 -- The place is cleared; what hangs below it is pushed onto an empty stack, and cleared. Assumes nothing.
-use mathlib.Core.Path.{◌∙◌}
 use native.Mathlib.Omega.{arith}
-use lib.ListN.{length-set}
 use Rattle.table.specs.Cells.{cells, gone}
 use Rattle.table.proofs.Behind.{then_behind}
 use Rattle.table.proofs.Effects.{pushed_behind}
 use Rattle.table.proofs.Forgetting.{forgotten}
 use Rattle.table.proofs.Words.{fits}
 use Rattle.table.proofs.since.forget.Goals as goal
-
-pub shape_of-since : goal.shape_of-since
-shape_of-since c = c.clear.ensures.size ∙ simp length-set
 
 pub returns : goal.returns
 unfolding cells
