@@ -11,10 +11,8 @@ pub fn store(table: &mut [Node], words: &[u32], n: usize)
     requires { (n ≤ length table.old) × (cell_size * n ≤ length words.now) }
     ensures { table.new ≡ stored words.now n table.old }
 {
-    let mut x = 0;
-    while x < n {
+    for x in 0..n {
         table[x] = node::node_of(words, x);
-        x = x + 1;
     }
 }
 
@@ -23,12 +21,10 @@ pub fn load(table: &[Node], words: &mut [u32], n: usize)
     requires { (n ≤ length table.now) × (cell_size * n ≤ length words.old) }
     ensures { Loads table.now n words.old words.new }
 {
-    let mut x = 0;
-    while x < n {
+    for x in 0..n {
         // The value is read, so that it is known to be of 32 bits.
         let d = table[x];
         let _value = d.value;
         node::put(words, x, d);
-        x = x + 1;
     }
 }

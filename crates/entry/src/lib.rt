@@ -1,8 +1,7 @@
 // The public run over what a caller lends, node records among it.
 #![tactic(auto)]
 
-ghost use Rattle.std.specs.Prelude.{◌≡◌, min, length};
-ghost use Rattle.rules.specs.Limits.{max_nodes};
+ghost use Rattle.std.specs.Prelude.{◌≡◌, length};
 ghost use Rattle.monitor.specs.Follow.{Follows};
 ghost use Rattle.monitor.specs.Promises.{lent, Promises};
 ghost use Rattle.writer.specs.Writes.{WritesBack};
@@ -25,14 +24,8 @@ fn kept(outcome: Outcome, n: usize) -> usize
     ensures { result ≡ kept_of outcome n }
 {
     match outcome {
-        Outcome::Refused { number, index } => 0,
-        Outcome::Finished { steps, lines } => n,
-        Outcome::Stopped {
-            number,
-            index,
-            steps,
-            lines,
-        } => n,
+        Outcome::Refused { .. } => 0,
+        Outcome::Finished { .. } | Outcome::Stopped { .. } => n,
     }
 }
 
@@ -58,13 +51,6 @@ pub fn run_job(
     outcome
 }
 
-// How many of n records are copied into words: a script is run over at most 512.
-fn few(n: usize) -> usize
-    ensures { result ≡ min n max_nodes }
-{
-    if n < MAX_NODES { n } else { MAX_NODES }
-}
-
 // The run over a bare section, with a budget and what the caller lends, which a tree and variables stand in: a node table of a record to a place, the
 // variables' levels and values, and an area for board lines of five bytes each.
 pub fn follow_job(
@@ -83,8 +69,7 @@ pub fn follow_job(
     let mut marks = [0u8; MAX_NODES];
     let stands = held(table, &mut marks);
     let mut words = [0u32; WORDS];
-    let copied = few(n);
-    load(table, &mut words, copied);
+    load(table, &mut words, n.min(MAX_NODES));
     let outcome = follow_places(
         section, budget, n, stands, &marks, &mut words, levels, values, lines,
     );
@@ -102,7 +87,6 @@ pub fn write_job(table: &[Node], levels: &[u8], values: &[i32], area: &mut [u8])
     let mut marks = [0u8; MAX_NODES];
     let stands = held(table, &mut marks);
     let mut words = [0u32; WORDS];
-    let copied = few(n);
-    load(table, &mut words, copied);
+    load(table, &mut words, n.min(MAX_NODES));
     write_places(n, stands, &marks, &words, levels, values, area)
 }

@@ -1,6 +1,4 @@
 // Whether a tree stands in lent records, which may say anything.
-ghost use Rattle.std.specs.Prelude.{◌≡◌, ◌≤◌, min, length};
-ghost use Rattle.table.specs.Cells.{gone};
 ghost use Rattle.entry.specs.Records.{Unmarked, Surveys};
 
 use lent::Node;
@@ -8,20 +6,14 @@ use lent::standing::{ask, start, turn};
 use rules::limits::MAX_NODES;
 use table::NIL;
 
-// How many of so many places a link can lead to.
-fn reach(places: usize) -> usize
-    ensures { result ≡ min places gone }
-{
-    if places < NIL { places } else { NIL }
-}
-
 // Whether a tree stands in the records; if so, its places have a mark then, if they are among the first 512, and no others. The walk is that over words,
 // and needs the record of one place a turn.
 pub fn held(table: &[Node], marks: &mut [u8]) -> bool
     requires { Unmarked marks.old }
     ensures { Surveys table.now marks.new result }
 {
-    let n = reach(table.len());
+    // A link can lead to so many places.
+    let n = table.len().min(NIL);
     let mut dues = [0u32; MAX_NODES];
     let mut bounds = [0u8; MAX_NODES];
     let mut s = start();

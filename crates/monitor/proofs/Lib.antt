@@ -4,6 +4,7 @@ pub mod Answered
 pub mod Secret
 pub mod Begins
 pub mod Followed
+pub mod Storing
 pub mod Taken
 pub mod Histories
 pub mod JobHistories

@@ -1,5 +1,5 @@
 // The run over a job's bytes: the checks 1 to 10, then the job is loaded and run.
-ghost use Rattle.std.specs.Prelude.{◌≡◌, min, length};
+ghost use Rattle.std.specs.Prelude.{◌≡◌, length};
 ghost use Rattle.table.specs.Cells.{cells};
 ghost use Rattle.table.specs.Promises.{Behind};
 ghost use Rattle.rules.specs.Outcome.{budget_rule};
@@ -39,11 +39,9 @@ fn load_variables(job: &[u8], vars: usize, levels: &mut [u8], values: &mut [i32]
     requires { Loading job.now levels.old values.old vars }
     ensures { VariablesLoaded job.now vars levels.old levels.new values.old values.new }
 {
-    let mut i = 0;
-    while i < vars {
+    for i in 0..vars {
         levels[i] = fields::variables::level_at(job, i);
         values[i] = fields::variables::value_at(job, i);
-        i += 1;
     }
 }
 
@@ -83,17 +81,11 @@ fn buffers_ok(nodes: usize, variables: usize, places: usize, room: usize) -> boo
     (1 <= places) & (places <= MAX_NODES) & (nodes <= places) & (variables <= room)
 }
 
-pub fn smaller(a: usize, b: usize) -> usize
-    ensures { result ≡ min a b }
-{
-    if a < b { a } else { b }
-}
-
 // As many places as are asked for, if there are words for them.
 fn asked(places: usize, words: usize) -> usize
     ensures { result ≡ places_for places words }
 {
-    if table::CELL * smaller(places, MAX_NODES) <= words {
+    if table::CELL * places.min(MAX_NODES) <= words {
         places
     } else {
         0
@@ -179,7 +171,7 @@ pub fn run_places(
         (lent words.new levels.new values.new lines.new) result
         × Behind (places_for places (length words.old)) (cells words.old) (cells words.new) }
 {
-    let room = smaller(levels.len(), values.len());
+    let room = levels.len().min(values.len());
     let held = asked(places, words.len());
     let mut plan = [0u32; WORDS];
     let checked = admit(job, budget, held, room, &mut plan);

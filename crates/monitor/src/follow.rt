@@ -6,7 +6,7 @@ ghost use Rattle.table.specs.Promises.{Behind};
 ghost use Rattle.monitor.specs.Promises.{lent, places_in, Tree};
 ghost use Rattle.monitor.specs.Follow.{Storable, Admits, Surveyed, Follows, FollowsOver, linkable, StandsIn};
 
-use super::entry::{Outcome, budget_ok, smaller};
+use super::entry::{Outcome, budget_ok};
 use super::start::from_root;
 use interpreter::Frame;
 use job::plan::WORDS;
@@ -21,23 +21,10 @@ use rules::limits::{
 pub fn storable(stands: bool, levels: &[u8], values: usize) -> bool
     ensures { Storable stands levels.now values result }
 {
-    if !stands {
-        return false;
-    }
-    if levels.len() != values {
-        return false;
-    }
-    if levels.len() > MAX_VARIABLES {
-        return false;
-    }
-    let mut i = 0;
-    while i < levels.len() {
-        if !is_level(levels[i]) {
-            return false;
-        }
-        i += 1;
-    }
-    true
+    stands
+        && levels.len() == values
+        && levels.len() <= MAX_VARIABLES
+        && levels.iter().all(|level| is_level(*level))
 }
 
 // The checks of a script over such: 11 of the section, 7, 8, 9 and 10; and the script's plan.
@@ -129,7 +116,7 @@ pub fn survey(words: &[u32], marks: &mut [u8]) -> bool
     requires { max_nodes ≤ length marks.old }
     ensures { Surveyed words.now (linkable words.now) result marks.new }
 {
-    let n = smaller(words.len() / table::CELL, table::NIL);
+    let n = (words.len() / table::CELL).min(table::NIL);
     let mut dues = [0u32; MAX_NODES];
     let mut bounds = [0u8; MAX_NODES];
     standing::held(words, n, &mut dues, &mut bounds, marks)

@@ -17,13 +17,6 @@ const OWN: usize = 513;
 // The words that they are copied into.
 pub const WORDS: usize = table::CELL * OWN;
 
-// How many of its own records a run with so many places lends.
-fn lending(places: usize) -> usize
-    ensures { result ≡ min places own_places }
-{
-    if places < OWN { places } else { OWN }
-}
-
 // How many of its own records are made of words first: all for a follow-on script, none for a job.
 fn copied(follows: bool) -> usize
     ensures { result ≡ copied_of follows }
@@ -48,7 +41,7 @@ fn own(
         (lent words.old levels.old values.old lines.old)
         (lent words.new levels.new values.new lines.new) result }
 {
-    let n = lending(places);
+    let n = places.min(OWN);
     let record = blank();
     let mut own = [record; OWN];
     let first = copied(follows);

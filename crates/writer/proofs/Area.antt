@@ -1,15 +1,24 @@
 -- Laws of bytes stored in an area: by the parts that it is cut into. Assumes nothing.
+use Rattle.std.specs.Int.{to_le_bytes}
+use Rattle.std.proofs.lemmas.Slice.{put_mid-paste}
+use borrow.Rule.Slice.PartMut.{put_mid}
+use mir.Syntax.{w32}
+use mir.Val.{SFits, of_z, to_z}
+use mir.Facts.{to_z-of_z}
 use mathlib.Core.Path.{◌≡◌, sym, ap, ap₂, ◌∙◌}
 use mathlib.Core.List.{List, [], ◌∷◌, ◌++◌, flat_map, append_assoc, append-nil}
-use Prim.Native.Nat.{ℕ, zero, suc, ◌+◌, ◌*◌, ◌≤◌}
+use Prim.Native.Nat.{ℕ, zero, suc, ◌+◌, ◌-◌, ◌*◌, ◌/◌, ◌%◌, ◌≤◌}
 use native.Mathlib.Omega.{arith}
 use native.Mathlib.Numerals.{add-one}
-use lib.ListN.{length, get_or, set, take, drop, length-append, length-drop, take-append-drop}
-use lib.Seq.{length-take-le, take_at, drop-append-add, drop-drop, sets-eq}
+use lib.ListN.{length, get_or, take, drop, length-append, length-drop, take-append-drop}
+use lib.Seq.{length-take-le, take_at, take_all, drop-append-add, drop-drop}
 use lib.IntN.{ℤ, pos}
 use Rattle.rules.specs.Limits.{variable_size}
+use Rattle.rules.specs.Number.{bits}
+use Rattle.rules.specs.Bytes.{two}
 use Rattle.rules.specs.Job.{listed}
-use Rattle.rules.specs.Write.{variable, variable_bytes}
+use Rattle.rules.specs.Write.{four, variable, variable_bytes}
+use Rattle.rules.proofs.Number.{bits_of_z}
 use Rattle.rules.proofs.Decode.{listed_length}
 use Rattle.rules.proofs.Packed.{packed_length}
 use Rattle.rules.proofs.Written.{variable_size_law}
@@ -48,39 +57,21 @@ replaced_none area at =
     ap (λ (k : ℕ). take at area ++ [] ++ drop k area) {x = at + 0} {y = at} (omega arith)
     ∙ ap (λ (r : List ℕ). r ++ drop at area) (append-nil (take at area)) ∙ take-append-drop at area
 
--- eight and twelve stores
-pub eight_put : (area : List ℕ) (i a b c d e f g h : ℕ) → i + 8 ≤ length area
-    → set (set (set (set (set (set (set (set area i a) (i + 1) b) (i + 2) c) (i + 3) d) (i + 4) e) (i + 5) f) (i + 6) g) (i + 7) h
-    ≡ replaced area i (a ∷ b ∷ c ∷ d ∷ e ∷ f ∷ g ∷ h ∷ [])
+-- bytes copied into a part of an area
+pub put_replaced : (area : List ℕ) (at n : ℕ) (ys bytes : List ℕ) → ys ≡ bytes → length bytes ≡ n → put_mid at (at + n - at) area ys ≡ replaced area at bytes
 unfolding replaced
-eight_put area i a b c d e f g h room =
-    let e₁ : i + 1 ≡ suc i = omega arith in
-    let e₂ : i + 2 ≡ suc (suc i) = omega arith in
-    let e₃ : i + 3 ≡ suc (suc (suc i)) = omega arith in
-    let e₄ : i + 4 ≡ suc (suc (suc (suc i))) = omega arith in
-    let e₅ : i + 5 ≡ suc (suc (suc (suc (suc i)))) = omega arith in
-    let e₆ : i + 6 ≡ suc (suc (suc (suc (suc (suc i))))) = omega arith in
-    let e₇ : i + 7 ≡ suc (suc (suc (suc (suc (suc (suc i)))))) = omega arith in
-    rw (e₁, e₂, e₃, e₄, e₅, e₆, e₇) (sets-eq (a ∷ b ∷ c ∷ d ∷ e ∷ f ∷ g ∷ h ∷ []) area i room)
+put_replaced area at n ys bytes e long =
+    put_mid-paste at (at + n - at) area ys bytes n e (omega arith) (sym long)
+    ∙ ap (λ (b : List ℕ). take at area ++ b ++ drop (at + n) area) (take_all n bytes (omega (arith, long)))
+    ∙ ap (λ (k : ℕ). take at area ++ bytes ++ drop (at + k) area) (sym long)
 
-pub twelve_put : (area : List ℕ) (i a b c d e f g h j k l m : ℕ) → i + 12 ≤ length area
-    → set (set (set (set (set (set (set (set (set (set (set (set area i a) (i + 1) b) (i + 2) c) (i + 3) d) (i + 4) e) (i + 5) f) (i + 6) g) (i + 7) h)
-    (i + 8) j) (i + 9) k) (i + 10) l) (i + 11) m
-    ≡ replaced area i (a ∷ b ∷ c ∷ d ∷ e ∷ f ∷ g ∷ h ∷ j ∷ k ∷ l ∷ m ∷ [])
-unfolding replaced
-twelve_put area i a b c d e f g h j k l m room =
-    let e₁ : i + 1 ≡ suc i = omega arith in
-    let e₂ : i + 2 ≡ suc (suc i) = omega arith in
-    let e₃ : i + 3 ≡ suc (suc (suc i)) = omega arith in
-    let e₄ : i + 4 ≡ suc (suc (suc (suc i))) = omega arith in
-    let e₅ : i + 5 ≡ suc (suc (suc (suc (suc i)))) = omega arith in
-    let e₆ : i + 6 ≡ suc (suc (suc (suc (suc (suc i))))) = omega arith in
-    let e₇ : i + 7 ≡ suc (suc (suc (suc (suc (suc (suc i)))))) = omega arith in
-    let e₈ : i + 8 ≡ suc (suc (suc (suc (suc (suc (suc (suc i))))))) = omega arith in
-    let e₉ : i + 9 ≡ suc (suc (suc (suc (suc (suc (suc (suc (suc i)))))))) = omega arith in
-    let e₁₀ : i + 10 ≡ suc (suc (suc (suc (suc (suc (suc (suc (suc (suc i))))))))) = omega arith in
-    let e₁₁ : i + 11 ≡ suc (suc (suc (suc (suc (suc (suc (suc (suc (suc (suc i)))))))))) = omega arith in
-    rw (e₁, e₂, e₃, e₄, e₅, e₆, e₇, e₈, e₉, e₁₀, e₁₁) (sets-eq (a ∷ b ∷ c ∷ d ∷ e ∷ f ∷ g ∷ h ∷ j ∷ k ∷ l ∷ m ∷ []) area i room)
+-- the bytes of a signed number, which the machine reads as it stands
+pub four_told : (v : ℤ) → SFits w32 v → (r : List ℕ) → r ≡ to_le_bytes w32 (of_z w32 (to_z w32 (of_z w32 v))) → r ≡ four v
+unfolding four two
+four_told v h r e =
+    let w : of_z w32 (to_z w32 (of_z w32 v)) ≡ bits v = ap (of_z w32) (to_z-of_z {w = w32} h) ∙ sym (bits_of_z h) in
+    let high : bits v / 65536 / 256 ≡ bits v / 16777216 = omega arith in
+    e ∙ ap (to_le_bytes w32) w ∙ ap (λ (k : ℕ). bits v % 256 ∷ bits v / 256 % 256 ∷ bits v / 65536 % 256 ∷ k % 256 ∷ []) (sym high)
 
 -- one record more
 pub flat_snoc : {A : Type 0} (f : A → List ℕ) (xs : List A) (x : A) → flat_map f (xs ++ (x ∷ [])) ≡ flat_map f xs ++ f x

@@ -21,12 +21,6 @@ pub struct Spot {
     pub next: usize,
 }
 
-fn index(x: u32) -> usize
-    ensures { result ≡ x }
-{
-    x as usize
-}
-
 // The link to the root.
 fn start() -> Spot
     ensures { result ≡ Nodes.start }
@@ -56,7 +50,7 @@ fn enter(s: Spot, d: Node) -> Spot
     ensures { result ≡ Nodes.enter s d }
 {
     Spot {
-        link: index(d.first),
+        link: d.first as usize,
         up: s.link,
         deep: s.deep + 1,
         next: s.next + 1,
@@ -69,8 +63,8 @@ fn leave(s: Spot, d: Node) -> Spot
     ensures { result ≡ Nodes.leave s d }
 {
     Spot {
-        link: index(d.right),
-        up: index(d.parent),
+        link: d.right as usize,
+        up: d.parent as usize,
         deep: s.deep - 1,
         next: s.next,
     }

@@ -1,23 +1,19 @@
 // The records of a job, stored at a place of an area, and its trailer.
-ghost use Rattle.std.specs.Prelude.{◌≡◌, ◌+◌, ◌%◌, ◌≤◌, length};
+ghost use Rattle.std.specs.Prelude.{◌≡◌, ◌+◌, ◌≤◌, length};
+ghost use Rattle.rules.specs.Bytes.{two};
 ghost use Rattle.rules.specs.Limits.{trailer_size, variable_size, node_size};
 ghost use Rattle.rules.specs.Write.{trailer, variable, node_bytes};
 ghost use Rattle.lent.specs.Lent.{cell_of};
 ghost use Rattle.writer.specs.Area.{replaced, entry};
 
 use lent::Node;
-use rules::numbers::bits;
+use rules::limits::{NODE_SIZE, TRAILER_SIZE, VARIABLE_SIZE};
 
-fn low(w: u32) -> u8
-    ensures { result ≡ w % 256 }
+// The two bytes of a place or an index.
+fn two(x: usize) -> [u8; 2]
+    ensures { result ≡ two x }
 {
-    (w % 256) as u8
-}
-
-fn low_of(x: usize) -> u8
-    ensures { result ≡ x % 256 }
-{
-    (x % 256) as u8
+    ((x % 65536) as u16).to_le_bytes()
 }
 
 // A variable's record.
@@ -25,16 +21,9 @@ pub fn put_variable(area: &mut [u8], at: usize, level: u8, value: i32)
     requires { at + variable_size ≤ length area.old }
     ensures { area.new ≡ replaced area.old at (variable level value) }
 {
-    let w = bits(value);
-    let high = w / 65536;
-    area[at] = level;
-    area[at + 1] = 0;
-    area[at + 2] = 0;
-    area[at + 3] = 0;
-    area[at + 4] = low(w);
-    area[at + 5] = low(w / 256);
-    area[at + 6] = low(high);
-    area[at + 7] = low(high / 256);
+    let [a, b, c, d] = value.to_le_bytes();
+    let record = [level, 0, 0, 0, a, b, c, d];
+    area[at..at + VARIABLE_SIZE].copy_from_slice(&record);
 }
 
 // A node's record, with its parent's index.
@@ -42,20 +31,23 @@ pub fn put_node(area: &mut [u8], at: usize, parent: usize, d: Node)
     requires { at + node_size ≤ length area.old }
     ensures { area.new ≡ replaced area.old at (node_bytes (entry parent (cell_of d).label)) }
 {
-    let w = bits(d.value);
-    let high = w / 65536;
-    area[at] = low_of(parent);
-    area[at + 1] = low_of(parent / 256);
-    area[at + 2] = d.existence;
-    area[at + 3] = d.content;
-    area[at + 4] = d.structure;
-    area[at + 5] = 0;
-    area[at + 6] = 0;
-    area[at + 7] = 0;
-    area[at + 8] = low(w);
-    area[at + 9] = low(w / 256);
-    area[at + 10] = low(high);
-    area[at + 11] = low(high / 256);
+    let [low, high] = two(parent);
+    let [a, b, c, e] = d.value.to_le_bytes();
+    let record = [
+        low,
+        high,
+        d.existence,
+        d.content,
+        d.structure,
+        0,
+        0,
+        0,
+        a,
+        b,
+        c,
+        e,
+    ];
+    area[at..at + NODE_SIZE].copy_from_slice(&record);
 }
 
 // The trailer, behind an empty script: the nodes start at `nodes`, the script and the trailer at `at`.
@@ -63,12 +55,7 @@ pub fn put_trailer(area: &mut [u8], nodes: usize, at: usize)
     requires { at + trailer_size ≤ length area.old }
     ensures { area.new ≡ replaced area.old at (trailer nodes at at) }
 {
-    area[at] = 0;
-    area[at + 1] = 0;
-    area[at + 2] = low_of(nodes);
-    area[at + 3] = low_of(nodes / 256);
-    area[at + 4] = low_of(at);
-    area[at + 5] = low_of(at / 256);
-    area[at + 6] = low_of(at);
-    area[at + 7] = low_of(at / 256);
+    let [a, b] = two(nodes);
+    let [c, d] = two(at);
+    area[at..at + TRAILER_SIZE].copy_from_slice(&[0, 0, a, b, c, d, c, d]);
 }

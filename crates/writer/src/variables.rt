@@ -10,9 +10,7 @@ pub fn put_variables(levels: &[u8], values: &[i32], area: &mut [u8])
     requires { (length levels.now ≡ length values.now) × (variable_size * length levels.now ≤ length area.old) }
     ensures { VariablesPut levels.now values.now area.old area.new }
 {
-    let mut i = 0;
-    while i < levels.len() {
+    for i in 0..levels.len() {
         put_variable(area, VARIABLE_SIZE * i, levels[i], values[i]);
-        i += 1;
     }
 }

@@ -1,7 +1,6 @@
 // The checks 11, 10 and 14, and then the job, section after section.
 ghost use Rattle.std.specs.Prelude.{◌≡◌, ◌≤◌, length};
 ghost use Rattle.rules.specs.Limits.{max_nodes};
-ghost use Rattle.lent.specs.Stands.{flag};
 ghost use Rattle.monitor.specs.Promises.{lent, places_in};
 ghost use Rattle.monitor.specs.Follow.{Surveyed, StandsIn};
 ghost use Rattle.writer.specs.Writes.{Counted, Whole, WholePut, WritesOver, WritesBack};
@@ -14,25 +13,12 @@ use rules::limits::{
     BAD_AREA, BAD_BUFFERS, BAD_FOLLOW_ON, MAX_NODES, NODE_SIZE, TRAILER_SIZE, VARIABLE_SIZE,
 };
 
-// 1 for a mark, else 0.
-fn one(mark: u8) -> usize
-    ensures { result ≡ flag mark }
-{
-    if mark == 0 { 0 } else { 1 }
-}
-
 // How many places have a mark: as many as the tree has nodes.
 fn count(marks: &[u8], places: usize) -> usize
     requires { (places ≤ max_nodes) × (max_nodes ≤ length marks.now) }
     ensures { Counted places marks.now result }
 {
-    let mut n = 0;
-    let mut x = 0;
-    while x < places {
-        n += one(marks[x]);
-        x += 1;
-    }
-    n
+    marks[..places].iter().filter(|mark| **mark != 0).count()
 }
 
 // The job's bytes, where there is room for them: variables, nodes, no script, and the trailer, which stands at `end`.

@@ -7,10 +7,10 @@ use Rattle.table.specs.Cells.{cell_size}
 use Rattle.monitor.specs.Promises.{places_for}
 use Rattle.monitor.proofs.entry.asked.Goals as goal
 
-pub returns-then-smaller-words : goal.returns-then-smaller-words
+pub returns-then-min-words : goal.returns-then-min-words
 unfolding places_for
-returns-then-smaller-words c = rw (le-leb (cell_size * min c.args.places max_nodes) c.args.words (omega (arith, c.smaller.ensures, c.if-smaller-words.true)))
+returns-then-min-words c = rw (le-leb (cell_size * min c.args.places max_nodes) c.args.words (omega (arith, c.min.ensures, c.if-min-words.true)))
 
-pub returns-else-smaller-words : goal.returns-else-smaller-words
+pub returns-else-min-words : goal.returns-else-min-words
 unfolding places_for
-returns-else-smaller-words c = rw (lt-leb (cell_size * min c.args.places max_nodes) c.args.words (omega (arith, c.smaller.ensures, c.if-smaller-words.false)))
+returns-else-min-words c = rw (lt-leb (cell_size * min c.args.places max_nodes) c.args.words (omega (arith, c.min.ensures, c.if-min-words.false)))

@@ -16,47 +16,28 @@ use Rattle.writer.proofs.variables.put_variables.Goals as goal
 
 pub loop-i-init : goal.loop-i-init
 unfolding listed flat_map
-loop-i-init c = (omega arith, refl, sym (replaced_none _ 0), λ k lt. absurd (omega arith))
-
-pub overflow_mul-i : goal.overflow_mul-i
-overflow_mul-i c = omega (arith, c.loop-i-test.true, c.requires.1)
-
-pub bounds-levels-i : goal.bounds-levels-i
-bounds-levels-i c = omega (arith, c.loop-i-test.true)
-
-pub offset_bounds-values-i : goal.offset_bounds-values-i
-offset_bounds-values-i c = omega (arith, c.loop-i-test.true, c.requires.1)
-
-pub bounds-values-i : goal.bounds-values-i
-bounds-values-i c = omega (arith, c.loop-i-test.true, c.requires.0)
+loop-i-init c = (refl, sym (replaced_none _ 0), λ k lt. absurd (omega arith))
 
 pub put_variable-requires : goal.put_variable-requires
-put_variable-requires c = omega (arith, c.loop-i-test.true, c.requires.1, c.loop-i.invariant.1)
+put_variable-requires c = omega (arith, c.requires.1, c.loop-i.invariant.0)
 
 pub loop-i-preserved : goal.loop-i-preserved
 loop-i-preserved c = let v = c.loop-i.invariant in (
-  omega (arith, c.loop-i-test.true),
-  c.area-1.given ∙ v.1,
-  variables_more c.args.levels.now c.args.values.now c.args.area.now c.loop-i.area _ c.loop-i.i (omega (arith, c.loop-i-test.true, c.requires.1)) v.2
+  c.area-1.given ∙ v.0,
+  variables_more c.args.levels.now c.args.values.now c.args.area.now c.loop-i.area _ c.loop-i.i (omega (arith, c.requires.1)) v.1
       (c.put_variable.ensures
       ∙ ap (λ z. replaced c.loop-i.area (variable_size * c.loop-i.i) (variable (get_or c.args.levels.now c.loop-i.i 0) z))
       (to_z-of_z {w = w32} (record { sfits = c.put_variable-arg-in-loop-i-1.given }))),
-  below_more _ _ v.3 c.put_variable-arg-in-loop-i-1.given,
+  below_more _ _ v.2 c.put_variable-arg-in-loop-i-1.given,
 )
 
 pub shape_of-area : goal.shape_of-area
-shape_of-area c = c.loop-i.invariant.1
+shape_of-area c = c.loop-i.invariant.0
 
 pub returns : goal.returns
 returns c = let v = c.loop-i.invariant in
-    let e : c.loop-i.i ≡ length c.args.levels.now = omega (arith, v.0, c.loop-i-test.false) in
+    let e : c.loop-i.i ≡ length c.args.levels.now = omega arith in
     record {
-      bytes = v.2 ∙ ap (λ k. replaced c.args.area.now 0 (flat_map variable_bytes (listed (lent_variable c.args.levels.now c.args.values.now) k 0))) e;
-      fits = λ k lt. v.3 k (omega arith);
+      bytes = v.1 ∙ ap (λ k. replaced c.args.area.now 0 (flat_map variable_bytes (listed (lent_variable c.args.levels.now c.args.values.now) k 0))) e;
+      fits = λ k lt. v.2 k (omega arith);
     }
-
-pub overflow_add-i : goal.overflow_add-i
-overflow_add-i c = omega arith
-
-pub loop-i-smaller : goal.loop-i-smaller
-loop-i-smaller c = omega arith
