@@ -1,5 +1,6 @@
 -- Writing back over lent records: the words that the first records were copied into hold what these hold. More than 512 records are only asked for a
 -- tree. Assumes nothing.
+use Rattle.std.specs.Prelude.{Result}
 use mathlib.Core.Path.{◌≡◌, refl, sym, subst}
 use mathlib.Core.Bool.{Bool}
 use mathlib.Core.List.{List}
@@ -38,7 +39,7 @@ module _ (ns : List Node) (c : ℕ) (few : c ≡ min (length ns) max_nodes) (w w
     out_of : (t : Forest) → StandsIn ns t → StandsAmong (length ns) w' t
     out_of t h = stands_same (same_cells ns c few w w' long l le) (subst (λ n. Stands (nodes_table ns) n t) (reach ns c few w w' long l le) h)
 
-  pub written_back : {area' : List ℕ} {r : ℕ} → WritesOver (length ns) stands (lent w' levels values board) area' r → WritesBack length StandsIn y area' r
+  pub written_back : {area' : List ℕ} {r : Result ℕ ℕ} → WritesOver (length ns) stands (lent w' levels values board) area' r → WritesBack length StandsIn y area' r
   written_back (unstorable z e f) = rw (e, f) (not_storable length StandsIn y decides z)
   written_back (crowded z lt e f) = rw (e, f) (not_few_places length StandsIn y decides (λ t h. fair h) z lt)
   written_back (known le h) =

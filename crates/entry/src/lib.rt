@@ -80,7 +80,12 @@ pub fn follow_job(
 
 // The tree and the variables that a caller lends, written into an area as a job with an empty script: the job's length, or the number. The table has a
 // record to a place.
-pub fn write_job(table: &[Node], levels: &[u8], values: &[i32], area: &mut [u8]) -> usize
+pub fn write_job(
+    table: &[Node],
+    levels: &[u8],
+    values: &[i32],
+    area: &mut [u8],
+) -> Result<usize, u8>
     ensures { WritesBack length StandsIn (lent table.now levels.now values.now area.old) area.new result }
 {
     let n = table.len();

@@ -83,5 +83,8 @@ pub extern "C" fn portal_follow(
 pub extern "C" fn portal_write(table: &[u32], levels: &[u8], values: &[i32], area: &mut [u8]) -> u64
     ensures { WrittenBack (lent table.now levels.now values.now area.old) area.new result }
 {
-    write_words(table, levels, values, area) as u64
+    match write_words(table, levels, values, area) {
+        Ok(length) => length as u64,
+        Err(number) => u64::from(number),
+    }
 }

@@ -1,5 +1,6 @@
 -- Where the checks 11 and 10 let a table pass, its tree has as many nodes as there are marks: so 14 is decided, and the job is written. Assumes nothing.
-use mathlib.Core.Path.{◌≡◌, sym}
+use Rattle.std.specs.Prelude.{Ok, Err}
+use mathlib.Core.Path.{◌≡◌, sym, ap}
 use mathlib.Core.Bool.{Bool, true}
 use mathlib.Core.List.{List}
 use Prim.Native.Nat.{ℕ, ◌+◌, ◌*◌, ◌<◌, ◌≤◌}
@@ -42,7 +43,7 @@ module _ (places : ℕ) {stands : Bool} {marks : List ℕ} (x : Lent (List ℕ))
   size_is = omega (arith, all_nodes, many_held x store.0 store.1)
 
   -- there is no room for the job
-  pub short_over : length x.board < variable_size * length x.levels + node_size * nodes + trailer_size → WritesOver places stands x x.board bad_area
+  pub short_over : length x.board < variable_size * length x.levels + node_size * nodes + trailer_size → WritesOver places stands x x.board (Err bad_area)
   unfolding store
   short_over lt = known few (too_short (λ _. places) (StandsAmong places) x surveyed (λ t h. fair h) good few (omega (arith, size_is)))
 
@@ -65,8 +66,8 @@ module _ (places : ℕ) {stands : Bool} {marks : List ℕ} (x : Lent (List ℕ))
           room = room;
         }
 
-    pub long_over : {area' : List ℕ} → WholePut places x area' → WritesOver places stands x area' (end + trailer_size)
+    pub long_over : {area' : List ℕ} → WholePut places x area' → WritesOver places stands x area' (Ok (end + trailer_size))
     unfolding store WholePut
     long_over h =
         known few
-        (long_enough (λ _. places) (StandsAmong places) x surveyed (λ t h. fair h) good few (omega (arith, size_is)) (omega (arith, size_is)) (h store.0 store.1))
+        (long_enough (λ _. places) (StandsAmong places) x surveyed (λ t h. fair h) good few (ap Ok (omega (arith, size_is))) (omega (arith, size_is)) (h store.0 store.1))

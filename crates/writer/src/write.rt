@@ -50,27 +50,32 @@ pub fn write_places(
     levels: &[u8],
     values: &[i32],
     area: &mut [u8],
-) -> usize
+) -> Result<usize, u8>
     requires { (places ≤ max_nodes → Surveyed words.now places stands marks.now) × (max_nodes ≤ length marks.now) }
     ensures { WritesOver places stands (lent words.now levels.now values.now area.old) area.new result }
 {
     if !storable(stands, levels, values.len()) {
-        return BAD_FOLLOW_ON as usize;
+        return Err(BAD_FOLLOW_ON);
     }
     if places > MAX_NODES {
-        return BAD_BUFFERS as usize;
+        return Err(BAD_BUFFERS);
     }
     let nodes = count(marks, places);
     let end = VARIABLE_SIZE * levels.len() + NODE_SIZE * nodes;
     if area.len() < end + TRAILER_SIZE {
-        return BAD_AREA as usize;
+        return Err(BAD_AREA);
     }
     put_job(words, places, nodes, levels, values, end, area);
-    end + TRAILER_SIZE
+    Ok(end + TRAILER_SIZE)
 }
 
 // The same with a table of words alone.
-pub fn write_words(words: &[u32], levels: &[u8], values: &[i32], area: &mut [u8]) -> usize
+pub fn write_words(
+    words: &[u32],
+    levels: &[u8],
+    values: &[i32],
+    area: &mut [u8],
+) -> Result<usize, u8>
     ensures { WritesBack places_in StandsIn (lent words.now levels.now values.now area.old) area.new result }
 {
     let places = words.len() / table::CELL;
