@@ -1,12 +1,9 @@
 -- The bound on boards, of calls: their lines are those of the rules' outcomes, spelled out. Assumes nothing.
 use mathlib.Core.Path.{◌≡◌, sym, ◌∙◌, ap}
-use mathlib.Core.List.{List, [], ◌∷◌}
-use Prim.Native.Nat.{ℕ, ◌/◌, ◌≤◌}
+use Prim.Native.Nat.{◌/◌}
 use native.Mathlib.Omega.{arith}
 use lib.ListN.{length}
 use Rattle.rules.specs.Level.{Level}
-use Rattle.rules.specs.Outcome.{board_lines}
-use Rattle.rules.specs.Public.{Comparable}
 use Rattle.rules.specs.Board.{Bounded, Family, outcome, board}
 use Rattle.rules.proofs.Boards.{comparable_equal, all_begin, few_boards, chained}
 use Rattle.actions.specs.Board.{spell}

@@ -16,7 +16,7 @@ fn packed(ending: u8, lines: usize) -> u64
     requires { lines ≤ max_budget }
     ensures { result ≡ ending * 4294967296 + lines }
 {
-    (ending as u64) * 4294967296 + (lines as u64)
+    u64::from(ending) * 4294967296 + lines as u64
 }
 
 // An outcome as one number. A run has no more lines than steps, so the lower half holds their count.
@@ -25,14 +25,9 @@ fn number(o: Outcome) -> u64
     ensures { result ≡ number_of (answer_of o) }
 {
     match o {
-        Outcome::Refused { number, index } => packed(number, 0),
-        Outcome::Finished { steps, lines } => packed(0, lines),
-        Outcome::Stopped {
-            number,
-            index,
-            steps,
-            lines,
-        } => packed(number, lines),
+        Outcome::Refused { number, .. } => packed(number, 0),
+        Outcome::Finished { lines, .. } => packed(0, lines),
+        Outcome::Stopped { number, lines, .. } => packed(number, lines),
     }
 }
 

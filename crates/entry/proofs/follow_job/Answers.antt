@@ -11,17 +11,17 @@ held-stands-requires c = unmarked
 
 pub follow_places-outcome-requires : goal.follow_places-outcome-requires
 follow_places-outcome-requires c =
-    run_asks c.args.table.now c.few-copied.result c.few-copied.ensures (replicate word_count 0) c.load.new.words (length-replicate {A = ℕ} word_count 0) c.load.ensures
+    run_asks c.args.table.now c.min.result c.min.ensures (replicate word_count 0) c.load.new.words (length-replicate {A = ℕ} word_count 0) c.load.ensures
     c.held-stands.ensures (c.held-stands.auto.marks ∙ length-replicate {A = ℕ} max_nodes 0)
 
 pub store-requires : goal.store-requires
 store-requires c =
-    store_asks c.args.table.now c.few-copied.result c.few-copied.ensures (replicate word_count 0) c.load.new.words (length-replicate {A = ℕ} word_count 0) c.load.ensures
+    store_asks c.args.table.now c.min.result c.min.ensures (replicate word_count 0) c.load.new.words (length-replicate {A = ℕ} word_count 0) c.load.ensures
     c.held-stands.ensures c.args.section.now c.args.budget c.args.levels.now _ _ _ _ _ c.follow_places-outcome.result c.kept-filled.result c.kept-filled.ensures
     c.follow_places-outcome.ensures (c.follow_places-outcome.auto.words ∙ (c.load.auto.words ∙ length-replicate {A = ℕ} word_count 0))
 
 pub returns : goal.returns
 returns c =
-    followed c.args.table.now c.few-copied.result c.few-copied.ensures (replicate word_count 0) c.load.new.words (length-replicate {A = ℕ} word_count 0) c.load.ensures
+    followed c.args.table.now c.min.result c.min.ensures (replicate word_count 0) c.load.new.words (length-replicate {A = ℕ} word_count 0) c.load.ensures
     c.held-stands.ensures c.args.section.now c.args.budget c.args.levels.now _ _ _ _ _ c.follow_places-outcome.result c.kept-filled.result c.kept-filled.ensures
     c.follow_places-outcome.ensures c.store.new.table c.store.ensures

@@ -1,6 +1,6 @@
 -- `kept` meets its contract: in each arm the definition computes. Assumes nothing.
+use Rattle.std.proofs.Common.{ap, sym, inl, inr, rules}
 use Rattle.entry.specs.Promises.{kept_of}
-use borrow.Author.Rules.{rules}
 use Rattle.entry.proofs.kept.Goals as goal
 
 pub returns-in-Refused : goal.returns-in-Refused
@@ -9,8 +9,8 @@ returns-in-Refused c = search rules
 
 pub returns-in-Finished : goal.returns-in-Finished
 unfolding kept_of
-returns-in-Finished c = search rules
-
-pub returns-in-Stopped : goal.returns-in-Stopped
-unfolding kept_of
-returns-in-Stopped c = search rules
+returns-in-Finished c =
+    elim c.in-Finished.is [
+      | inl w ↦ sym (ap (λ o. kept_of o c.args.n) w.2)
+      | inr w ↦ sym (ap (λ o. kept_of o c.args.n) w.4)
+    ]

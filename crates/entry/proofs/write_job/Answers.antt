@@ -12,10 +12,10 @@ held-stands-requires c = unmarked
 
 pub write_places-requires : goal.write_places-requires
 write_places-requires c =
-    run_asks c.args.table.now c.few-copied.result c.few-copied.ensures (replicate word_count 0) c.load.new.words (length-replicate {A = ℕ} word_count 0) c.load.ensures
+    run_asks c.args.table.now c.min.result c.min.ensures (replicate word_count 0) c.load.new.words (length-replicate {A = ℕ} word_count 0) c.load.ensures
     c.held-stands.ensures (c.held-stands.auto.marks ∙ length-replicate {A = ℕ} max_nodes 0)
 
 pub returns : goal.returns
 returns c =
-    written_back c.args.table.now c.few-copied.result c.few-copied.ensures (replicate word_count 0) c.load.new.words (length-replicate {A = ℕ} word_count 0) c.load.ensures
+    written_back c.args.table.now c.min.result c.min.ensures (replicate word_count 0) c.load.new.words (length-replicate {A = ℕ} word_count 0) c.load.ensures
     c.held-stands.ensures c.args.levels.now _ c.args.area.now c.write_places.ensures

@@ -19,12 +19,12 @@ returns c =
     elim c.if-follows.branch [
       | then-follows w ↦
           rw (w.levels-is, w.values-is, w.lines-is, w.outcome-is)
-          (owned_of c.args.places c.lending-n.result c.lending-n.ensures c.args.follows (lent _ _ _ _) c.store.new.table c.if-follows.own
+          (owned_of c.args.places c.min-n.result c.min-n.ensures c.args.follows (lent _ _ _ _) c.store.new.table c.if-follows.own
           w.follow_job-outcome.new.table (at_first (goal.at.returns c).After-store) w.own-is w.follow_job-outcome.auto.table c.args.bytes.now c.args.budget (lent _ _ _ _) _
           (as_follow c.args.follows (subst T (sym w.if-follows.true) tt) w.follow_job-outcome.ensures) c.load.ensures.words)
       | else-follows w ↦
           rw (w.levels-is, w.values-is, w.lines-is, w.outcome-is)
-          (owned_of c.args.places c.lending-n.result c.lending-n.ensures c.args.follows (lent _ _ _ _) c.store.new.table c.if-follows.own
+          (owned_of c.args.places c.min-n.result c.min-n.ensures c.args.follows (lent _ _ _ _) c.store.new.table c.if-follows.own
           w.run_job-outcome.new.table (at_first (goal.at.returns c).After-store) w.own-is w.run_job-outcome.auto.table c.args.bytes.now c.args.budget (lent _ _ _ _) _
           (as_run c.args.follows (subst (λ y. T (not y)) (sym w.if-follows.false) tt) w.run_job-outcome.ensures) c.load.ensures.words)
     ]

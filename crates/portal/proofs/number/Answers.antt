@@ -1,7 +1,6 @@
 -- Each outcome has its ending and its line count, as the paper's answer has them. Assumes nothing.
 use mathlib.Core.Path.{sym, ◌∙◌, ap, subst}
 use Prim.Native.Nat.{◌≤◌}
-use borrow.Author.Rules.{rules}
 use Rattle.rules.specs.Limits.{max_budget}
 use Rattle.monitor.specs.declared.entry.Outcome.{Outcome}
 use Rattle.monitor.specs.Promises.{answer_of}

@@ -1,6 +1,5 @@
 -- What the run with buffers of its own promises is what the portal hands back. Assumes nothing.
 use Rattle.portal.proofs.Handed.{few, hands}
-use borrow.Author.Rules.{rules}
 use Rattle.portal.proofs.portal_run.Goals as goal
 
 pub number-requires : goal.number-requires

@@ -1,7 +1,6 @@
 -- The outcome keeps the promise of `run_words`, and its number is handed back. Assumes nothing.
 use Rattle.monitor.specs.Promises.{lent}
 use Rattle.portal.proofs.Handed.{few_started}
-use borrow.Author.Rules.{rules}
 use Rattle.portal.proofs.portal_start.Goals as goal
 
 pub number-requires : goal.number-requires

@@ -6,4 +6,4 @@ pub returns-in-Ok : goal.returns-in-Ok
 returns-in-Ok c = record { answer = _; promise = c.in-Ok.ensures; number = refl }
 
 pub returns-in-Err : goal.returns-in-Err
-returns-in-Err c = record { answer = _; promise = c.in-Err.ensures; number = refl }
+returns-in-Err c = record { answer = _; promise = c.in-Err.ensures; number = c.from.ensures }
