@@ -1,4 +1,5 @@
 -- The checks 11 of the section, 7, 8, 9 and 10, one link after another. Assumes nothing.
+use Rattle.std.specs.Prelude.{Result, Ok, Err}
 use mathlib.Core.Path.{◌≡◌, refl, sym, ◌∙◌, ap, subst}
 use mathlib.Core.Bool.{Bool, true, false}
 use mathlib.Core.List.{List}
@@ -12,25 +13,28 @@ use Rattle.rules.specs.Check.{accepted, refused, require, code}
 use Rattle.rules.specs.Run.{Buffers}
 use Rattle.rules.specs.Outcome.{budget_rule}
 use Rattle.rules.specs.History.{Store, FollowOn, section_count, store_rule, check_follow_on}
-use Rattle.job.specs.declared.checks.Script.TheVariants.{Sound, Faulty}
+use Rattle.job.specs.declared.checks.Refusal.{Refusal}
 use Rattle.job.specs.Answer as Answer
 use Rattle.job.specs.Plan.{Whole}
 use Rattle.job.specs.FollowOn.{check_section}
 use Rattle.job.proofs.FollowOns.{follow_refused, follow_on_law}
 use Rattle.monitor.specs.Follow.{Admits}
 
+abbrev faulty : ℕ → ℕ → Result (Unit {0}) Refusal
+faulty k i = Err (record { number = k; index = i })
+
 module _ (b : List ℕ) (budget places vs : ℕ) (p p' : List ℕ) where
   abbrev given_by : Buffers → FollowOn
   given_by lent = record { section = b; budget = budget; lent = lent }
 
   -- a fault has no plan to speak of
-  no_plan : (k i : ℕ) → Faulty k i ≡ Sound → Whole (code b 0) (section_count b) p p'
+  no_plan : (k i : ℕ) → faulty k i ≡ Ok tt → Whole (code b 0) (section_count b) p p'
   no_plan k i e = let z : ◌≡◌ {A = ℕ} 0 1 = cc in absurd (omega arith)
 
-  no_few : (k i : ℕ) → Faulty k i ≡ Sound → places ≤ max_nodes
+  no_few : (k i : ℕ) → faulty k i ≡ Ok tt → places ≤ max_nodes
   no_few k i e = let z : ◌≡◌ {A = ℕ} 0 1 = cc in absurd (omega arith)
 
-  pub by_section : (k i : ℕ) → check_section b vs ≡ refused k i → Admits b budget places vs p p' (Faulty k i)
+  pub by_section : (k i : ℕ) → check_section b vs ≡ refused k i → Admits b budget places vs p p' (faulty k i)
   unfolding Answer.told
   by_section k i c =
       record {
@@ -48,7 +52,7 @@ module _ (b : List ℕ) (budget places vs : ℕ) (p p' : List ℕ) where
         ∙ ap (λ z. require bad_budget z (require bad_buffers (leb lent.places max_nodes) accepted)) x
         ∙ ap (λ z. require bad_budget t (require bad_buffers z accepted)) (ap (λ n. leb n max_nodes) q ∙ y)
 
-    pub by_budget : budget_rule budget ≡ false → Admits b budget places vs p p' (Faulty bad_budget 0)
+    pub by_budget : budget_rule budget ≡ false → Admits b budget places vs p p' (faulty bad_budget 0)
     unfolding Answer.told require
     by_budget x =
         record {
@@ -57,7 +61,7 @@ module _ (b : List ℕ) (budget places vs : ℕ) (p p' : List ℕ) where
           few = no_few bad_budget 0;
         }
 
-    pub by_places : budget_rule budget ≡ true → max_nodes < places → Admits b budget places vs p p' (Faulty bad_buffers 0)
+    pub by_places : budget_rule budget ≡ true → max_nodes < places → Admits b budget places vs p p' (faulty bad_buffers 0)
     unfolding Answer.told require
     by_places x y =
         record {
@@ -66,7 +70,7 @@ module _ (b : List ℕ) (budget places vs : ℕ) (p p' : List ℕ) where
           few = no_few bad_buffers 0;
         }
 
-    pub all_passed : budget_rule budget ≡ true → places ≤ max_nodes → Whole (code b 0) (section_count b) p p' → Admits b budget places vs p p' Sound
+    pub all_passed : budget_rule budget ≡ true → places ≤ max_nodes → Whole (code b 0) (section_count b) p p' → Admits b budget places vs p p' (Ok tt)
     unfolding Answer.told require
     all_passed x y w =
         record {

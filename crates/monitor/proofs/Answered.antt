@@ -1,4 +1,5 @@
 -- The run over a job's bytes, by how far the checks let it come: turned back by 1 to 8, by 9, by 10, or run. Assumes nothing.
+use Rattle.std.specs.Prelude.{Result, Ok, Err}
 use mathlib.Core.Path.{◌≡◌, refl, sym, ◌∙◌, ap, subst}
 use mathlib.Core.Bool.{Bool, true, false}
 use mathlib.Core.List.{List}
@@ -22,8 +23,7 @@ use Rattle.rules.proofs.Noninterference as Rejected
 use Rattle.rules.proofs.Noninterference.{accepted_rest, bytes_accepted, runs}
 use Rattle.rules.proofs.Accepted.{right}
 use Rattle.fields.specs.declared.sections.Layout.{Layout}
-use Rattle.job.specs.declared.checks.Checked.{Checked}
-use Rattle.job.specs.declared.checks.Checked.TheVariants.{Accepted, Refused}
+use Rattle.job.specs.declared.checks.Refusal.{Refusal}
 use Rattle.fields.specs.Layout.{layout_of}
 use Rattle.job.specs.Plan.{Whole}
 use Rattle.job.specs.Answer.{answer}
@@ -47,13 +47,16 @@ unfolding answer_of Rules.answer told
 answers (Rules.rejected k i) = refl
 answers (Rules.ran e) = answered_by e.ending e refl
 
+abbrev refusal : ℕ → ℕ → Refusal
+refusal k i = record { number = k; index = i }
+
 -- the checks 1 to 10, one link after another; a script that 7 and 8 accept has its plan
 module _ (b : List ℕ) (budget places room : ℕ) (p p' : List ℕ) (plan : check_bytes b ≡ Check.accepted → Whole (code b (script_at b)) (record_count b) p p') where
   -- the checks 9 and 10
   abbrev limits : Buffers → Check.Checked
   limits given = require bad_budget (budget_rule budget) (require bad_buffers (buffer_rule b given) Check.accepted)
 
-  pub by_bytes : (k i : ℕ) → check_bytes b ≡ Check.refused k i → AdmitsJob b budget places room p p' (Refused k i)
+  pub by_bytes : (k i : ℕ) → check_bytes b ≡ Check.refused k i → AdmitsJob b budget places room p p' (Err (refusal k i))
   unfolding check_job check_job_by and_then answer
   by_bytes k i e =
       record { answered = λ given gp gv. sym (ap (λ (c : Check.Checked). answer (layout_of b) (and_then c (limits given))) e); whole = plan }
@@ -73,15 +76,15 @@ module _ (b : List ℕ) (budget places room : ℕ) (p p' : List ℕ) (plan : che
         → AdmitsJob b budget places room p p' (answer l (require bad_budget t (require bad_buffers u Check.accepted)))
     admits t u x y = record { answered = λ given gp gv. rw layout (sym (ap (answer (layout_of b)) (rest t u x y given gp gv))); whole = plan }
 
-    pub by_budget : budget_rule budget ≡ false → AdmitsJob b budget places room p p' (Refused bad_budget 0)
+    pub by_budget : budget_rule budget ≡ false → AdmitsJob b budget places room p p' (Err (refusal bad_budget 0))
     unfolding require answer
     by_budget x = admits false _ x refl
 
-    pub by_buffers : budget_rule budget ≡ true → fits false → AdmitsJob b budget places room p p' (Refused bad_buffers 0)
+    pub by_buffers : budget_rule budget ≡ true → fits false → AdmitsJob b budget places room p p' (Err (refusal bad_buffers 0))
     unfolding require answer
     by_buffers x y = admits true false x y
 
-    pub all_passed : budget_rule budget ≡ true → fits true → AdmitsJob b budget places room p p' (Accepted l)
+    pub all_passed : budget_rule budget ≡ true → fits true → AdmitsJob b budget places room p p' (Ok l)
     unfolding require answer
     all_passed x y = admits true true x y
 
@@ -105,20 +108,20 @@ module _ (b : List ℕ) (budget places room : ℕ) (p p' : List ℕ) (x : Slices
   abbrev given : Buffers
   given = lent_by (λ _. places) (as_lent x)
 
-  checked : (r : Checked) → AdmitsJob b budget places room p p' r → answer (layout_of b) (check_job b budget given) ≡ r
+  checked : (r : Result Layout Refusal) → AdmitsJob b budget places room p p' r → answer (layout_of b) (check_job b budget given) ≡ r
   unfolding lent_by
   checked r a = sym (a.answered given refl (sym least))
 
-  pub turned_back_law : (k i : ℕ) → AdmitsJob b budget places room p p' (Refused k i)
-      → Promises (λ _. places) Tree b budget (as_lent x) (as_lent x) (Monitor.Refused k i)
+  pub turned_back_law : (f : Refusal) → AdmitsJob b budget places room p p' (Err f)
+      → Promises (λ _. places) Tree b budget (as_lent x) (as_lent x) (Monitor.Refused f.number f.index)
   unfolding Rules.answer answer_of told
-  turned_back_law k i a =
-      let o = Rejected.turned_back_law b budget given (is_refused _ k i _ (checked (Refused k i) a)) in
+  turned_back_law f a =
+      let o = Rejected.turned_back_law b budget given (is_refused _ f _ (checked (Err f) a)) in
       record { outcome = sym (ap told o); answered = sym (ap Rules.answer o); leaves = subst (Leaves (λ _. places) Tree (variable_count b) (as_lent x) (as_lent x)) (sym o) refl }
 
-  module _ (l : Layout) (a : AdmitsJob b budget places room p p' (Accepted l)) where
+  module _ (l : Layout) (a : AdmitsJob b budget places room p p' (Ok l)) where
     accepts : (check_job b budget given ≡ Check.accepted) × (l ≡ layout_of b)
-    accepts = is_accepted _ l _ (checked (Accepted l) a)
+    accepts = is_accepted _ l _ (checked (Ok l) a)
 
     bytes : check_bytes b ≡ Check.accepted
     bytes = bytes_accepted b budget given accepts.0
@@ -173,15 +176,15 @@ area_after places n x x' (Rules.ran e) h = h.board
 
 -- with the largest buffers a caller sees the area alone
 module _ (b : List ℕ) (budget : ℕ) (p p' : List ℕ) where
-  pub lines_back : (area : List ℕ) (k i : ℕ) → AdmitsJob b budget max_nodes max_variables p p' (Refused k i)
-      → PromisesLines b budget area area (Monitor.Refused k i)
+  pub lines_back : (area : List ℕ) (f : Refusal) → AdmitsJob b budget max_nodes max_variables p p' (Err f)
+      → PromisesLines b budget area area (Monitor.Refused f.number f.index)
   unfolding largest told board_lines written spell
-  lines_back area k i a =
-      let o = Rejected.turned_back_law b budget (largest area) (is_refused _ k i _ (sym (a.answered (largest area) refl refl))) in
+  lines_back area f a =
+      let o = Rejected.turned_back_law b budget (largest area) (is_refused _ f _ (sym (a.answered (largest area) refl refl))) in
       record { outcome = sym (ap told o); lines = sym (ap (λ (w : Rules.Outcome). written (board_lines w) area) o) }
 
   module _ (x : Slices) (words : length x.words ≡ cell_size * max_nodes) (levels : length x.levels ≡ max_variables) (values : length x.values ≡ max_variables)
-      (l : Layout) (a : AdmitsJob b budget max_nodes max_variables p p' (Accepted l)) where
+      (l : Layout) (a : AdmitsJob b budget max_nodes max_variables p p' (Ok l)) where
     least : max_variables ≡ min (length x.levels) (length x.values)
     least = omega (arith, levels, values)
 

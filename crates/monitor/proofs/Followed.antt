@@ -1,5 +1,6 @@
 -- A follow-on script, by how far the checks let it come: what is lent holds no store; it holds one that no accepted job could hold; 7 to 10 turn the
 -- script away; or it is run. Assumes nothing.
+use Rattle.std.specs.Prelude.{Result, Ok, Err}
 use mathlib.Core.Path.{◌≡◌, refl, sym, ◌∙◌, ap, subst}
 use mathlib.Core.Bool.{Bool, true, false, ◌&&◌}
 use mathlib.Core.List.{List, [], ◌∷◌}
@@ -19,8 +20,7 @@ use Rattle.rules.proofs.Tests.{Test, holds, fails, test, both, clash}
 use Rattle.rules.proofs.Decode.{listed_length, listed_from_zero}
 use Rattle.rules.proofs.Loaded.{all_levels_law}
 use Rattle.rules.proofs.Stores.{Holdable, holdable, holdable_rule, turned_away}
-use Rattle.job.specs.declared.checks.Script.{Script}
-use Rattle.job.specs.declared.checks.Script.TheVariants.{Sound, Faulty}
+use Rattle.job.specs.declared.checks.Refusal.{Refusal}
 use Rattle.job.specs.Answer as Answer
 use Rattle.job.proofs.Answers.{is_sound, is_faulty}
 use Rattle.actions.specs.Board.{capacity}
@@ -173,17 +173,17 @@ module _ {T : Type 0} (places : T → ℕ) (HoldsTree : T → ℕ → Forest →
       abbrev here : (s : Store) × HoldsStore StandsIn x s
       here = held_store x d fair good
 
-      checked : {p p' : List ℕ} {r : Script} → Admits b budget (places x.table) (length x.levels) p p' r → r ≡ Answer.told (check_follow_on here.0 f)
+      checked : {p p' : List ℕ} {r : Result (Unit {0}) Refusal} → Admits b budget (places x.table) (length x.levels) p p' r → r ≡ Answer.told (check_follow_on here.0 f)
       unfolding lent_by
       checked a = a.answered here.0 (lent_by places x) (kept_rule x d fair good) (many_held x here.0 here.1) refl
 
-      faulty : {p p' : List ℕ} (k i : ℕ) → Admits b budget (places x.table) (length x.levels) p p' (Faulty k i)
+      faulty : {p p' : List ℕ} (k i : ℕ) → Admits b budget (places x.table) (length x.levels) p p' (Err (record { number = k; index = i }))
           → Follows places HoldsTree StandsIn b budget x x (Refused k i)
-      faulty k i a = away here.0 here.1 k i (is_faulty k i _ (sym (checked a)))
+      faulty k i a = away here.0 here.1 k i (is_faulty (record { number = k; index = i }) _ (sym (checked a)))
 
-      pub sound : {p p' : List ℕ} → Admits b budget (places x.table) (length x.levels) p p' Sound
+      pub sound : {p p' : List ℕ} → Admits b budget (places x.table) (length x.levels) p p' (Ok tt)
           → (s : Store) × (HoldsStore StandsIn x s × (check_follow_on s f ≡ accepted))
-      sound a = (here.0, (here.1, is_sound _ (sym (checked a))))
+      sound a = (here.0, (here.1, is_sound _ _ (sym (checked a))))
 
     pub declined : ((t : Forest) → StandsIn x.table t → Fair t) → (r : Outcome)
         → Declined b budget (places x.table) stands x.levels (length x.values) r → Follows places HoldsTree StandsIn b budget x x r

@@ -21,7 +21,7 @@ use Rattle.rules.proofs.Accepted.{section_blocks}
 use Rattle.rules.proofs.Control.{Valid}
 use Rattle.rules.proofs.Starts.{start_valid}
 use Rattle.rules.proofs.Stores.{Holdable, holdable_kept, Taken, taken, followed, all_holdable}
-use Rattle.job.specs.declared.checks.Script.TheVariants.{Sound}
+use Rattle.std.specs.Prelude.{Ok}
 use Rattle.job.specs.Plan.{Whole}
 use Rattle.job.proofs.Answers.{section_plan}
 use Rattle.job.proofs.FollowOns.{section_few}
@@ -170,7 +170,7 @@ pub record Reached (b : List ℕ) (budget places : ℕ) (x : Slices) : Type 0 wh
   pub ok : check_follow_on s (follow_on (λ _. places) b budget (as_lent x)) ≡ accepted
 
 pub reached : {p p' marks : List ℕ} (b : List ℕ) (budget places : ℕ) (x : Slices) (stands : Bool) → Surveyed x.words places stands marks
-    → Storable stands x.levels (length x.values) true → Admits b budget places (length x.levels) p p' Sound → Reached b budget places x
+    → Storable stands x.levels (length x.values) true → Admits b budget places (length x.levels) p p' (Ok tt) → Reached b budget places x
 reached b budget places x stands known good ad =
     let k = sound (λ _. places) Tree (StandsAmong places) b budget (as_lent x) (decides known.decided) (λ t h. fair h) good ad in
     record { s = k.0; held = k.1.0; ok = k.1.1 }

@@ -1,5 +1,5 @@
 -- What a follow-on script promises, over a tree and variables that a caller lends, for every content of them. Assumes nothing.
-use Rattle.std.specs.Prelude.{◌≡◌, Bool, true, false, List, ℕ, ◌*◌, ◌<◌, ◌≤◌, min, length, get_or}
+use Rattle.std.specs.Prelude.{◌≡◌, Bool, true, false, List, ℕ, ◌*◌, ◌<◌, ◌≤◌, min, length, get_or, Result, Ok, Err}
 use Rattle.rules.specs.Limits.{max_variables, max_nodes, bad_follow_on}
 use Rattle.rules.specs.Level.{is_level}
 use Rattle.rules.specs.Tree.{Forest, Place}
@@ -9,8 +9,7 @@ use Rattle.rules.specs.Run.{Buffers}
 use Rattle.rules.specs.Outcome as Rules
 use Rattle.rules.specs.Outcome.{answer}
 use Rattle.rules.specs.History.{Store, FollowOn, section_count, store_rule, check_follow_on, follow, after}
-use Rattle.job.specs.declared.checks.Script.{Script}
-use Rattle.job.specs.declared.checks.Script.TheVariants.{Sound, Faulty}
+use Rattle.job.specs.declared.checks.Refusal.{Refusal}
 use Rattle.job.specs.Answer as Answer
 use Rattle.job.specs.Plan.{Whole}
 use Rattle.table.specs.Cells.{cell_size, cells, gone}
@@ -70,11 +69,11 @@ pub data Storable (stands : Bool) (levels : List ℕ) (values : ℕ) : Bool → 
       → ((i : ℕ) → i < length levels → is_level (get_or levels i 0) ≡ true) → Storable stands levels values true
 
 -- the checks of a script among vs variables that are such, and its plan
-pub record Admits (b : List ℕ) (budget places vs : ℕ) (p p' : List ℕ) (r : Script) : Type 0 where
+pub record Admits (b : List ℕ) (budget places vs : ℕ) (p p' : List ℕ) (r : Result (Unit {0}) Refusal) : Type 0 where
   pub answered : (s : Store) (given : Buffers) → store_rule s ≡ true → length s.variables ≡ vs → given.places ≡ places
       → r ≡ Answer.told (check_follow_on s (record { section = b; budget = budget; lent = given }))
-  pub whole : r ≡ Sound → Whole (code b 0) (section_count b) p p'
-  pub few : r ≡ Sound → places ≤ max_nodes
+  pub whole : r ≡ Ok tt → Whole (code b 0) (section_count b) p p'
+  pub few : r ≡ Ok tt → places ≤ max_nodes
 
 -- a table of places with words for them: whether a tree stands in it, and if so, at the places with a mark
 pub record Surveyed (words : List ℕ) (places : ℕ) (stands : Bool) (marks : List ℕ) : Type 0 where
@@ -85,7 +84,7 @@ pub record Surveyed (words : List ℕ) (places : ℕ) (stands : Bool) (marks : L
 -- a script that is turned away with a number and an index, whatever the table, of so many places, in which a tree stands or not
 pub data Declined (b : List ℕ) (budget places : ℕ) (stands : Bool) (levels : List ℕ) (values : ℕ) (r : Outcome) : Type 0 where
   by_store : Storable stands levels values false → r ≡ Refused bad_follow_on 0 → Declined b budget places stands levels values r
-  by_script : {p p' : List ℕ} (k i : ℕ) → Storable stands levels values true → Admits b budget places (length levels) p p' (Faulty k i) → r ≡ Refused k i
+  by_script : {p p' : List ℕ} (k i : ℕ) → Storable stands levels values true → Admits b budget places (length levels) p p' (Err (record { number = k; index = i })) → r ≡ Refused k i
       → Declined b budget places stands levels values r
 
 -- a script over a table of at most 512 places; one over more is turned away, and nothing has changed

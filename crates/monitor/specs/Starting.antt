@@ -1,5 +1,5 @@
 -- What the functions under the run over a job's bytes promise: loading the variables, the checks 9 and 10, an accepted job's run. Assumes nothing.
-use Rattle.std.specs.Prelude.{◌≡◌, Bool, cond, ◌&&◌, ℕ, ◌-◌, ◌*◌, ◌<◌, ◌≤◌, List, length, get_or, ℤ, pos, eqb, leb}
+use Rattle.std.specs.Prelude.{◌≡◌, Bool, cond, ◌&&◌, ℕ, ◌-◌, ◌*◌, ◌<◌, ◌≤◌, List, length, get_or, ℤ, pos, eqb, leb, Result}
 use Rattle.rules.specs.Limits.{max_nodes, max_budget, variable_size}
 use Rattle.rules.specs.Bytes.{variable_place, variable_count, node_count, script_at, record_count}
 use Rattle.rules.specs.Check as Check
@@ -10,7 +10,7 @@ use Rattle.rules.specs.Run.{Buffers, run}
 use Rattle.rules.specs.Outcome as Rules
 use Rattle.rules.specs.Outcome.{check_job, begin}
 use Rattle.fields.specs.declared.sections.Layout.{Layout}
-use Rattle.job.specs.declared.checks.Checked.{Checked}
+use Rattle.job.specs.declared.checks.Refusal.{Refusal}
 use Rattle.fields.specs.Layout.{layout_of}
 use Rattle.job.specs.Plan.{Whole}
 use Rattle.job.specs.Answer.{answer}
@@ -71,7 +71,7 @@ unfoldable pub buffer_test : ℕ → ℕ → ℕ → ℕ → Bool
 buffer_test nodes variables places room = leb 1 places && leb places max_nodes && leb nodes places && leb variables room
 
 -- the checks 1 to 10, with so many places and room for so many variables, and the plan of a script
-pub record AdmitsJob (b : List ℕ) (budget places room : ℕ) (p p' : List ℕ) (r : Checked) : Type 0 where
+pub record AdmitsJob (b : List ℕ) (budget places room : ℕ) (p p' : List ℕ) (r : Result Layout Refusal) : Type 0 where
   pub answered : (given : Buffers) → given.places ≡ places → given.variables ≡ room → r ≡ answer (layout_of b) (check_job b budget given)
   pub whole : check_bytes b ≡ Check.accepted → Whole (code b (script_at b)) (record_count b) p p'
 

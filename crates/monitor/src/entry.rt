@@ -11,7 +11,7 @@ use super::start::from_root;
 use fields::sections::Layout;
 use interpreter::Frame;
 use job::plan::WORDS;
-use job::{Checked, prepare};
+use job::{Refusal, prepare};
 use rules::limits::{BAD_BUDGET, BAD_BUFFERS, MAX_BUDGET, MAX_NODES, MAX_VARIABLES};
 use table::records;
 
@@ -99,28 +99,23 @@ pub fn admit(
     places: usize,
     room: usize,
     plan: &mut [u32; WORDS],
-) -> Checked
+) -> Result<Layout, Refusal>
     ensures { AdmitsJob job.now budget places room plan.old plan.new result }
 {
-    let checked = prepare(job, plan);
-    match checked {
-        Checked::Refused { number, index } => Checked::Refused { number, index },
-        Checked::Accepted(l) => {
-            if !budget_ok(budget) {
-                return Checked::Refused {
-                    number: BAD_BUDGET,
-                    index: 0,
-                };
-            }
-            if !buffers_ok(l.nodes, l.variables, places, room) {
-                return Checked::Refused {
-                    number: BAD_BUFFERS,
-                    index: 0,
-                };
-            }
-            Checked::Accepted(l)
-        }
+    let l = prepare(job, plan)?;
+    if !budget_ok(budget) {
+        return Err(Refusal {
+            number: BAD_BUDGET,
+            index: 0,
+        });
     }
+    if !buffers_ok(l.nodes, l.variables, places, room) {
+        return Err(Refusal {
+            number: BAD_BUFFERS,
+            index: 0,
+        });
+    }
+    Ok(l)
 }
 
 // An accepted job, with buffers that are large enough: loaded, and run from the root.
@@ -174,10 +169,9 @@ pub fn run_places(
     let room = levels.len().min(values.len());
     let held = asked(places, words.len());
     let mut plan = [0u32; WORDS];
-    let checked = admit(job, budget, held, room, &mut plan);
-    match checked {
-        Checked::Refused { number, index } => Outcome::Refused { number, index },
-        Checked::Accepted(l) => run_accepted(
+    match admit(job, budget, held, room, &mut plan) {
+        Err(Refusal { number, index }) => Outcome::Refused { number, index },
+        Ok(l) => run_accepted(
             job,
             l,
             &plan,
@@ -215,10 +209,9 @@ pub fn run_lines(job: &[u8], budget: u64, lines: &mut [u8]) -> Outcome
     ensures { PromisesLines job.now budget lines.old lines.new result }
 {
     let mut plan = [0u32; WORDS];
-    let checked = admit(job, budget, MAX_NODES, MAX_VARIABLES, &mut plan);
-    match checked {
-        Checked::Refused { number, index } => Outcome::Refused { number, index },
-        Checked::Accepted(l) => {
+    match admit(job, budget, MAX_NODES, MAX_VARIABLES, &mut plan) {
+        Err(Refusal { number, index }) => Outcome::Refused { number, index },
+        Ok(l) => {
             let mut words = [0u32; table::WORDS];
             let mut levels = [0u8; MAX_VARIABLES];
             let mut values = [0i32; MAX_VARIABLES];

@@ -10,7 +10,7 @@ use super::entry::{Outcome, budget_ok};
 use super::start::from_root;
 use interpreter::Frame;
 use job::plan::WORDS;
-use job::{Script, prepare_section};
+use job::{Refusal, prepare_section};
 use lent::standing;
 use rules::levels::is_level;
 use rules::limits::{
@@ -34,28 +34,23 @@ fn admit(
     places: usize,
     variables: usize,
     plan: &mut [u32; WORDS],
-) -> Script
+) -> Result<(), Refusal>
     ensures { Admits section.now budget places variables plan.old plan.new result }
 {
-    let script = prepare_section(section, variables, plan);
-    match script {
-        Script::Faulty { number, index } => Script::Faulty { number, index },
-        Script::Sound => {
-            if !budget_ok(budget) {
-                return Script::Faulty {
-                    number: BAD_BUDGET,
-                    index: 0,
-                };
-            }
-            if places > MAX_NODES {
-                return Script::Faulty {
-                    number: BAD_BUFFERS,
-                    index: 0,
-                };
-            }
-            Script::Sound
-        }
+    prepare_section(section, variables, plan)?;
+    if !budget_ok(budget) {
+        return Err(Refusal {
+            number: BAD_BUDGET,
+            index: 0,
+        });
     }
+    if places > MAX_NODES {
+        return Err(Refusal {
+            number: BAD_BUFFERS,
+            index: 0,
+        });
+    }
+    Ok(())
 }
 
 // The run over a bare section, with a budget and what the caller lends, which a tree and variables stand in: a node table of some places, ten words
@@ -84,31 +79,30 @@ pub fn follow_places(
         };
     }
     let mut plan = [0u32; WORDS];
-    let script = admit(section, budget, places, levels.len(), &mut plan);
-    match script {
-        Script::Faulty { number, index } => Outcome::Refused { number, index },
-        Script::Sound => {
-            let free = standing::reclaim(words, places, marks);
-            let f = Frame {
-                script: 0,
-                records: section.len() / RECORD_SIZE,
-                vars: levels.len(),
-                places,
-            };
-            from_root(
-                section,
-                &plan,
-                f,
-                budget as usize,
-                places,
-                free,
-                words,
-                levels,
-                values,
-                lines,
-            )
-        }
+    if let Err(Refusal { number, index }) =
+        admit(section, budget, places, levels.len(), &mut plan)
+    {
+        return Outcome::Refused { number, index };
     }
+    let free = standing::reclaim(words, places, marks);
+    let f = Frame {
+        script: 0,
+        records: section.len() / RECORD_SIZE,
+        vars: levels.len(),
+        places,
+    };
+    from_root(
+        section,
+        &plan,
+        f,
+        budget as usize,
+        places,
+        free,
+        words,
+        levels,
+        values,
+        lines,
+    )
 }
 
 // Whether a tree stands in a table of words, and at which places: it has as many as there are tens of words, of which links lead to no more than 65,535.
