@@ -16,7 +16,7 @@ use rules::limits::{BAD_BUDGET, BAD_BUFFERS, MAX_BUDGET, MAX_NODES, MAX_VARIABLE
 use table::records;
 
 // What becomes of a job: turned back with a number and an index; or run, to its end or to a stop with its number and record.
-#[derive(Clone, Copy)]
+#[derive(Clone, Copy, Debug, PartialEq, Eq)]
 pub enum Outcome {
     Refused {
         number: u8,

@@ -79,30 +79,30 @@ pub fn follow_places(
         };
     }
     let mut plan = [0u32; WORDS];
-    if let Err(Refusal { number, index }) =
-        admit(section, budget, places, levels.len(), &mut plan)
-    {
-        return Outcome::Refused { number, index };
+    match admit(section, budget, places, levels.len(), &mut plan) {
+        Err(Refusal { number, index }) => Outcome::Refused { number, index },
+        Ok(()) => {
+            let free = standing::reclaim(words, places, marks);
+            let f = Frame {
+                script: 0,
+                records: section.len() / RECORD_SIZE,
+                vars: levels.len(),
+                places,
+            };
+            from_root(
+                section,
+                &plan,
+                f,
+                budget as usize,
+                places,
+                free,
+                words,
+                levels,
+                values,
+                lines,
+            )
+        }
     }
-    let free = standing::reclaim(words, places, marks);
-    let f = Frame {
-        script: 0,
-        records: section.len() / RECORD_SIZE,
-        vars: levels.len(),
-        places,
-    };
-    from_root(
-        section,
-        &plan,
-        f,
-        budget as usize,
-        places,
-        free,
-        words,
-        levels,
-        values,
-        lines,
-    )
 }
 
 // Whether a tree stands in a table of words, and at which places: it has as many as there are tens of words, of which links lead to no more than 65,535.

@@ -5,7 +5,7 @@ use native.Mathlib.Omega.{arith}
 use Rattle.table.proofs.Behind.{then_behind}
 use Rattle.actions.specs.Shows.{Slices, slices}
 use Rattle.monitor.specs.Promises.{lent}
-use Rattle.monitor.specs.Follow.{Storable, Admits, by_store, by_script}
+use Rattle.monitor.specs.Follow.{Storable, by_store, by_script}
 use Rattle.monitor.proofs.Taken.{turned_from, Reached, reached, ready, rooted, taken_over}
 use Rattle.monitor.proofs.follow.follow_places.Goals as goal
 use Rattle.monitor.proofs.follow.follow_places.Goals.{After-reclaim-free, Start}
@@ -16,35 +16,35 @@ given s = slices s.args.words.now s.args.levels.now s.args.values.now s.args.lin
 pub returns-then-not-storable : goal.returns-then-not-storable
 returns-then-not-storable c = turned_from (lent _ _ _ _) c.requires.0 (by_store (subst (Storable _ _ _) c.if-not-storable.true c.storable.ensures) refl)
 
-pub returns-in-Faulty : goal.returns-in-Faulty
-returns-in-Faulty c = turned_from (lent _ _ _ _) c.requires.0
-    (by_script _ _ (subst (Storable _ _ _) c.if-not-storable.false c.storable.ensures) (subst (Admits _ _ _ _ _ _) c.in-Faulty.is c.admit-script.ensures) refl)
+pub returns-in-Err : goal.returns-in-Err
+returns-in-Err c = turned_from (lent _ _ _ _) c.requires.0
+    (by_script _ _ (subst (Storable _ _ _) c.if-not-storable.false c.storable.ensures) c.in-Err.ensures refl)
 
 pub reclaim-free-requires : goal.reclaim-free-requires
-reclaim-free-requires c = let few = c.admit-script.ensures.few c.in-Sound.is in (((c.requires.0 few).long, few), c.requires.1)
+reclaim-free-requires c = let few = c.in-Ok.ensures.few refl in (((c.requires.0 few).long, few), c.requires.1)
 
 -- the script is taken
 taken : (c : After-reclaim-free) → Reached c.args.section.now c.args.budget c.args.places (given c.before.before.before.before.before.before.before.before.before.before.before.before.before)
 taken c =
-    reached _ _ _ (given c.before.before.before.before.before.before.before.before.before.before.before.before.before) _ (c.requires.0 (c.admit-script.ensures.few c.in-Sound.is))
-    (subst (Storable _ _ _) c.if-not-storable.false c.storable.ensures) (subst (Admits _ _ _ _ _ _) c.in-Sound.is c.admit-script.ensures)
+    reached _ _ _ (given c.before.before.before.before.before.before.before.before.before.before.before.before.before) _ (c.requires.0 (c.in-Ok.ensures.few refl))
+    (subst (Storable _ _ _) c.if-not-storable.false c.storable.ensures) c.in-Ok.ensures
 
 pub from_root-requires : goal.from_root-requires
-from_root-requires c = let few = c.admit-script.ensures.few c.in-Sound.is in
+from_root-requires c = let few = c.in-Ok.ensures.few refl in
     let known = c.requires.0 few in
     let good = subst (Storable _ _ _) c.if-not-storable.false c.storable.ensures in
     let r = taken (goal.at.from_root-requires c).After-reclaim-free in
     rooted _ _ _ (given (goal.at.from_root-requires c).Start) r.s r.held r.ok _ _ (ready _ known good c.reclaim-free.ensures.reclaimed r.held.tree) _ _
-    (omega (arith, known.long, c.words-1.given)) few (c.admit-script.ensures.whole c.in-Sound.is)
+    (omega (arith, known.long, c.words-1.given)) few (c.in-Ok.ensures.whole refl)
 
-pub returns-in-Sound : goal.returns-in-Sound
-returns-in-Sound c = let few = c.admit-script.ensures.few c.in-Sound.is in
+pub returns-in-Ok : goal.returns-in-Ok
+returns-in-Ok c = let few = c.in-Ok.ensures.few refl in
     let good = subst (Storable _ _ _) c.if-not-storable.false c.storable.ensures in
-    let r = taken (goal.at.returns-in-Sound c).After-reclaim-free in
+    let r = taken (goal.at.returns-in-Ok c).After-reclaim-free in
     record {
       few =
           λ _.
-          taken_over _ _ _ (given (goal.at.returns-in-Sound c).Start) r.s r.held r.ok _ _ (ready _ (c.requires.0 few) good c.reclaim-free.ensures.reclaimed r.held.tree) [] _ _ _ _
+          taken_over _ _ _ (given (goal.at.returns-in-Ok c).Start) r.s r.held r.ok _ _ (ready _ (c.requires.0 few) good c.reclaim-free.ensures.reclaimed r.held.tree) [] _ _ _ _
           c.values-1.given _ c.from_root.ensures;
       many = λ lt. absurd (omega (arith, few, lt));
       behind = then_behind c.reclaim-free.ensures.behind c.from_root.ensures.behind;
