@@ -16,7 +16,7 @@ use table::{PARENT, store, word_of};
 
 // Where the walk is: at a link under the node at `up` and right of the one at `prev`, which is to lead to `due` siblings. Their existence is not below
 // `lo` and not above `hi`. There are `deep` nodes above the link, and so many were entered.
-#[derive(Clone, Copy)]
+#[derive(Clone, Copy, PartialEq, Eq, Debug)]
 pub struct Spot {
     pub link: u32,
     pub up: u32,
@@ -138,10 +138,11 @@ fn enter(s: Spot, d: Node) -> Spot
 fn stuck(s: Spot) -> Spot
     ensures { result ≡ Stands.stuck s }
 {
-    let mut r = s;
-    r.link = 65535;
-    r.due = 1;
-    r
+    Spot {
+        link: 65535,
+        due: 1,
+        ..s
+    }
 }
 
 // Marks a place, if it is one of the first 512.
