@@ -8,7 +8,7 @@ use table::low;
 
 // A place of a lent table, as a record: it says what the place's cell says.
 #[repr(C)]
-#[derive(Clone, Copy, PartialEq, Eq, Debug)]
+#[derive(Clone, Copy, Debug, PartialEq, Eq)]
 pub struct Node {
     pub first: u32,
     pub right: u32,

@@ -16,7 +16,7 @@ use table::{PARENT, store, word_of};
 
 // Where the walk is: at a link under the node at `up` and right of the one at `prev`, which is to lead to `due` siblings. Their existence is not below
 // `lo` and not above `hi`. There are `deep` nodes above the link, and so many were entered.
-#[derive(Clone, Copy, PartialEq, Eq, Debug)]
+#[derive(Clone, Copy, Debug, PartialEq, Eq)]
 pub struct Spot {
     pub link: u32,
     pub up: u32,

@@ -49,7 +49,7 @@ fn word_on(side: Side) -> usize
 }
 
 // The place of a new node, or NIL where there is none for it, and what leads to the free places and the first never-used place then.
-#[derive(Drop)]
+#[derive(Debug, PartialEq, Eq, Drop)]
 pub struct Taken {
     pub place: usize,
     pub free: usize,

@@ -13,7 +13,7 @@ use super::since::forget;
 use super::{Side, Taken, cells, space, word_on};
 
 // What a new node shows: its value, as its 32 bits, and its three levels.
-#[derive(Drop)]
+#[derive(Debug, PartialEq, Eq, Drop)]
 pub struct NewNode {
     pub value: u32,
     pub existence: u8,
