@@ -6,6 +6,7 @@ ghost use Rattle.table.specs.Steps.{with_word, with_label, Put, LedBack, one_mor
 use super::levels::low;
 use super::shape::NewNode;
 
+// The words are numbers and no enum, since they are what is added to the start of a cell, and node::read goes from one to the next by a kind's number.
 pub const PARENT: usize = 2;
 
 pub const EXISTENCE: usize = 3;
@@ -25,7 +26,7 @@ pub const LAST: usize = 9;
 // 2 ^ 32: how many numbers a word has.
 const RANGE: usize = 4294967296;
 
-// A place as a word.
+// A place as a word: its low 32 bits, taken by a remainder, since a cast may lose no bits.
 pub fn word_of(x: usize) -> u32
     ensures { result ≡ word_of x }
 {

@@ -24,6 +24,7 @@ pub const CELL: usize = 10;
 // How many words the largest table takes.
 pub const WORDS: usize = CELL * MAX_NODES;
 
+// The link to no node. It is a number, as a link is, and no option: a step makes one test of what it read, whether that is a place.
 pub const NIL: usize = 65535;
 
 // The words of the links to the two sides of a node.
@@ -48,7 +49,8 @@ fn word_on(side: Side) -> usize
     }
 }
 
-// The place of a new node, or NIL where there is none for it, and what leads to the free places and the first never-used place then.
+// The place of a new node, or NIL where there is none for it, and what leads to the free places and the first never-used place then. All three are numbers
+// as they stand in the words, since an option of a place would be one word and one test more in each step that adds a node.
 #[derive(Debug, PartialEq, Eq, Drop)]
 pub struct Taken {
     pub place: usize,

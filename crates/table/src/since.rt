@@ -12,7 +12,7 @@ use super::{cells, space};
 // Above every block's number.
 const NEVER: u16 = 65535;
 
-// Block k remembers the node at x.
+// Block k remembers the node at x. A number is stored only where it is smaller; the lesser of two would be stored each time.
 pub fn keep(since: &mut [u16], x: usize, k: u16)
     requires { x < length since.old }
     ensures { since.new ≡ kept since.old x k }
@@ -30,8 +30,8 @@ pub fn stands(since: &[u16], x: usize, k: u16) -> bool
     since[x] <= k
 }
 
-// Clears the places of the stack of forests that x leads to: as many as there may be, whatever the links say. The stack is taken apart by parent words,
-// which nobody reads below a node that goes.
+// Clears the places of the stack of forests that x leads to: as many as there may be, whatever the links say; counted down, which is an
+// instruction less for each. The stack is taken apart by parent words, which nobody reads below a node that goes.
 fn clear(words: &mut [u32], places: usize, x: usize, since: &mut [u16])
     requires { (cell_size * places ≤ length words.old) × ((places ≤ max_nodes) × (places ≤ length since.old)) }
     ensures { Clears places (cells words.old) (cells words.new) x since.old since.new }

@@ -1,4 +1,5 @@
-// The cursor's moves: each gives the place of the node moved to, or a number that is no place where there is none.
+// The cursor's moves: each gives the place of the node moved to, or a number that is no place where there is none. A move is one load, and the step that
+// asked for it makes one test of the number; an option would be a second word and a second test.
 ghost use Rattle.std.proofs.Math.Option.{some};
 ghost use Rattle.std.specs.Prelude.{ℕ};
 ghost use Rattle.rules.specs.Tree.{Forest, Place, to, up, left_of, last_of};
