@@ -14,6 +14,7 @@ pub struct Answer {
     pub lines: usize,
 }
 
+#[tactic(auto, unfolding(monitor::specs::Promises::answer_of))]
 pub fn of(o: Outcome) -> Answer
     ensures { Says result.ending result.index result.steps result.lines (answer_of o) }
 {
@@ -45,17 +46,9 @@ pub fn of(o: Outcome) -> Answer
 }
 
 // Whether the job was run.
+#[tactic(auto, unfolding(crate::specs::Answers::ran))]
 pub fn was_run(o: Outcome) -> bool
     ensures { result ≡ ran o }
 {
-    match o {
-        Outcome::Refused { number, index } => false,
-        Outcome::Finished { steps, lines } => true,
-        Outcome::Stopped {
-            number,
-            index,
-            steps,
-            lines,
-        } => true,
-    }
+    !matches!(o, Outcome::Refused { .. })
 }

@@ -2,8 +2,6 @@
 ghost use Rattle.std.specs.Prelude.{◌≡◌, ◌≤◌};
 ghost use Rattle.print.specs.Answers.{variables_in};
 
-use job::Checked;
-
 pub const BUDGET: u64 = 100000;
 
 pub const PLACES: usize = 512;
@@ -19,9 +17,8 @@ pub const AREA: usize = 1280;
 pub fn variables_of(job: &[u8]) -> usize
     ensures { (result ≤ 64) × (result ≡ variables_in job.now) }
 {
-    let answer = job::check(job);
-    match answer {
-        Checked::Accepted(l) => l.variables,
-        Checked::Refused { number, index } => 0,
+    match job::check(job) {
+        Ok(l) => l.variables,
+        Err(_) => 0,
     }
 }
