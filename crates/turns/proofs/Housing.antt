@@ -27,12 +27,11 @@ use Rattle.rules.proofs.Accepted.{right}
 use Rattle.rules.proofs.Noninterference.{bytes_accepted}
 use Rattle.rules.proofs.Rounds.{ends_in_turn}
 use Rattle.fields.specs.declared.sections.Layout.{Layout}
-use Rattle.job.specs.declared.checks.Checked.TheVariants.{Accepted}
-use Rattle.job.specs.declared.checks.Checked.TheVariants as Checked
+use Rattle.std.specs.Prelude.{Ok, Err}
+use Rattle.job.specs.declared.checks.Refusal.{Refusal}
 use Rattle.fields.specs.Layout.{layout_of}
 use Rattle.job.proofs.Answers.{is_accepted, is_refused}
 use Rattle.actions.specs.declared.control.Running.{Running}
-use Rattle.actions.specs.Board.{capacity}
 use Rattle.actions.specs.Marks.{marks_size}
 use Rattle.actions.specs.Shows.{slices}
 use Rattle.interpreter.specs.declared.step.Frame.{Frame}
@@ -410,20 +409,20 @@ module _ (p : Pool) (s : Parts) (g : Newcomer) where
   room : p.queue.count < max_runs → (q : List Active) → Houses p s q → ltb (length q) max_runs ≡ true
   room c q h = let m = as_many p s q h in lt-ltb (length q) max_runs (omega (arith, m, c))
 
-  pub back_arrive : (k i : ℕ) (plan plan' : List ℕ) → p.queue.count < max_runs → g.lent.variables ≡ max_variables
-      → AdmitsJob g.job g.budget g.lent.places max_variables plan plan' (Checked.Refused k i)
-      → Arrives p s s g (record { pool = p; reply = Answers g.name 0 (Refused k i) })
-  back_arrive k i plan plan' c v d =
-      let f = is_refused _ k i _ (sym (d.answered g.lent refl v)) in
+  pub back_arrive : (w : Refusal) (plan plan' : List ℕ) → p.queue.count < max_runs → g.lent.variables ≡ max_variables
+      → AdmitsJob g.job g.budget g.lent.places max_variables plan plan' (Err w)
+      → Arrives p s s g (record { pool = p; reply = Answers g.name 0 (Refused w.number w.index) })
+  back_arrive w plan plan' c v d =
+      let f = is_refused _ w _ (sym (d.answered g.lent refl v)) in
       record {
-        reply = λ q h. back_said q g k i (room c q h) f;
-        queue = λ q h. subst (Houses p s) (back_queue q g k i (room c q h) f) h;
+        reply = λ q h. back_said q g w.number w.index (room c q h) f;
+        queue = λ q h. subst (Houses p s) (back_queue q g w.number w.index (room c q h) f) h;
         elsewhere = nowhere _ s;
         unread = λ n. refl;
       }
 
 -- a job that is accepted, with the parts of place i
-module _ (b : List ℕ) (budget places : ℕ) (plan plan' : List ℕ) (l : Layout) (adm : AdmitsJob b budget places max_variables plan plan' (Accepted l)) where
+module _ (b : List ℕ) (budget places : ℕ) (plan plan' : List ℕ) (l : Layout) (adm : AdmitsJob b budget places max_variables plan plan' (Ok l)) where
   abbrev asked : Buffers
   asked = record { places = places; variables = max_variables; lines = 0 }
 
@@ -490,7 +489,7 @@ long_any jobs plans levels words values lines other marks l =
 module _ (p : Pool) (name budget places capacity : ℕ) (b plan plan' : List ℕ) (l : Layout) (jobs jobs' plans plans' levels levels' words words' : List ℕ)
     (values values' : List ℤ) (lines marks marks' : List ℕ) (i : ℕ) (n : Running) (a : After) (whole : Whole p.queue) (c : p.queue.count < max_runs)
     (eight : length p.places ≡ max_runs) (at : i ≡ first_free p.queue) (small : i < max_runs) (few : capacity ≤ 65535)
-    (adm : AdmitsJob b budget places max_variables plan plan' (Accepted l)) (full : length plan' ≡ plan_size)
+    (adm : AdmitsJob b budget places max_variables plan plan' (Ok l)) (full : length plan' ≡ plan_size)
     (long : Long (parts jobs plans levels words values lines marks)) where
   abbrev t : Parts
   t = parts jobs plans levels words values lines marks

@@ -2,7 +2,7 @@
 use mathlib.Core.Path.{◌≡◌, refl, sym, ◌∙◌, ap, subst}
 use mathlib.Core.Bool.{Bool, true, false, ◌&&◌}
 use mathlib.Core.List.{List}
-use Prim.Native.Nat.{ℕ, ◌+◌, ◌-◌, ◌/◌, ◌<◌, ◌≤◌, min}
+use Prim.Native.Nat.{ℕ, ◌+◌, ◌-◌, ◌/◌, ◌≤◌, min}
 use native.Mathlib.Nat.{zero-add}
 use native.Mathlib.Omega.{arith}
 use lib.Dec.{eqb, ltb}
@@ -33,12 +33,12 @@ use Rattle.actions.specs.Marks.{count_at, marks_size}
 use Rattle.actions.specs.Shows.{Slices, slices}
 use Rattle.actions.specs.Stands.{Stands}
 use Rattle.actions.specs.Acts.{Kept}
-use Rattle.interpreter.specs.Steps.{Held, held, script_in, Safe, Startable, code_of, Ran, Runs}
+use Rattle.interpreter.specs.Steps.{Held, script_in, Safe, Startable, code_of, Ran, Runs}
 use Rattle.monitor.specs.FromRoot.{AtRoot}
 use Rattle.monitor.specs.declared.entry.Outcome.{Outcome}
 use Rattle.monitor.specs.Promises as Monitor
 use Rattle.monitor.specs.Promises.{told, Tree}
-use Rattle.monitor.specs.Starting.{frame_of, outcome_of, JobLoaded, Begun, as_lent}
+use Rattle.monitor.specs.Starting.{outcome_of, JobLoaded, as_lent}
 use Rattle.interpreter.proofs.Looped.{kept_trans, closed}
 use Rattle.monitor.proofs.Begins.{answered, leaves, startable, stands}
 use Rattle.monitor.proofs.Started.{rooted_at}

@@ -2,7 +2,6 @@
 use Rattle.std.specs.Prelude.{◌≡◌, ℕ, ◌-◌, ◌*◌, ◌<◌, ◌≤◌, false, List, [], ◌∷◌, length, get_or, set, ℤ}
 use Rattle.rules.specs.Limits.{max_bytes, max_variables, max_budget}
 use Rattle.rules.specs.Limits.{max_runs, turn_steps}
-use Rattle.rules.specs.Outcome as Rules
 use Rattle.rules.specs.Rounds as Rounds
 use Rattle.rules.specs.Rounds.{Newcomer, Active, arrives, turn, happen, turn_takes, unended, turn_of}
 use Rattle.actions.specs.declared.control.Running.{Running}

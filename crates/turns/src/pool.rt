@@ -16,7 +16,7 @@ use actions::memory::Memory;
 use actions::{guards, marks};
 use fields::sections::Layout;
 use interpreter::Frame;
-use job::{Checked, plan};
+use job::{Refusal, plan};
 use monitor::{Outcome, admit, frame_of};
 use places::parts::keep;
 use places::queue;
@@ -42,7 +42,7 @@ pub struct Pool {
 }
 
 // What is handed back; a turn took so many steps.
-#[derive(Drop)]
+#[derive(Clone, Copy, Debug, PartialEq, Eq)]
 pub enum Reply {
     Idle,
     Joins,
@@ -128,33 +128,33 @@ fn fresh_at(
         × Beside table_size i words.old words.new × Beside max_variables i levels.old levels.new
         × Beside max_variables i values.old values.new × Beside marks_size i marks.old marks.new }
 {
-    let w0 = table::WORDS * i;
-    let w1 = w0 + table::WORDS;
-    let v0 = MAX_VARIABLES * i;
-    let v1 = v0 + MAX_VARIABLES;
-    let m0 = marks::SIZE * i;
-    let m1 = m0 + marks::SIZE;
+    let w = table::WORDS * i;
+    let v = MAX_VARIABLES * i;
+    let m = marks::SIZE * i;
     fresh(
         job,
         l,
         budget,
-        &mut words[w0..w1],
-        &mut levels[v0..v1],
-        &mut values[v0..v1],
-        &mut marks[m0..m1],
+        &mut words[w..w + table::WORDS],
+        &mut levels[v..v + MAX_VARIABLES],
+        &mut values[v..v + MAX_VARIABLES],
+        &mut marks[m..m + marks::SIZE],
     )
 }
 
 // Nothing changes, and a newcomer is turned back.
-fn refuse(p: Pool, name: u64, number: u8, index: usize) -> After
-    ensures { result ≡ refused p name number index }
+fn refuse(p: Pool, name: u64, r: Refusal) -> After
+    ensures { result ≡ refused p name r.number r.index }
 {
     After {
         pool: p,
         reply: Reply::Answers {
             name,
             took: 0,
-            outcome: Outcome::Refused { number, index },
+            outcome: Outcome::Refused {
+                number: r.number,
+                index: r.index,
+            },
         },
     }
 }
@@ -164,11 +164,11 @@ fn joined(p: Pool, i: usize, place: Place) -> After
     requires { Whole p.queue × (p.queue.count < max_runs) × (length p.places ≡ max_runs) × (i < max_runs) }
     ensures { Joined p i place result }
 {
-    let q = queue::join(p.queue);
-    let mut places = p.places;
-    places[i] = place;
+    let mut pool = p;
+    pool.queue = queue::join(p.queue);
+    pool.places[i] = place;
     After {
-        pool: Pool { queue: q, places },
+        pool,
         reply: Reply::Joins,
     }
 }
@@ -196,13 +196,17 @@ pub fn arrive(
 {
     let q = p.queue;
     if q.count == MAX_RUNS {
-        return refuse(p, name, NO_PLACE, 0);
+        let full = Refusal {
+            number: NO_PLACE,
+            index: 0,
+        };
+        return refuse(p, name, full);
     }
     let mut script = [0u32; plan::WORDS];
-    let checked = admit(job, budget, places, MAX_VARIABLES, &mut script);
-    match checked {
-        Checked::Refused { number, index } => refuse(p, name, number, index),
-        Checked::Accepted(l) => {
+    let admitted = admit(job, budget, places, MAX_VARIABLES, &mut script);
+    match admitted {
+        Err(r) => refuse(p, name, r),
+        Ok(l) => {
             let i = queue::free(q);
             keep(i, job, &script, jobs, plans);
             let running = fresh_at(i, job, l, budget as usize, words, levels, values, marks);
@@ -244,29 +248,23 @@ fn turn_at(
         × Elsewhere i (parts jobs.now plans.now levels.now words.old values.old lines.old marks.old)
         (parts jobs.now plans.now levels.now words.new values.new lines.new marks.new) }
 {
-    let j0 = MAX_BYTES * i;
-    let j1 = j0 + place.bytes;
-    let p0 = plan::WORDS * i;
-    let p1 = p0 + plan::WORDS;
-    let w0 = table::WORDS * i;
-    let w1 = w0 + table::WORDS;
-    let v0 = MAX_VARIABLES * i;
-    let v1 = v0 + MAX_VARIABLES;
-    let b0 = AREA * i;
-    let b1 = b0 + 5 * place.capacity;
-    let m0 = marks::SIZE * i;
-    let m1 = m0 + marks::SIZE;
+    let j = MAX_BYTES * i;
+    let p = plan::WORDS * i;
+    let w = table::WORDS * i;
+    let v = MAX_VARIABLES * i;
+    let b = AREA * i;
+    let m = marks::SIZE * i;
     turn_of(
         place.running,
         place.budget,
-        &jobs[j0..j1],
-        &plans[p0..p1],
-        &levels[v0..v1],
+        &jobs[j..j + place.bytes],
+        &plans[p..p + plan::WORDS],
+        &levels[v..v + MAX_VARIABLES],
         place.frame,
-        &mut words[w0..w1],
-        &mut values[v0..v1],
-        &mut lines[b0..b1],
-        &mut marks[m0..m1],
+        &mut words[w..w + table::WORDS],
+        &mut values[v..v + MAX_VARIABLES],
+        &mut lines[b..b + 5 * place.capacity],
+        &mut marks[m..m + marks::SIZE],
     )
 }
 
@@ -275,13 +273,11 @@ fn passed(p: Pool, i: usize, place: Place, running: Running) -> After
     requires { Whole p.queue × (0 < p.queue.count) × (length p.places ≡ max_runs) × (i < max_runs) }
     ensures { Passed p i (with_running place running) result }
 {
-    let q = queue::pass(p.queue);
-    let mut next = place;
-    next.running = running;
-    let mut places = p.places;
-    places[i] = next;
+    let mut pool = p;
+    pool.queue = queue::pass(p.queue);
+    pool.places[i] = Place { running, ..place };
     After {
-        pool: Pool { queue: q, places },
+        pool,
         reply: Reply::GoesOn {
             name: place.name,
             took: TURN_STEPS,
@@ -293,14 +289,8 @@ fn steps_of(o: Outcome) -> usize
     ensures { result ≡ steps_of o }
 {
     match o {
-        Outcome::Refused { number, index } => 0,
-        Outcome::Finished { steps, lines } => steps as usize,
-        Outcome::Stopped {
-            number,
-            index,
-            steps,
-            lines,
-        } => steps as usize,
+        Outcome::Refused { .. } => 0,
+        Outcome::Finished { steps, .. } | Outcome::Stopped { steps, .. } => steps as usize,
     }
 }
 
@@ -308,8 +298,7 @@ fn steps_of(o: Outcome) -> usize
 fn steps_since(o: Outcome, before: usize) -> usize
     ensures { result ≡ steps_of o - before }
 {
-    let n = steps_of(o);
-    if n < before { 0 } else { n - before }
+    steps_of(o).saturating_sub(before)
 }
 
 // It has ended: its place is the first free one.
@@ -317,10 +306,11 @@ fn left(p: Pool, place: Place, outcome: Outcome) -> After
     requires { Whole p.queue × (0 < p.queue.count) × (place.running.left ≤ place.budget) }
     ensures { Left p place outcome result }
 {
-    let q = queue::leave(p.queue);
-    let places = p.places;
     After {
-        pool: Pool { queue: q, places },
+        pool: Pool {
+            queue: queue::leave(p.queue),
+            ..p
+        },
         reply: Reply::Answers {
             name: place.name,
             took: steps_since(outcome, place.budget - place.running.left),

@@ -11,11 +11,11 @@ use actions::control::Running;
 use actions::marks;
 use fields::sections::Layout;
 use interpreter::{Frame, run_from};
-use monitor::{Outcome, ended, load, rooted, smaller};
+use monitor::{Outcome, ended, load, rooted};
 use rules::limits::{SPENT, TURN_STEPS};
 
-// A run goes on, from where it stands then, or has ended.
-#[derive(Drop)]
+// A run goes on, from where it stands then, or has ended; neither is an error, so that the two are no result.
+#[derive(Clone, Copy)]
 pub enum Turned {
     GoesOn(Running),
     Ends(Outcome),
@@ -44,9 +44,7 @@ pub fn fresh(
 fn with_left(r: Running, left: usize) -> Running
     ensures { result ≡ with_left r left }
 {
-    let mut next = r;
-    next.left = left;
-    next
+    Running { left, ..r }
 }
 
 // At most 5,000 steps, of those that are left of a budget. Only where these are used up, and not the budget, the run goes on.
@@ -69,7 +67,7 @@ pub fn turn_of(
         (slices words.new levels.now values.new lines.new) marks.old marks.new r result }
 {
     let left = r.left;
-    let steps = smaller(TURN_STEPS, left);
+    let steps = TURN_STEPS.min(left);
     let a = run_from(
         with_left(r, steps),
         job,

@@ -4,7 +4,6 @@ use native.Mathlib.Omega.{arith}
 use Rattle.monitor.specs.Starting.{AdmitsJob}
 use Rattle.turns.specs.Pool.{Arrives}
 use Rattle.turns.proofs.Housing.{full_arrive, back_arrive, job_short, has_room, long_any, join_arrive}
-use borrow.Author.Rules.{rules}
 use Rattle.turns.proofs.pool.arrive.Goals as goal
 
 pub returns-then-q-eq-MAX_RUNS : goal.returns-then-q-eq-MAX_RUNS
@@ -18,13 +17,13 @@ free-i-requires c = let w = c.requires.0.whole in
 
 pub keep-requires : goal.keep-requires
 keep-requires c = let l = c.requires.0.long in
-    let a = subst (AdmitsJob _ _ _ _ _ _) c.in-Accepted.is c.admit-checked.ensures in
+    let a = subst (AdmitsJob _ _ _ _ _ _) c.in-Ok.is c.admit-admitted.ensures in
     (c.free-i.ensures.1, job_short _ _ _ _ _ _ a, l.jobs, l.plans)
 
 pub fresh_at-running-requires : goal.fresh_at-running-requires
 fresh_at-running-requires c = let l = c.requires.0.long in
     let i = c.free-i.ensures.1 in
-    let a = subst (AdmitsJob _ _ _ _ _ _) c.in-Accepted.is c.admit-checked.ensures in
+    let a = subst (AdmitsJob _ _ _ _ _ _) c.in-Ok.is c.admit-admitted.ensures in
     (i, l.words, l.levels, l.values, l.marks, has_room _ _ _ _ _ _ a _ _ _ _ i l.levels l.words l.values)
 
 pub joined-requires : goal.joined-requires
@@ -34,16 +33,16 @@ joined-requires c = let o = c.requires.0 in
     let n = c.if-q-eq-MAX_RUNS.false in
     (w, omega (arith, f, n), o.eight, c.free-i.ensures.1)
 
-pub returns-in-Refused : goal.returns-in-Refused
-returns-in-Refused c = λ lines.
+pub returns-in-Err : goal.returns-in-Err
+returns-in-Err c = λ lines.
     let w = c.requires.0.whole in
     let f = w.few in
     let n = c.if-q-eq-MAX_RUNS.false in
-    subst (Arrives _ _ _ _) (sym c.refuse-in-Refused.ensures)
-    (back_arrive _ _ _ _ _ _ _ (omega (arith, f, n)) refl (subst (AdmitsJob _ _ _ _ _ _) c.in-Refused.is c.admit-checked.ensures))
+    subst (Arrives _ _ _ _) (sym c.refuse-in-Err.ensures)
+    (back_arrive _ _ _ _ _ _ (omega (arith, f, n)) refl (subst (AdmitsJob _ _ _ _ _ _) c.in-Err.is c.admit-admitted.ensures))
 
-pub returns-in-Accepted : goal.returns-in-Accepted
-returns-in-Accepted c = λ lines.
+pub returns-in-Ok : goal.returns-in-Ok
+returns-in-Ok c = λ lines.
     let o = c.requires.0 in
     let w = o.whole in
     let f = w.few in
@@ -52,7 +51,7 @@ returns-in-Accepted c = λ lines.
     let e = c.fresh_at-running.ensures in
     let d = c.joined.ensures in
     join_arrive _ _ _ _ _ _ _ _ _ _ _ _ _ _ _ _ _ _ _ lines _ _ _ _ _ w (omega (arith, f, n)) o.eight i.0 i.1 c.requires.1
-    (subst (AdmitsJob _ _ _ _ _ _) c.in-Accepted.is c.admit-checked.ensures) c.keep.ensures.2 (long_any _ _ _ _ _ _ _ _ o.long) c.keep.ensures.0
+    (subst (AdmitsJob _ _ _ _ _ _) c.in-Ok.is c.admit-admitted.ensures) c.keep.ensures.2 (long_any _ _ _ _ _ _ _ _ o.long) c.keep.ensures.0
     c.keep.ensures.1 e.0 e.1 e.2 e.3 e.4
     _ c.frame_of.ensures d
 

@@ -1,6 +1,5 @@
 -- `pool::empty` meets its contract: no place has a run. Assumes nothing.
 use Rattle.turns.proofs.Housing.{nobody_yet}
-use borrow.Author.Rules.{rules}
 use Rattle.turns.proofs.pool.empty.Goals as goal
 
 pub returns : goal.returns

@@ -1,6 +1,6 @@
 -- `pool::fresh_at` meets its contract: what is lent are the parts of the place. Assumes nothing.
 use mathlib.Core.Path.{refl, ◌∙◌}
-use Prim.Native.Nat.{◌-◌, ◌+◌, ◌*◌, ◌≤◌}
+use Prim.Native.Nat.{◌+◌, ◌*◌, ◌≤◌}
 use native.Mathlib.Omega.{arith}
 use native.Mathlib.Nat.{le_refl}
 use borrow.Rule.Slice.PartMut.{mid_len}
@@ -10,7 +10,6 @@ use Rattle.turns.specs.Pool.{table_size}
 use Rattle.places.proofs.Cuts.{Cut, inside}
 use lib.ListN.{length}
 use Rattle.turns.proofs.Places.{room_there, fresh_there}
-use borrow.Author.Rules.{rules}
 use Rattle.turns.proofs.pool.fresh_at.Goals as goal
 
 pub fresh-requires : goal.fresh-requires

@@ -10,7 +10,3 @@ returns-in-Refused c = search rules
 pub returns-in-Finished : goal.returns-in-Finished
 unfolding steps_of
 returns-in-Finished c = search rules
-
-pub returns-in-Stopped : goal.returns-in-Stopped
-unfolding steps_of
-returns-in-Stopped c = search rules

@@ -1,6 +1,6 @@
 -- `pool::turn_at` meets its contract: what is lent are the parts of the place. Assumes nothing.
 use mathlib.Core.Path.{refl, ◌∙◌}
-use Prim.Native.Nat.{◌-◌, ◌+◌, ◌*◌, ◌≤◌}
+use Prim.Native.Nat.{◌+◌, ◌*◌, ◌≤◌}
 use native.Mathlib.Omega.{arith}
 use native.Mathlib.Nat.{le_refl}
 use borrow.Rule.Slice.PartMut.{mid_len}
@@ -11,7 +11,6 @@ use Rattle.turns.specs.Pool.{table_size, area_size}
 use Rattle.places.proofs.Cuts.{Cut, inside}
 use Rattle.turns.proofs.Places.{startable_there, turn_there}
 use lib.ListN.{length}
-use borrow.Author.Rules.{rules}
 use Rattle.turns.proofs.pool.turn_at.Goals as goal
 
 pub turn_of-requires : goal.turn_of-requires

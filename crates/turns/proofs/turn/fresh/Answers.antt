@@ -1,6 +1,5 @@
 -- The job is loaded, no block remembers anything, and the run stands at the root. Assumes nothing.
 use Rattle.turns.proofs.Turning.{freshens}
-use borrow.Author.Rules.{rules}
 use Rattle.turns.proofs.turn.fresh.Goals as goal
 
 pub returns : goal.returns
