@@ -15,7 +15,7 @@ use rules::limits::{ABSENT, OVERFLOW};
 use rules::numbers;
 
 // The memory, the open blocks, the record that comes next, and how many steps are left.
-#[derive(Clone, Copy)]
+#[derive(Clone, Copy, Debug, PartialEq, Eq)]
 pub struct Running {
     pub memory: Memory,
     pub guards: Guards,
@@ -27,7 +27,7 @@ pub struct Running {
 pub const FINISHED: u8 = 255;
 
 // How the run has ended, or 0 where it goes on, and where it stands then.
-#[derive(Drop)]
+#[derive(Debug, PartialEq, Eq, Drop)]
 pub struct Stepped {
     pub stop: u8,
     pub running: Running,

@@ -13,14 +13,14 @@ use rules::numbers;
 use table::node;
 
 // What an expression comes to, and its level.
-#[derive(Drop)]
+#[derive(Debug, PartialEq, Eq, Drop)]
 pub struct Valued {
     pub value: Option<i32>,
     pub level: u8,
 }
 
 // An operand's value and level.
-#[derive(Drop)]
+#[derive(Debug, PartialEq, Eq, Drop)]
 struct Found {
     value: i32,
     level: u8,

@@ -6,7 +6,7 @@ ghost use Rattle.rules.specs.Limits.{max_depth};
 ghost use Rattle.rules.specs.Run.{Block, context};
 ghost use Rattle.actions.specs.Guards.{Holds};
 
-#[derive(Clone, Copy)]
+#[derive(Clone, Copy, Debug, PartialEq, Eq)]
 pub struct Guards {
     pub low: u64,
     pub high: u64,

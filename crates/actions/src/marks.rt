@@ -48,7 +48,7 @@ pub(crate) fn save(marks: &mut [u16], place: usize, level: u8)
 }
 
 // What a block remembers: a place, and the word of a cursor level.
-#[derive(Drop)]
+#[derive(Debug, PartialEq, Eq, Drop)]
 pub struct Saved {
     pub place: usize,
     pub level: u64,

@@ -7,7 +7,7 @@ use rules::levels::join;
 
 // The cursor's place and level, how many lines there are, and what leads to the table's free places. Every field is a whole word: a record with gaps
 // goes through memory at every step.
-#[derive(Clone, Copy)]
+#[derive(Clone, Copy, Debug, PartialEq, Eq)]
 pub struct Memory {
     pub cursor: usize,
     pub level: u64,

@@ -22,7 +22,7 @@ use job::plan::{END_BACK, code, next};
 use table::Side;
 
 // Where the script starts in the job's bytes and how many records it has, how many variables there are, and how many places.
-#[derive(Clone, Copy)]
+#[derive(Clone, Copy, Debug, PartialEq, Eq)]
 pub struct Frame {
     pub script: usize,
     pub records: usize,
