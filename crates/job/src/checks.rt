@@ -172,7 +172,7 @@ fn scan_nodes(job: &[u8], l: Layout, rules: Edition) -> Result<Option<usize>, Re
     Ok(None)
 }
 
-// The checks 7 and 12, of the script.
+// The checks 7 and 12, of the script: the steps of `scan_variables`, but each search goes by tables that it makes once, so one function of both would say more than the two.
 fn scan_records(
     bytes: &[u8],
     l: Layout,

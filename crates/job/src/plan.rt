@@ -6,7 +6,7 @@ ghost use Rattle.job.specs.Plan.{code_of, next_of};
 // A word for each record that there may be, and one for the end mark.
 pub const WORDS: usize = 1025;
 
-// No command, nor one that a request adds.
+// No command, nor one that a request adds. A number as these are, since a step of a run decides by it.
 pub const END_MARK: u32 = 255;
 
 // The end of an if that comes back, which may stop: no command either.

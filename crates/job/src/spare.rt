@@ -199,7 +199,8 @@ fn record_fits(
         )
 }
 
-// The checks 7 and 12, where records hold sets or do not: the first of `count` records that fails one of them, or the count.
+// The checks 7 and 12, where records hold sets or do not: the first of `count` records that fails one of them, or the count. No option, as in the search that it is: the
+// definition counts in this way, and the contract is one equation with it.
 pub fn first_unfit(job: &[u8], base: usize, count: usize, variables: usize, sets: bool) -> usize
     requires { record_place base count ≤ length job.now }
     ensures { result ≡ first_fault (λ i. record_fits sets job.now variables (record_place base i)) count 0 }
