@@ -19,7 +19,7 @@ use writer::write_places;
 pub mod copies;
 mod standing;
 
-// How many of n records a run fills: none where the job was turned back.
+// How many of n records a run fills: none where the job was turned back. (Marks and words are arrays of the calls below, so each makes its own.)
 fn kept(outcome: Outcome, n: usize) -> usize
     ensures { result ≡ kept_of outcome n }
 {

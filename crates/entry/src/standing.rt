@@ -7,7 +7,7 @@ use rules::limits::MAX_NODES;
 use table::NIL;
 
 // Whether a tree stands in the records; if so, its places have a mark then, if they are among the first 512, and no others. The walk is that over words,
-// and needs the record of one place a turn.
+// and needs the record of one place a turn. The marks are lent, to be filled in place, and count where the answer is true.
 pub fn held(table: &[Node], marks: &mut [u8]) -> bool
     requires { Unmarked marks.old }
     ensures { Surveys table.now marks.new result }

@@ -15,7 +15,8 @@ use job::{Refusal, prepare};
 use rules::limits::{BAD_BUDGET, BAD_BUFFERS, MAX_BUDGET, MAX_NODES, MAX_VARIABLES};
 use table::records;
 
-// What becomes of a job: turned back with a number and an index; or run, to its end or to a stop with its number and record.
+// What becomes of a job: turned back with a number and an index; or run, to its end or to a stop with its number and record. A stop is no error, so
+// that this is no result of two cases.
 #[derive(Clone, Copy, Debug, PartialEq, Eq)]
 pub enum Outcome {
     Refused {
@@ -81,7 +82,7 @@ fn buffers_ok(nodes: usize, variables: usize, places: usize, room: usize) -> boo
     (1 <= places) & (places <= MAX_NODES) & (nodes <= places) & (variables <= room)
 }
 
-// As many places as are asked for, if there are words for them.
+// As many places as are asked for, if there are words for them; else 0, a number of places like any other, which check 10 turns back.
 fn asked(places: usize, words: usize) -> usize
     ensures { result ≡ places_for places words }
 {
@@ -92,7 +93,8 @@ fn asked(places: usize, words: usize) -> usize
     }
 }
 
-// The checks 1 to 10, with so many places and room for so many variables; and the script's plan.
+// The checks 1 to 10, with so many places and room for so many variables; and the script's plan. Check 10 of a follow-on script asks for less, so it has
+// an `admit` of its own.
 pub fn admit(
     job: &[u8],
     budget: u64,
@@ -118,7 +120,7 @@ pub fn admit(
     Ok(l)
 }
 
-// An accepted job, with buffers that are large enough: loaded, and run from the root.
+// An accepted job, with buffers that are large enough: loaded, and run from the root. The slices come one by one, as a caller in C lends them.
 fn run_accepted(
     job: &[u8],
     l: Layout,

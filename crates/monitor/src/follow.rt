@@ -106,6 +106,7 @@ pub fn follow_places(
 }
 
 // Whether a tree stands in a table of words, and at which places: it has as many as there are tens of words, of which links lead to no more than 65,535.
+// The marks are lent, to be filled in place: they stand beside the answer, and count where it is true.
 pub fn survey(words: &[u32], marks: &mut [u8]) -> bool
     requires { max_nodes ≤ length marks.old }
     ensures { Surveyed words.now (linkable words.now) result marks.new }

@@ -13,7 +13,7 @@ use actions::{guards, marks};
 use interpreter::{Frame, run_from};
 use job::plan::WORDS;
 
-// How a run with a budget has ended, as an outcome.
+// How a run with a budget has ended, as an outcome. The steps fit 32 bits, as the budget does: `as`, since usize has no `From` here.
 pub fn ended(a: Stepped, budget: usize) -> Outcome
     requires { (a.running.left ≤ budget) × (budget ≤ max_budget) }
     ensures { result ≡ outcome_of budget a }

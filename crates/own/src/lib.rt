@@ -17,7 +17,8 @@ const OWN: usize = 513;
 // The words that they are copied into.
 pub const WORDS: usize = table::CELL * OWN;
 
-// How many of its own records are made of words first: all for a follow-on script, none for a job.
+// How many of its own records are made of words first: all for a follow-on script, none for a job. (One function runs both, by a flag, so that both promise
+// the same but for it.)
 fn copied(follows: bool) -> usize
     ensures { result ≡ copied_of follows }
 {

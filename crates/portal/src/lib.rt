@@ -11,7 +11,7 @@ ghost use Rattle.portal.specs.Written.{WrittenBack};
 use monitor::{Outcome, follow_words, run_lines, run_words};
 use writer::write_words;
 
-// The ending in the upper half, the line count in the lower one.
+// The ending in the upper half, the line count in the lower one: what C reads is one number.
 fn packed(ending: u8, lines: usize) -> u64
     requires { lines ≤ max_budget }
     ensures { result ≡ ending * 4294967296 + lines }

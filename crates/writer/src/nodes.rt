@@ -12,7 +12,8 @@ use lent::node::node_of;
 use rules::limits::{MAX_NODES, NO_PARENT, NODE_SIZE};
 use table::NIL;
 
-// Where the walk is: at a link under the node at `up`, with `deep` nodes above it. So many nodes were written.
+// Where the walk is: at a link under the node at `up`, with `deep` nodes above it. So many nodes were written. Links are numbers as in the table, NIL among
+// them. The walk that asks a table for its tree (crate lent) keeps other things on its way, so the two share no more than this form.
 #[derive(Clone, Copy)]
 pub struct Spot {
     pub link: usize,
@@ -33,7 +34,8 @@ fn start() -> Spot
     }
 }
 
-// The index of the node above, where `deep` nodes stand above; by depth, `indexes` has those of all of them.
+// The index of the node above, where `deep` nodes stand above; by depth, `indexes` has those of all of them. Where none stands above it is what a record has for
+// that.
 fn parent_of(indexes: &[usize; MAX_NODES], deep: usize) -> usize
     requires { deep ≤ max_nodes }
     ensures { result ≡ parent_in indexes.now deep }

@@ -9,7 +9,7 @@ ghost use Rattle.writer.specs.Area.{replaced, entry};
 use lent::Node;
 use rules::limits::{NODE_SIZE, TRAILER_SIZE, VARIABLE_SIZE};
 
-// The two bytes of a place or an index.
+// The two bytes of a place or an index, which a record cuts to 16 bits.
 fn two(x: usize) -> [u8; 2]
     ensures { result ≡ two x }
 {

@@ -41,7 +41,7 @@ fn put_job(
 }
 
 // A tree and variables, written into an area: the job's length, or the number. `stands` says whether a tree stands in the table, the marks at which places.
-// No words are needed for more than 512 places: nothing is written of them.
+// No words are needed for more than 512 places: nothing is written of them. What is lent comes one by one, as a caller in C has it.
 pub fn write_places(
     places: usize,
     stands: bool,
