@@ -3,31 +3,28 @@
 #![tactic(auto)]
 
 use arranger::arrange;
+use job::Refusal;
+use print::Out;
 
 // The file descriptors of standard input and standard output.
 const STDIN_FILENO: i32 = 0;
 
 const STDOUT_FILENO: i32 = 1;
 
-fn refuse(number: u8, index: usize) {
-    let mut buf = io::large_buffer();
-    let mut out = print::item(
-        &mut buf,
-        print::to(print::ERRORS),
-        b"refused ",
-        number as u64,
-    );
-    out = print::item(&mut buf, out, b" at ", index as u64);
-    out = print::byte(&mut buf, out, b'\n');
-    print::flush(&buf, out);
+fn refuse(r: Refusal) {
+    let mut out = Out::to(print::ERRORS);
+    out.item(b"refused ", u64::from(r.number));
+    out.item(b" at ", r.index as u64);
+    out.byte(b'\n');
+    out.flush();
 }
 
 fn run(job: &mut [u8]) {
-    let answer = arrange(job);
-    if answer.number == 0 {
-        io::write_all(STDOUT_FILENO, job);
-    } else {
-        refuse(answer.number, answer.index);
+    match arrange(job) {
+        Ok(()) => {
+            io::write_all(STDOUT_FILENO, job);
+        }
+        Err(r) => refuse(r),
     }
 }
 
