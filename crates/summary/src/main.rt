@@ -2,7 +2,7 @@
 // is turned back only its number and index go to standard error.
 #![tactic(auto)]
 
-ghost use Rattle.std.specs.Prelude.{◌≡◌, ◌+◌, ◌≤◌, length, take};
+ghost use Rattle.std.specs.Prelude.{◌≡◌, ◌+◌, ◌≤◌, length};
 ghost use Rattle.rules.specs.Limits.{node_size};
 ghost use Rattle.rules.specs.Level.{parties};
 ghost use Rattle.rules.specs.Bytes.{nodes_at, node_count, node_place};
@@ -14,8 +14,8 @@ ghost use Rattle.summary.specs.Summed.{Summed};
 
 use fields::nodes::levels_at;
 use fields::sections::Layout;
-use job::Checked;
-use print::{Out, SIZE};
+use job::Refusal;
+use print::Out;
 use rules::levels::{join, parties};
 
 // The file descriptor of standard input.
@@ -31,48 +31,37 @@ fn parties_at(job: &[u8], base: usize, i: usize) -> u32
 }
 
 // Puts the summary of a job whose nodes start at base: a line for each of them.
-fn put_summary(buf: &mut [u8; SIZE], out: Out, job: &[u8], base: usize, count: usize) -> Out
-    requires { (out.used ≤ 65536) × (check_bytes job.now ≡ accepted) × (base ≡ nodes_at job.now) × (count ≡ node_count job.now) }
-    ensures used_bound { result.used ≤ 65536 }
-    ensures summed { Summed (summary job.now) (take out.used buf.old) (length (summary job.now)) (take result.used buf.new) }
+fn put_summary(out: &mut Out, job: &[u8], base: usize, count: usize)
+    requires { (check_bytes job.now ≡ accepted) × (base ≡ nodes_at job.now) × (count ≡ node_count job.now) }
+    ensures { Summed (summary job.now) out.old.waits (length (summary job.now)) out.new.waits }
 {
-    let mut r = out;
-    let mut i = 0;
-    while i < count {
-        r = print::number(buf, r, parties_at(job, base, i) as u64);
-        r = print::byte(buf, r, b'\n');
-        i += 1;
+    for i in 0..count {
+        out.number(u64::from(parties_at(job, base, i)));
+        out.byte(b'\n');
     }
-    r
 }
 
 // The summary of an accepted job.
 fn report(job: &[u8], l: Layout)
     requires { (check_bytes job.now ≡ accepted) × (l ≡ layout_of job.now) }
 {
-    let mut buf = io::large_buffer();
-    let out = put_summary(&mut buf, print::to(print::OUTPUT), job, l.tree, l.nodes);
-    print::flush(&buf, out);
+    let mut out = Out::to(print::OUTPUT);
+    put_summary(&mut out, job, l.tree, l.nodes);
+    out.flush();
 }
 
-fn refuse(number: u8, index: usize) {
-    let mut buf = io::large_buffer();
-    let mut out = print::item(
-        &mut buf,
-        print::to(print::ERRORS),
-        b"refused ",
-        number as u64,
-    );
-    out = print::item(&mut buf, out, b" at ", index as u64);
-    out = print::byte(&mut buf, out, b'\n');
-    print::flush(&buf, out);
+fn refuse(r: Refusal) {
+    let mut out = Out::to(print::ERRORS);
+    out.item(b"refused ", u64::from(r.number));
+    out.item(b" at ", r.index as u64);
+    out.byte(b'\n');
+    out.flush();
 }
 
 fn run(job: &[u8]) {
-    let answer = job::check(job);
-    match answer {
-        Checked::Accepted(l) => report(job, l),
-        Checked::Refused { number, index } => refuse(number, index),
+    match job::check(job) {
+        Ok(l) => report(job, l),
+        Err(r) => refuse(r),
     }
 }
 

@@ -36,27 +36,23 @@ fn run_one(name: &[u8], bytes: &[u8], s: Settings)
     let mut levels = [0u8; 64];
     let mut values = [0i32; 64];
     let mut lines = [0u8; 1280];
-    let count = s.words;
-    let room = s.room;
-    let area = s.lines;
     run_lent(
         name,
         bytes,
         s.budget,
-        &mut words[..count],
-        &mut levels[..room],
-        &mut values[..room],
-        &mut lines[..area],
+        &mut words[..s.words],
+        &mut levels[..s.room],
+        &mut values[..s.room],
+        &mut lines[..s.lines],
     );
 }
 
 // What stands before the colon is the job's name and what it is run with, what stands behind it the job. A line with no colon, or with # in front, is
 // none.
 fn run_line(line: &[u8]) {
-    let colon = find(line, 0, b':');
-    if colon == line.len() {
+    let Some(colon) = line.iter().position(|b| *b == b':') else {
         return;
-    }
+    };
     if line[0] == b'#' {
         return;
     }
@@ -67,17 +63,10 @@ fn run_line(line: &[u8]) {
     run_one(&line[..comma], &bytes[..n], s);
 }
 
-fn run_lines(lines: &[u8]) {
-    let mut from = 0;
-    while from < lines.len() {
-        let end = find(lines, from, b'\n');
-        run_line(&lines[from..end]);
-        from = end + 1;
-    }
-}
-
 fn main() {
     let mut lines = io::large_buffer();
     let n = io::read_full(STDIN_FILENO, &mut lines);
-    run_lines(&lines[..n]);
+    for line in lines[..n].split(|b| *b == b'\n') {
+        run_line(line);
+    }
 }

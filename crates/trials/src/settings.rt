@@ -12,13 +12,6 @@ pub struct Settings {
     pub lines: usize,
 }
 
-// The first number, or the second where that is less.
-pub fn at_most(n: usize, most: usize) -> usize
-    ensures { result ≤ most }
-{
-    if n < most { n } else { most }
-}
-
 // Each number ends where the next word begins: the first p behind the comma is that of places, the first r behind that the one of room, and the first
 // l behind that the one of lines.
 pub fn read(text: &[u8]) -> Settings
@@ -29,9 +22,9 @@ pub fn read(text: &[u8]) -> Settings
     let r = find(text, p, b'r');
     let l = find(text, r, b'l');
     let budget = decimal(&text[comma..p]);
-    let places = at_most(decimal(&text[p..r]), 513);
-    let room = at_most(decimal(&text[r..l]), 64);
-    let lines = at_most(decimal(&text[l..]), 256);
+    let places = decimal(&text[p..r]).min(513);
+    let room = decimal(&text[r..l]).min(64);
+    let lines = decimal(&text[l..]).min(256);
     Settings {
         budget: budget as u64,
         words: 10 * places,

@@ -2,7 +2,6 @@
 use Rattle.rules.specs.Job.{label_of}
 use Rattle.rules.specs.Summary.{carried}
 use Rattle.fields.specs.Fields.{levels_of}
-use borrow.Author.Rules.{rules}
 use Rattle.summary.proofs.parties_at.Goals as goal
 
 pub returns : goal.returns

@@ -1,8 +1,0 @@
-use Rattle.std.proofs.Common.{◌-◌, length, rules}
-use Rattle.trials.proofs.run_lines.Given as goal
-
-abbrev pub invariant-loop-from : goal.invariant-loop-from
-invariant-loop-from l = Unit
-
-abbrev pub decreases-loop-from : goal.decreases-loop-from
-decreases-loop-from l = length l.lines - l.from
