@@ -13,7 +13,7 @@ fn place(text: &[u8], c: u8) -> Option<usize>
     text.iter().position(|b| *b == c)
 }
 
-// The first place from `from` on with the character, or the length.
+// The first place from `from` on with the character, or the length: callers cut the text there, and where the character is missing they want all the rest.
 pub fn find(text: &[u8], from: usize, c: u8) -> usize
     requires { from ≤ length text.now }
     ensures bounds { (from ≤ result) × (result ≤ length text.now) }
@@ -125,7 +125,8 @@ fn repeat(text: &[u8], often: usize, bytes: &mut [u8], n: usize) -> usize
     count
 }
 
-// The bytes of a job in text form, as far as there is room, and how many there are.
+// The bytes of a job in text form, as far as there is room, and how many there are. No index is counted: a turn goes on behind the bracket that it has
+// come to. Brackets that do not match rule out a split at them.
 pub fn expand(text: &[u8], bytes: &mut [u8]) -> usize
     ensures prefix_len { IsPrefixLen result bytes.new × (result ≡ min (length (spelled text.now)) (length bytes.old)) }
     ensures bytes_after { bytes.new ≡ placed bytes.old 0 (spelled text.now) }

@@ -28,7 +28,7 @@ fn run_lent(
     report::show(name, o, lines, values, variables_of(bytes));
 }
 
-// Lends a job buffers of the lengths that it asks for.
+// Lends a job buffers of the lengths that it asks for, each cut on its own: what a run does with buffers that do not fit is tried too.
 fn run_one(name: &[u8], bytes: &[u8], s: Settings)
     requires { (s.words ≤ 5130) × (s.room ≤ 64) × (s.lines ≤ 1280) }
 {

@@ -10,7 +10,7 @@ const STDIN_FILENO: i32 = 0;
 
 const STDOUT_FILENO: i32 = 1;
 
-// Prints bytes and a number behind them.
+// Prints bytes and a number behind them. Out of print would do it too, but brings all that a run stands on, and here the checks stand alone.
 fn item(name: &[u8], n: u64) {
     io::write_all(STDOUT_FILENO, name);
     io::print_decimal(STDOUT_FILENO, n);
