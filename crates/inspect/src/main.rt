@@ -10,106 +10,43 @@ ghost use Rattle.std.specs.Prelude.{◌≤◌};
 use monitor::{Outcome, run_words};
 use print::answer::Answer;
 use print::runner::{AREA, BUDGET, VARIABLES, WORDS, variables_of};
-use print::{Out, SIZE, answer};
+use print::{Out, answer};
 use rules::numbers::bits;
 
 // The file descriptor of standard input.
 const STDIN_FILENO: i32 = 0;
 
 // The ending with its name, and the record.
-fn ending(buf: &mut [u8; SIZE], out: Out, a: Answer) -> Out
-    requires { out.used ≤ 65536 }
-    ensures { result.used ≤ 65536 }
-{
-    let mut r = print::item(buf, out, b"ending ", a.ending as u64);
-    r = print::byte(buf, r, b' ');
-    r = names::name(buf, r, a.ending);
-    r = print::item(buf, r, b"\nrecord ", a.index as u64);
-    print::byte(buf, r, b'\n')
+fn ending(out: &mut Out, a: Answer) {
+    out.item(b"ending ", u64::from(a.ending));
+    out.byte(b' ');
+    out.text(names::name(a.ending));
+    out.item(b"\nrecord ", a.index as u64);
+    out.byte(b'\n');
 }
 
 // The steps and the board lines.
-fn board(buf: &mut [u8; SIZE], out: Out, a: Answer, lines: &[u8]) -> Out
-    requires { out.used ≤ 65536 }
-    ensures { result.used ≤ 65536 }
-{
-    let mut r = print::item(buf, out, b"steps ", a.steps as u64);
-    r = print::item(buf, r, b"\nlines ", a.lines as u64);
-    r = print::byte(buf, r, b'\n');
-    print::lines(buf, r, b"  ", lines, a.lines)
+fn board(out: &mut Out, a: Answer, lines: &[u8]) {
+    out.item(b"steps ", u64::from(a.steps));
+    out.item(b"\nlines ", a.lines as u64);
+    out.byte(b'\n');
+    out.lines(b"  ", lines, a.lines);
 }
 
-fn variable(buf: &mut [u8; SIZE], out: Out, i: usize, level: u8, value: i32) -> Out
-    requires { out.used ≤ 65536 }
-    ensures { result.used ≤ 65536 }
-{
-    let mut r = print::item(buf, out, b"  ", i as u64);
-    r = print::item(buf, r, b": level ", wide(level));
-    r = print::text(buf, r, b", value ");
-    r = print::signed(buf, r, bits(value));
-    print::byte(buf, r, b'\n')
-}
-
-// The first n variables, each on a line of its own.
-fn each(
-    buf: &mut [u8; SIZE],
-    out: Out,
-    n: usize,
-    levels: &[u8; VARIABLES],
-    values: &[i32; VARIABLES],
-) -> Out
-    requires { (out.used ≤ 65536) × (n ≤ 64) }
-    ensures { result.used ≤ 65536 }
-{
-    let mut r = out;
-    let mut i = 0;
-    while i < n {
-        r = variable(buf, r, i, levels[i], values[i]);
-        i += 1;
+// The first n variables with their levels, each on a line of its own.
+fn variables(out: &mut Out, n: usize, levels: &[u8; VARIABLES], values: &[i32; VARIABLES]) {
+    out.item(b"variables ", n as u64);
+    out.byte(b'\n');
+    for (i, (level, value)) in levels.iter().zip(values).take(n).enumerate() {
+        out.item(b"  ", i as u64);
+        out.item(b": level ", u64::from(*level));
+        out.text(b", value ");
+        out.signed(bits(*value));
+        out.byte(b'\n');
     }
-    r
 }
 
-// The variables with their levels.
-fn variables(
-    buf: &mut [u8; SIZE],
-    out: Out,
-    n: usize,
-    levels: &[u8; VARIABLES],
-    values: &[i32; VARIABLES],
-) -> Out
-    requires { (out.used ≤ 65536) × (n ≤ 64) }
-    ensures { result.used ≤ 65536 }
-{
-    let mut r = print::item(buf, out, b"variables ", n as u64);
-    r = print::byte(buf, r, b'\n');
-    each(buf, r, n, levels, values)
-}
-
-fn wide(x: u8) -> u64 {
-    x as u64
-}
-
-// What a run has left: its lines, its variables and its tree.
-fn left(
-    buf: &mut [u8; SIZE],
-    out: Out,
-    a: Answer,
-    n: usize,
-    words: &[u32; WORDS],
-    levels: &[u8; VARIABLES],
-    values: &[i32; VARIABLES],
-    lines: &[u8],
-) -> Out
-    requires { (out.used ≤ 65536) × (n ≤ 64) }
-    ensures { result.used ≤ 65536 }
-{
-    let mut r = board(buf, out, a, lines);
-    r = variables(buf, r, n, levels, values);
-    tree::show(buf, r, words)
-}
-
-// What became of a job, and what its run has left if it was run.
+// What became of a job, and its lines, its variables and its tree if it was run.
 fn show(
     job: &[u8],
     o: Outcome,
@@ -119,23 +56,14 @@ fn show(
     lines: &[u8],
 ) {
     let a = answer::of(o);
-    let mut buf = io::large_buffer();
-    let mut out = ending(&mut buf, print::to(print::OUTPUT), a);
+    let mut out = Out::to(print::OUTPUT);
+    ending(&mut out, a);
     if answer::was_run(o) {
-        out = left(
-            &mut buf,
-            out,
-            a,
-            variables_of(job),
-            words,
-            levels,
-            values,
-            lines,
-        );
-        print::flush(&buf, out);
-    } else {
-        print::flush(&buf, out);
+        board(&mut out, a, lines);
+        variables(&mut out, variables_of(job), levels, values);
+        tree::show(&mut out, words);
     }
+    out.flush();
 }
 
 fn run(job: &[u8]) {
