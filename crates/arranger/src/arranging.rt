@@ -26,7 +26,7 @@ fn put(job: &mut [u8], base: usize, old: &[u8], i: usize, at: usize, parent: usi
     copy(job, to + 2, old, NODE_SIZE * i + 2, NODE_SIZE - 2);
 }
 
-// The new index of the parent of record i.
+// The new index of the parent of record i; of the root the number that stands for none in a record's bytes, so no option.
 fn new_parent(old: &[u8], own: &[usize], i: usize) -> usize
     requires { (node_place 0 i + node_size ≤ length old.now) × ((i ≡ 0 → ⊥) → parent old.now 0 i < length own.now) }
     ensures { result ≡ new_parent old.now own.now i }

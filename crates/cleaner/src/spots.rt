@@ -99,7 +99,7 @@ fn reads_right(job: &[u8], at: usize, reads: Row) -> bool
     reads.expression & (job[at + 2] != ALONE)
 }
 
-// Which bytes the record at a place reads; to the cleaner it holds no sets.
+// Which bytes the record at a place reads, one truth for each as the format has them; to the cleaner it holds no sets.
 fn record_reads(job: &[u8], at: usize) -> [bool; RECORD_SIZE]
     requires { at + record_size ≤ length job.now }
     ensures { result ≡ record_reads job.now at false }

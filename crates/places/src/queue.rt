@@ -1,4 +1,5 @@
-// Which places have an unended run, the one whose turn is next first. Places behind `count` are free, so each of the eight stands in `order` once.
+// Which places have an unended run, the one whose turn is next first. Places behind `count` are free, so each of the eight stands in `order` once: no buffer
+// with a length, whose rest would mean nothing.
 ghost use Rattle.std.specs.Prelude.{◌≡◌, ◌<◌};
 ghost use Rattle.rules.specs.Limits.{max_runs};
 ghost use Rattle.places.specs.Queue.{Whole, ordered, first_free, front, rotated, at_back, taken_off, moved_back, all_free, after_join, after_pass, after_leave};

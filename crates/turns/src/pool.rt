@@ -41,7 +41,7 @@ pub struct Pool {
     pub places: [Place; MAX_RUNS],
 }
 
-// What is handed back; a turn took so many steps.
+// What is handed back, in four cases, of which none is an error; a turn took so many steps.
 #[derive(Clone, Copy, Debug, PartialEq, Eq)]
 pub enum Reply {
     Idle,
