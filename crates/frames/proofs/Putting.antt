@@ -1,11 +1,9 @@
 -- Laws of pieces: one behind the other, and a line whose numbers are known. Assumes nothing.
 use mathlib.Core.List.{List, [], ◌∷◌, ◌++◌}
-use mathlib.Core.Path.{◌≡◌, refl, sym, ◌∙◌, ap, subst}
+use mathlib.Core.Path.{◌≡◌, sym, ◌∙◌, ap, subst}
 use native.Mathlib.Numerals.{add-one}
-use Prim.Native.Nat.{ℕ, suc, ◌+◌}
-use lib.ListN.{take}
-use Rattle.print.specs.declared.Out.{Out}
-use Rattle.print.specs.Waiting.{push, pushes, Row}
+use Prim.Native.Nat.{ℕ, ◌+◌}
+use Rattle.print.specs.Waiting.{Output, push, pushes, Row}
 use Rattle.frames.specs.Pieces.{Piece, row, Puts, none, more, Writes, first}
 
 pub joined : {ps qs : List Piece} {w u v : List ℕ} → Puts ps w u → Puts qs u v → Puts (ps ++ qs) w v
@@ -21,12 +19,12 @@ pub paired : (w : List ℕ) {u v : List ℕ} {x x' y y' : ℕ} → u ≡ push w 
 unfolding pushes
 paired w {x' = x} {y = y} a b e f = b ∙ ap (λ u. push u y) a ∙ ap (λ z. push (push w z) y) e ∙ ap (push (push w x)) f
 
-module _ {out r s : Out} {b c d : List ℕ} where
+module _ {o p q : Output} where
   -- pieces, and then others
-  pub after : {ps qs : List Piece} → Writes ps out b r c → Writes qs r c s d → Writes (ps ++ qs) out b s d
+  pub after : {ps qs : List Piece} → Writes ps o p → Writes qs p q → Writes (ps ++ qs) o q
   after x y = record { same = y.same ∙ x.same; puts = joined x.puts y.puts }
 
   -- the first of something, and the next
-  pub onward : (f : ℕ → Piece) (i : ℕ) → Writes (first f i) out b r c → Writes (f i ∷ []) r c s d → Writes (first f (i + 1)) out b s d
+  pub onward : (f : ℕ → Piece) (i : ℕ) → Writes (first f i) o p → Writes (f i ∷ []) p q → Writes (first f (i + 1)) o q
   unfolding first
-  onward f i x y = subst (λ n. Writes (first f n) out b s d) (sym (add-one i)) (after x y)
+  onward f i x y = subst (λ n. Writes (first f n) o q) (sym (add-one i)) (after x y)

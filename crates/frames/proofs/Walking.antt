@@ -1,17 +1,16 @@
 -- A walk over a tree in preorder puts the tree's lines, node by node. Assumes nothing.
-use mathlib.Core.Bool.{Bool, true, false, not}
 use mathlib.Core.List.{List, [], ◌∷◌, ◌++◌}
 use mathlib.Core.Path.{◌≡◌, refl, sym, ◌∙◌, ap, subst}
 use native.Mathlib.Numerals.{add-one}
 use native.Mathlib.Omega.{arith}
 use Prim.Native.Nat.{ℕ, zero, suc, ◌+◌}
-use lib.ListN.{length, take, drop}
+use lib.ListN.{take, drop}
 use lib.Seq.{take_all}
-use Rattle.rules.specs.Tree.{Forest, nil, tree, child, sibling, Place, root, to, sub, along, label}
+use Rattle.rules.specs.Tree.{Forest, nil, tree, child, sibling, Place, root, to, sub, along, label, size}
 use Rattle.table.specs.Cells.{Table}
-use Rattle.print.specs.declared.Out.{Out}
-use Rattle.print.specs.Preorder.{Stop, stop, preorder, Stands, Goes}
-use Rattle.print.proofs.Visiting.{length_preorder, counted}
+use Rattle.print.specs.Waiting.{Output}
+use Rattle.print.specs.Preorder.{Stop, stop, preorder, Stands}
+use Rattle.print.proofs.Visiting.{length_preorder}
 use Rattle.frames.specs.Pieces.{Piece, Writes}
 use Rattle.frames.specs.Answers.{node_row, tree_rows}
 use Rattle.frames.proofs.Putting.{after}
@@ -44,20 +43,19 @@ taken zero (x ∷ l) e = cc e
 taken (suc k) [] e = cc e
 taken (suc k) (x ∷ l) e = ap (λ m. x ∷ m) (taken k l e)
 
-module _ {m : Table} {n used free : ℕ} {t : Forest} {k : ℕ} {out r : Out} {b c : List ℕ} where
+module _ {m : Table} {n used free : ℕ} {t : Forest} {k : ℕ} {o p : Output} where
   -- a node more
-  pub visited : {s : Out} {d : List ℕ} {x e : ℕ} (at : Stands m n used free t k x e) → Writes (rows t (take k (preorder root 0 t))) out b r c
-      → Writes (node_row e (label (sub at.place t)) ∷ []) r c s d → Writes (rows t (take (k + 1) (preorder root 0 t))) out b s d
+  pub visited : {q : Output} {x e : ℕ} (at : Stands m n used free t k x e) → Writes (rows t (take k (preorder root 0 t))) o p
+      → Writes (node_row e (label (sub at.place t)) ∷ []) p q → Writes (rows t (take (k + 1) (preorder root 0 t))) o q
   unfolding rows
-  visited {s} {d} at x y =
-      subst (λ ps. Writes ps out b s d)
+  visited {q} at x y =
+      subst (λ ps. Writes ps o q)
       (sym (ap (λ j. rows t (take j (preorder root 0 t))) (add-one k) ∙ ap (rows t) (taken k (preorder root 0 t) at.ahead) ∙ rows_append t (take k (preorder root 0 t)) _))
       (after x y)
 
-  -- all of them
-  pub over : {found : Bool} {x e : ℕ} → Goes m n used free t (suc k) found x e → not found ≡ true → Writes (rows t (take (k + 1) (preorder root 0 t))) out b r c
-      → Writes (tree_rows 0 t) out b r c
-  unfolding sub
-  over g end x =
-      subst (λ ps. Writes ps out b r c)
-      (ap (rows t) (take_all (k + 1) (preorder root 0 t) (omega (arith, length_preorder root 0 t, counted g end))) ∙ all_rows t root 0 t refl) x
+-- all of them
+pub over : (t : Forest) {k : ℕ} {o p : Output} → size t ≡ suc k → Writes (rows t (take (k + 1) (preorder root 0 t))) o p → Writes (tree_rows 0 t) o p
+unfolding sub
+over t {k} {o} {p} end x =
+    subst (λ ps. Writes ps o p)
+    (ap (rows t) (take_all (k + 1) (preorder root 0 t) (omega (arith, length_preorder root 0 t, end))) ∙ all_rows t root 0 t refl) x

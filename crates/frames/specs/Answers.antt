@@ -1,5 +1,5 @@
 -- What answers say: of a run its four numbers, lines, variables and tree; of a table its records; of bytes their digits. Assumes nothing.
-use Rattle.std.specs.Prelude.{Bool, true, false, cond, List, [], ◌∷◌, ◌++◌, ◌≡◌, ℕ, suc, ◌+◌, ◌-◌, ◌/◌, ◌%◌, min, ltb, ℤ, pos, length, get_or}
+use Rattle.std.specs.Prelude.{true, false, cond, List, [], ◌∷◌, ◌++◌, ◌≡◌, ℕ, suc, ◌+◌, ◌-◌, ◌/◌, ◌%◌, min, ltb, ℤ, pos, length, get_or}
 use Rattle.rules.specs.Number.{bits}
 use Rattle.rules.specs.Outcome.{Answer}
 use Rattle.rules.specs.Tree.{Label, Forest, nil, tree, Place}
@@ -10,7 +10,7 @@ use Rattle.lent.specs.Lent.{node_of}
 use Rattle.monitor.specs.declared.entry.Outcome.{Outcome}
 use Rattle.monitor.specs.Promises.{answer_of}
 use Rattle.print.specs.Answers.{ran}
-use Rattle.print.specs.declared.Out.{Out}
+use Rattle.print.specs.Waiting.{Output}
 use Rattle.frames.specs.Pieces.{Piece, text, item, row, board, Writes, first}
 
 -- "ending 0 index 0 steps 0 lines 0", and a line's end
@@ -49,10 +49,10 @@ unfoldable pub run_pieces : Answer → ℕ → List ℕ → List ℤ → List �
 run_pieces a n levels values area t = answer_on a ++ (board_lines area a.lines ∷ (variable_rows n levels values ++ tree_rows 0 t))
 
 -- what became of a job or a script: the answer alone where it was turned back, else the run's, whatever tree its table holds
-pub record Shows (o : Outcome) (n places : ℕ) (words levels : List ℕ) (values : List ℤ) (area : List ℕ) (out : Out) (b : List ℕ) (r : Out) (c : List ℕ) : Type 0 where
-  pub refused : ran o ≡ false → Writes (answer_on (answer_of o)) out b r c
+pub record Shows (o : Outcome) (n places : ℕ) (words levels : List ℕ) (values : List ℤ) (area : List ℕ) (before after : Output) : Type 0 where
+  pub refused : ran o ≡ false → Writes (answer_on (answer_of o)) before after
   pub run : ran o ≡ true → (used free x : ℕ) (t : Forest) (p : Place) → Holds (cells words) places used free x t p
-      → Writes (run_pieces (answer_of o) n levels values area t) out b r c
+      → Writes (run_pieces (answer_of o) n levels values area t) before after
 
 -- of a place's record: place, first child, right sibling, parent, count of children, value, the three levels, left sibling and last child
 abbrev pub numbers : ℕ → Node → List ℕ

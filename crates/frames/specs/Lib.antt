@@ -1,5 +1,4 @@
 pub mod Answers
-pub mod Bounds
 pub mod Header
 pub mod Input
 pub mod Pieces

@@ -1,7 +1,6 @@
 -- What answers are made of, piece by piece, and what each leaves waiting. Assumes nothing.
-use Rattle.std.specs.Prelude.{List, [], ◌∷◌, ◌++◌, ◌≡◌, ℕ, zero, suc, take}
-use Rattle.print.specs.declared.Out.{Out}
-use Rattle.print.specs.Waiting.{pushes, Number, Row, Listed}
+use Rattle.std.specs.Prelude.{List, [], ◌∷◌, ◌++◌, ◌≡◌, ℕ, zero, suc}
+use Rattle.print.specs.Waiting.{Output, pushes, Number, Row, Listed}
 
 -- a text; a number behind a name; a line of a name and numbers, the one at a place signed; the first n board lines of an area, each behind a name
 pub data Piece : Type 0 where
@@ -22,10 +21,10 @@ pub data Puts : List Piece → List ℕ → List ℕ → Type 0 where
   none : {w : List ℕ} → Puts [] w w
   more : {p : Piece} {ps : List Piece} {w u v : List ℕ} → Put p w u → Puts ps u v → Puts (p ∷ ps) w v
 
--- a call that puts pieces: from what waits in the buffer b to what waits in c
-pub record Writes (ps : List Piece) (out : Out) (b : List ℕ) (r : Out) (c : List ℕ) : Type 0 where
-  pub same : r.fd ≡ out.fd
-  pub puts : Puts ps (take out.used b) (take r.used c)
+-- a call that puts pieces
+pub record Writes (ps : List Piece) (o p : Output) : Type 0 where
+  pub same : p.fd ≡ o.fd
+  pub puts : Puts ps o.waits p.waits
 
 -- the pieces of the first n of something
 unfoldable pub first : (ℕ → Piece) → ℕ → List Piece

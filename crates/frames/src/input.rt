@@ -1,23 +1,29 @@
 // Standard input, read in blocks and handed out in parts of any length.
-ghost use Rattle.std.specs.Prelude.{[], ◌≤◌, length};
-ghost use Rattle.frames.specs.Bounds.{Inside};
+ghost use Rattle.std.specs.Prelude.{◌≡◌, [], ◌∷◌, ◌≤◌, length, MatchOption};
 ghost use Rattle.frames.specs.Input.{Ready, Takes};
 
 use print::SIZE;
 use std::io::{Read, Stdin};
+use std::marker::Model;
 
-// The bytes of the block that are read and not yet handed out.
-#[derive(Clone, Copy)]
-pub struct Span {
-    pub from: usize,
-    pub end: usize,
+// The block that was read last, of which the bytes between two places are not yet handed out.
+#[derive(Drop)]
+pub struct Input {
+    stdin: Stdin,
+    block: [u8; SIZE],
+    from: usize,
+    end: usize,
 }
 
-// How many bytes came, and what is left of the block.
-#[derive(Drop)]
-pub struct Taken {
-    pub count: usize,
-    pub span: Span,
+// Clauses see the bytes that are left of the block.
+impl Model for Input {
+    ghost use Rattle.std.specs.Prelude.{ℕ, List, ◌≤◌, take, drop};
+
+    ghost Value = { List ℕ };
+
+    ghost view = { λ i. drop i.from (take i.end i.block) };
+
+    ghost invariant = { λ i. (i.from ≤ i.end) × (i.end ≤ 65536) };
 }
 
 // Reads once, and says how many bytes came: none where the input has ended or the read fails.
@@ -25,78 +31,80 @@ fn refill(stdin: Stdin, block: &mut [u8]) -> usize
     ensures { result ≤ length block.new }
 {
     let mut input = stdin;
-    match input.read(block) {
-        Ok(count) => count,
-        Err(_) => 0,
-    }
+    input.read(block).unwrap_or(0)
 }
 
-// The span, or where it is empty that of the next block, which is empty where the input has ended.
-pub(crate) fn ready(stdin: Stdin, block: &mut [u8; SIZE], span: Span) -> Span
-    requires { Inside span }
-    ensures inside { Inside result }
-    ensures ready { Ready block.old span block.new result }
-{
-    if span.from < span.end {
-        return span;
+impl Input {
+    // Before the first byte: no block has been read.
+    pub fn of(stdin: Stdin) -> Self
+        ensures { result ≡ [] }
+    {
+        Input {
+            stdin,
+            block: [0; SIZE],
+            from: 0,
+            end: 0,
+        }
     }
-    let end = refill(stdin, block);
-    Span { from: 0, end }
-}
 
-// Puts the next bytes of the input into `to`, as far as it has so many.
-pub(crate) fn take(stdin: Stdin, block: &mut [u8; SIZE], span: Span, to: &mut [u8]) -> Taken
-    requires { Inside span }
-    ensures inside { Inside result.span }
-    ensures takes { Takes block.old span (length to.old) to.old to.new block.new result }
-{
-    let mut s = span;
-    let mut count = 0;
-    while count < to.len() {
-        s = ready(stdin, block, s);
-        let from = s.from;
-        let end = s.end;
-        if from >= end {
-            return Taken { count, span: s };
-        }
-        to[count] = block[from];
-        s = Span {
-            from: from + 1,
-            end,
-        };
-        count += 1;
+    // How many bytes are left of the block.
+    pub(crate) fn left(&self) -> usize
+        ensures { result ≡ length self.now }
+    {
+        self.end - self.from
     }
-    Taken { count, span: s }
-}
 
-// Drops the next n bytes of the input, as far as it has so many: they are put nowhere.
-pub(crate) fn skip(stdin: Stdin, block: &mut [u8; SIZE], span: Span, n: usize) -> Taken
-    requires { Inside span }
-    ensures inside { Inside result.span }
-    ensures takes { Takes block.old span n [] [] block.new result }
-{
-    let mut s = span;
-    let mut count = 0;
-    while count < n {
-        s = ready(stdin, block, s);
-        let from = s.from;
-        let end = s.end;
-        if from >= end {
-            return Taken { count, span: s };
+    // Where nothing is left of the block, reads the next, which is empty where the input has ended.
+    pub(crate) fn ready(&mut self)
+        ensures { Ready self.old self.new }
+    {
+        if self.from < self.end {
+            return;
         }
-        let have = end - from;
-        let left = n - count;
-        if have >= left {
-            return Taken {
-                count: n,
-                span: Span {
-                    from: from + left,
-                    end,
-                },
-            };
-        }
-        count += have;
-        s = Span { from: end, end };
+        self.end = refill(self.stdin, &mut self.block);
+        self.from = 0;
     }
-    Taken { count, span: s }
+
+    // The next byte; none where the input has ended.
+    fn byte(&mut self) -> Option<u8>
+        ensures { MatchOption result ((self.old ≡ []) × (self.new ≡ [])) (λ x. Ready self.old (x ∷ self.new)) }
+    {
+        self.ready();
+        if self.from == self.end {
+            return None;
+        }
+        let b = self.block[self.from];
+        self.from += 1;
+        Some(b)
+    }
+
+    // Puts the next bytes into `to`, as far as the input has so many, and says how many came.
+    pub(crate) fn take(&mut self, to: &mut [u8]) -> usize
+        ensures { Takes self.old (length to.old) to.old to.new self.new result }
+    {
+        for (i, place) in to.iter_mut().enumerate() {
+            match self.byte() {
+                Some(b) => *place = b,
+                None => return i,
+            }
+        }
+        to.len()
+    }
+
+    // Drops the next n bytes, as far as the input has so many, and says how many came: they are put nowhere. A turn drops all that is wanted of a block.
+    pub(crate) fn skip(&mut self, n: usize) -> usize
+        ensures { Takes self.old n [] [] self.new result }
+    {
+        let mut count = 0;
+        while count < n {
+            self.ready();
+            let k = self.left().min(n - count);
+            if k == 0 {
+                return count;
+            }
+            self.from += k;
+            count += k;
+        }
+        count
+    }
 }

@@ -12,7 +12,7 @@ ghost use Rattle.frames.specs.Answers.{Shows, answer_line, variable_row, variabl
 use monitor::Outcome;
 use print::answer::Answer;
 use print::preorder::Visit;
-use print::{Out, SIZE, answer, preorder};
+use print::{Out, answer, preorder};
 use rules::numbers::bits;
 use table::node;
 
@@ -21,106 +21,80 @@ pub const PLACES: usize = 513;
 
 pub const WORDS: usize = table::CELL * PLACES;
 
-fn wide(x: u8) -> u32
-    ensures { result ≡ x }
-{
-    x as u32
-}
-
 // The four numbers of an answer.
-pub fn put_answer(buf: &mut [u8; SIZE], out: Out, a: Answer) -> Out
-    requires { out.used ≤ 65536 }
-    ensures used_bound { result.used ≤ 65536 }
-    ensures writes { Writes (answer_line a.ending a.index a.steps a.lines) out buf.old result buf.new }
+pub fn put_answer(out: &mut Out, a: Answer)
+    ensures { Writes (answer_line a.ending a.index a.steps a.lines) out.old out.new }
 {
-    let mut r = print::item(buf, out, b"ending ", a.ending as u64);
-    r = print::item(buf, r, b" index ", a.index as u64);
-    r = print::item(buf, r, b" steps ", a.steps as u64);
-    r = print::item(buf, r, b" lines ", a.lines as u64);
-    print::byte(buf, r, b'\n')
+    out.item(b"ending ", u64::from(a.ending));
+    out.item(b" index ", a.index as u64);
+    out.item(b" steps ", u64::from(a.steps));
+    out.item(b" lines ", a.lines as u64);
+    out.byte(b'\n');
 }
 
-fn put_variable(buf: &mut [u8; SIZE], out: Out, level: u8, value: i32) -> Out
-    requires { out.used ≤ 65536 }
-    ensures used_bound { result.used ≤ 65536 }
-    ensures writes { Writes (variable_row level value ∷ []) out buf.old result buf.new }
+fn put_variable(out: &mut Out, level: u8, value: i32)
+    ensures { Writes (variable_row level value ∷ []) out.old out.new }
 {
-    let numbers = [wide(level), bits(value)];
-    print::row(buf, out, b"variable", &numbers, 1)
+    out.row(b"variable", &[u32::from(level), bits(value)], 1);
 }
 
 // The first n variables, a line for each.
-pub fn put_variables(buf: &mut [u8; SIZE], out: Out, n: usize, levels: &[u8], values: &[i32]) -> Out
-    requires { (out.used ≤ 65536) × (n ≤ length levels.now) × (n ≤ length values.now) }
-    ensures used_bound { result.used ≤ 65536 }
-    ensures writes { Writes (variable_rows n levels.now values.now) out buf.old result buf.new }
+pub fn put_variables(out: &mut Out, n: usize, levels: &[u8], values: &[i32])
+    requires { (n ≤ length levels.now) × (n ≤ length values.now) }
+    ensures { Writes (variable_rows n levels.now values.now) out.old out.new }
 {
-    let mut r = out;
-    let mut i = 0;
-    while i < n {
-        r = put_variable(buf, r, levels[i], values[i]);
-        i += 1;
+    for i in 0..n {
+        put_variable(out, levels[i], values[i]);
     }
-    r
 }
 
-fn put_node(buf: &mut [u8; SIZE], out: Out, words: &[u32], places: usize, v: Visit) -> Out
-    requires { (out.used ≤ 65536) × Within words.now places v.place × (v.depth ≤ 512) }
-    ensures used_bound { result.used ≤ 65536 }
-    ensures whenever { Whenever (cells words.now) places v.place (λ t p. Writes (node_row v.depth (label (sub p t)) ∷ []) out buf.old result buf.new) }
+fn put_node(out: &mut Out, words: &[u32], places: usize, v: Visit)
+    requires { Within words.now places v.place × (v.depth ≤ 512) }
+    ensures { Whenever (cells words.now) places v.place (λ t p. Writes (node_row v.depth (label (sub p t)) ∷ []) out.old out.new) }
 {
     let at = v.place;
     let numbers = [
         v.depth as u32,
-        wide(node::existence(words, places, at)),
-        wide(node::content(words, places, at)),
-        wide(node::structure(words, places, at)),
+        u32::from(node::existence(words, places, at)),
+        u32::from(node::content(words, places, at)),
+        u32::from(node::structure(words, places, at)),
         node::value(words, places, at),
     ];
-    print::row(buf, out, b"node", &numbers, 4)
+    out.row(b"node", &numbers, 4);
 }
 
 // The tree in a table of places, a line for each node in preorder.
-fn put_tree(buf: &mut [u8; SIZE], out: Out, words: &[u32], places: usize) -> Out
-    requires { (out.used ≤ 65536) × Within words.now places 0 }
-    ensures used_bound { result.used ≤ 65536 }
-    ensures by_index { (used free x : ℕ) (t : Forest) (p : Place) → Holds (cells words.now) places used free x t p
-        → Writes (tree_rows 0 t) out buf.old result buf.new }
+fn put_tree(out: &mut Out, words: &[u32], places: usize)
+    requires { Within words.now places 0 }
+    ensures { (used free x : ℕ) (t : Forest) (p : Place) → Holds (cells words.now) places used free x t p → Writes (tree_rows 0 t) out.old out.new }
 {
-    let mut r = out;
     let mut v = preorder::first();
-    let mut k = 0;
-    while k < places {
-        r = put_node(buf, r, words, places, v);
-        v = preorder::next(words, places, v);
-        if !v.found {
-            return r;
-        }
-        k += 1;
+    for k in 0..places {
+        put_node(out, words, places, v);
+        let Some(next) = preorder::next(words, places, v) else {
+            return;
+        };
+        v = next;
     }
-    r
 }
 
 // The tree of a run that was lent so many places.
-fn put_lent_tree(buf: &mut [u8; SIZE], out: Out, words: &[u32], places: usize) -> Out
-    requires { (out.used ≤ 65536) × (5120 ≤ length words.now) }
-    ensures used_bound { result.used ≤ 65536 }
-    ensures by_index { (used free x : ℕ) (t : Forest) (p : Place) → Holds (cells words.now) places used free x t p
-        → Writes (tree_rows 0 t) out buf.old result buf.new }
+fn put_lent_tree(out: &mut Out, words: &[u32], places: usize)
+    requires { 5120 ≤ length words.now }
+    ensures { (used free x : ℕ) (t : Forest) (p : Place) → Holds (cells words.now) places used free x t p → Writes (tree_rows 0 t) out.old out.new }
 {
     if places < 1 {
-        return out;
+        return;
     }
     if places > 512 {
-        return out;
+        return;
     }
-    put_tree(buf, out, words, places)
+    put_tree(out, words, places);
 }
 
 // What became of a run: n variables, places of a table and an area for lines were lent to it. The words are at least those of the largest table.
 pub fn put_run(
-    buf: &mut [u8; SIZE],
-    out: Out,
+    out: &mut Out,
     o: Outcome,
     n: usize,
     places: usize,
@@ -128,25 +102,23 @@ pub fn put_run(
     levels: &[u8],
     values: &[i32],
     lines: &[u8],
-) -> Out
-    requires { (out.used ≤ 65536) × (5120 ≤ length words.now) × (n ≤ length levels.now) × (n ≤ length values.now) }
-    ensures used_bound { result.used ≤ 65536 }
-    ensures shows { Shows o n places words.now levels.now values.now lines.now out buf.old result buf.new }
+)
+    requires { (5120 ≤ length words.now) × (n ≤ length levels.now) × (n ≤ length values.now) }
+    ensures { Shows o n places words.now levels.now values.now lines.now out.old out.new }
 {
     let a = answer::of(o);
-    let mut r = put_answer(buf, out, a);
+    put_answer(out, a);
     if !answer::was_run(o) {
-        return r;
+        return;
     }
-    r = print::lines(buf, r, b"line ", lines, a.lines);
-    r = put_variables(buf, r, n, levels, values);
-    put_lent_tree(buf, r, words, places)
+    out.lines(b"line ", lines, a.lines);
+    put_variables(out, n, levels, values);
+    put_lent_tree(out, words, places);
 }
 
-// The same with a table of its own.
+// The same with a table of its own, which has as many words as any: of the words nothing is required.
 pub fn put(
-    buf: &mut [u8; SIZE],
-    out: Out,
+    out: &mut Out,
     o: Outcome,
     n: usize,
     places: usize,
@@ -154,18 +126,16 @@ pub fn put(
     levels: &[u8],
     values: &[i32],
     lines: &[u8],
-) -> Out
-    requires { (out.used ≤ 65536) × (n ≤ length levels.now) × (n ≤ length values.now) }
-    ensures used_bound { result.used ≤ 65536 }
-    ensures shows { Shows o n places words.now levels.now values.now lines.now out buf.old result buf.new }
+)
+    requires { (n ≤ length levels.now) × (n ≤ length values.now) }
+    ensures { Shows o n places words.now levels.now values.now lines.now out.old out.new }
 {
-    put_run(buf, out, o, n, places, words, levels, values, lines)
+    put_run(out, o, n, places, words, levels, values, lines);
 }
 
-fn put_record(buf: &mut [u8; SIZE], out: Out, words: &[u32; WORDS], place: usize) -> Out
-    requires { (out.used ≤ 65536) × (place < 513) }
-    ensures used_bound { result.used ≤ 65536 }
-    ensures writes { Writes (record_row place (node_of (cells words.now place)) ∷ []) out buf.old result buf.new }
+fn put_record(out: &mut Out, words: &[u32; WORDS], place: usize)
+    requires { place < 513 }
+    ensures { Writes (record_row place (node_of (cells words.now place)) ∷ []) out.old out.new }
 {
     let d = lent::node::node_of(words, place);
     let numbers = [
@@ -175,34 +145,25 @@ fn put_record(buf: &mut [u8; SIZE], out: Out, words: &[u32; WORDS], place: usize
         d.parent,
         d.children,
         bits(d.value),
-        wide(d.existence),
-        wide(d.content),
-        wide(d.structure),
+        u32::from(d.existence),
+        u32::from(d.content),
+        u32::from(d.structure),
         d.left,
         d.last,
     ];
-    print::row(buf, out, b"record", &numbers, 5)
+    out.row(b"record", &numbers, 5);
 }
 
 // The first records as they would be lent, as many as places are asked for and there are.
-pub fn put_records(buf: &mut [u8; SIZE], out: Out, words: &[u32; WORDS], places: usize) -> Out
-    requires { out.used ≤ 65536 }
-    ensures used_bound { result.used ≤ 65536 }
-    ensures writes { Writes (record_rows words.now (min places 513)) out buf.old result buf.new }
+pub fn put_records(out: &mut Out, words: &[u32; WORDS], places: usize)
+    ensures { Writes (record_rows words.now (min places 513)) out.old out.new }
 {
-    let mut r = out;
-    let mut x = 0;
-    while x < PLACES {
-        if x >= places {
-            return r;
-        }
-        r = put_record(buf, r, words, x);
-        x += 1;
+    for x in 0..places.min(PLACES) {
+        put_record(out, words, x);
     }
-    r
 }
 
-// A digit of hexadecimal.
+// A digit of hexadecimal: the library's formatter writes to no output of this kind.
 fn digit(n: u8) -> u8
     requires { n < 16 }
     ensures { result ≡ Answers.digit n }
@@ -210,26 +171,18 @@ fn digit(n: u8) -> u8
     if n < 10 { b'0' + n } else { b'a' + (n - 10) }
 }
 
-fn put_byte(buf: &mut [u8; SIZE], out: Out, b: u8) -> Out
-    requires { out.used ≤ 65536 }
-    ensures used_bound { result.used ≤ 65536 }
-    ensures writes { Writes (hex_byte b ∷ []) out buf.old result buf.new }
+fn put_byte(out: &mut Out, b: u8)
+    ensures { Writes (hex_byte b ∷ []) out.old out.new }
 {
-    let r = print::byte(buf, out, digit(b / 16));
-    print::byte(buf, r, digit(b % 16))
+    out.byte(digit(b / 16));
+    out.byte(digit(b % 16));
 }
 
 // Bytes in hexadecimal.
-pub fn put_hex(buf: &mut [u8; SIZE], out: Out, bytes: &[u8]) -> Out
-    requires { out.used ≤ 65536 }
-    ensures used_bound { result.used ≤ 65536 }
-    ensures writes { Writes (hex_bytes bytes.now) out buf.old result buf.new }
+pub fn put_hex(out: &mut Out, bytes: &[u8])
+    ensures { Writes (hex_bytes bytes.now) out.old out.new }
 {
-    let mut r = out;
-    let mut i = 0;
-    while i < bytes.len() {
-        r = put_byte(buf, r, bytes[i]);
-        i += 1;
+    for b in bytes {
+        put_byte(out, *b);
     }
-    r
 }

@@ -4,26 +4,21 @@
 
 mod frame;
 
-use print::SIZE;
+use frames::State;
 use std::io::Stdin;
 
 // A proved loop has to end, and nothing says that the input does: so this one ends too where the jobs can be counted no further.
-fn replay(stdin: Stdin, block: &mut [u8; SIZE], job: &mut [u8], buf: &mut [u8; SIZE]) {
-    let mut s = frames::start();
-    let mut k: u64 = 0;
-    while k < u64::MAX {
-        s = frame::next(stdin, block, job, buf, s, k);
-        if s.over {
+fn replay(stdin: Stdin, job: &mut [u8]) {
+    let mut s = State::start(stdin);
+    for k in 0..u64::MAX {
+        if frame::next(&mut s, job, k).is_err() {
             return;
         }
-        k += 1;
     }
 }
 
 // The job's buffer has one place more than a job may have bytes, so that a job that is too long is seen.
 fn main(rt: HostRuntime) {
-    let mut block = io::large_buffer();
     let mut job = [0u8; 23049];
-    let mut buf = io::large_buffer();
-    replay(rt.stdin(), &mut block, &mut job, &mut buf);
+    replay(rt.stdin(), &mut job);
 }

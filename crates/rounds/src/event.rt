@@ -2,21 +2,18 @@
 ghost use Rattle.std.specs.Prelude.{◌≡◌, List, [], ℕ, ◌*◌, ◌<◌, ◌≤◌, length};
 ghost use Rattle.rules.specs.Limits.{max_bytes, max_variables, max_runs};
 ghost use Rattle.actions.specs.Marks.{marks_size};
-ghost use Rattle.frames.specs.Bounds.{Fits};
 ghost use Rattle.places.specs.Pieces.{plan_size};
-ghost use Rattle.turns.specs.Pool.{table_size, area_size, parts, Parts, Open, Housed};
+ghost use Rattle.turns.specs.Pool.{table_size, area_size, parts, Open, Housed};
 
 use super::show;
 use actions::marks;
-use frames::{Header, State};
+use frames::{Ended, Header, State, Unknown};
 use job::plan;
-use print::SIZE;
 use rules::limits::{MAX_BYTES, MAX_RUNS, MAX_VARIABLES};
-use std::io::Stdin;
 use turns::pool;
 use turns::pool::Pool;
 
-// The slices of eight parts that the runs are lent.
+// The slices of eight parts that the runs are lent. A call lends most of them at once, which it can't do with fields of one struct, so each goes by itself.
 pub const JOBS: usize = MAX_BYTES * MAX_RUNS;
 
 pub const PLANS: usize = plan::WORDS * MAX_RUNS;
@@ -32,34 +29,28 @@ pub const LINES: usize = pool::AREA * MAX_RUNS;
 pub const MARKS: usize = marks::SIZE * MAX_RUNS;
 
 // One byte more than a job may have, so that a body that is too long is seen.
-const BODY: usize = 23049;
+const LARGEST: usize = 23049;
 
-// The state after an event, and the runs.
-#[derive(Drop)]
-pub struct After {
-    pub state: State,
-    pub pool: Pool,
+// What an event is.
+#[derive(Clone, Copy)]
+enum Kind {
+    Newcomer,
+    Turn,
 }
 
-// No run yet, in slices that are long enough.
-fn begin(
-    jobs: &[u8],
-    plans: &[u32],
-    levels: &[u8],
-    words: &[u32],
-    values: &[i32],
-    lines: &[u8],
-    marks: &[u16],
-) -> Pool
-    requires { (length jobs.now ≡ max_bytes * max_runs) × (length plans.now ≡ plan_size * max_runs) × (length levels.now ≡ max_variables * max_runs)
-        × (length words.now ≡ table_size * max_runs) × (length values.now ≡ max_variables * max_runs) × (length lines.now ≡ area_size * max_runs)
-        × (length marks.now ≡ marks_size * max_runs) }
-    ensures { Housed result (parts jobs.now plans.now levels.now words.now values.now lines.now marks.now) }
-{
-    pool::empty()
+impl TryFrom<u32> for Kind {
+    type Error = Unknown;
+
+    fn try_from(number: u32) -> Result<Self, Unknown> {
+        match number {
+            0 => Ok(Kind::Newcomer),
+            1 => Ok(Kind::Turn),
+            _ => Err(Unknown),
+        }
+    }
 }
 
-// Before the first event: the same in arrays, whose lengths are known.
+// Before the first event: no run yet.
 pub fn start(
     jobs: &[u8; JOBS],
     plans: &[u32; PLANS],
@@ -68,93 +59,16 @@ pub fn start(
     values: &[i32; VALUES],
     lines: &[u8; LINES],
     marks: &[u16; MARKS],
-) -> After
-    ensures { Fits result.state × Housed result.pool (parts jobs.now plans.now levels.now words.now values.now lines.now marks.now) }
+) -> Pool
+    ensures { Housed result (parts jobs.now plans.now levels.now words.now values.now lines.now marks.now) }
 {
-    After {
-        state: frames::start(),
-        pool: begin(jobs, plans, levels, words, values, lines, marks),
-    }
-}
-
-// What an event leaves.
-fn leaves(state: State, pool: Pool) -> After
-    requires { Fits state }
-    ensures { Fits result.state × ((s : Parts) → Housed pool s → Housed result.pool s) }
-{
-    After { state, pool }
-}
-
-// A newcomer.
-fn newcomer(
-    job: &[u8],
-    h: Header,
-    k: u64,
-    buf: &mut [u8; SIZE],
-    s: State,
-    p: Pool,
-    jobs: &mut [u8; JOBS],
-    plans: &mut [u32; PLANS],
-    levels: &mut [u8; LEVELS],
-    words: &mut [u32; WORDS],
-    values: &mut [i32; VALUES],
-    marks: &mut [u16; MARKS],
-) -> After
-    requires { Fits s × (h.lines < 65536) × Open p (parts jobs.old plans.old levels.old words.old values.old [] marks.old) }
-    ensures { Fits result.state
-        × ((lines : List ℕ) → Housed p (parts jobs.old plans.old levels.old words.old values.old lines marks.old)
-        → Housed result.pool (parts jobs.new plans.new levels.new words.new values.new lines marks.new)) }
-{
-    let r = frames::head(buf, s.out, b"newcomer ", k);
-    let a = pool::arrive(
-        p, k, job, h.budget, h.places, h.lines, jobs, plans, levels, words, values, marks,
-    );
-    let reply = a.reply;
-    let told = show::put_admission(buf, r, reply);
-    leaves(frames::answered(s, told), a.pool)
-}
-
-// The turn of the next run in the circle.
-fn turn(
-    k: u64,
-    buf: &mut [u8; SIZE],
-    s: State,
-    p: Pool,
-    jobs: &[u8; JOBS],
-    plans: &[u32; PLANS],
-    levels: &[u8; LEVELS],
-    words: &mut [u32; WORDS],
-    values: &mut [i32; VALUES],
-    lines: &mut [u8; LINES],
-    marks: &mut [u16; MARKS],
-) -> After
-    requires { Fits s × Housed p (parts jobs.now plans.now levels.now words.old values.old lines.old marks.old) }
-    ensures { Fits result.state
-        × Housed result.pool (parts jobs.now plans.now levels.now words.new values.new lines.new marks.new) }
-{
-    let r = frames::head(buf, s.out, b"turn ", k);
-    let a = pool::turn(p, jobs, plans, levels, words, values, lines, marks);
-    let reply = a.reply;
-    let told = show::put_turn(buf, r, reply, a.pool, words, levels, values, lines);
-    leaves(frames::answered(s, told), a.pool)
-}
-
-// An event of no kind.
-fn unknown(k: u64, buf: &mut [u8; SIZE], s: State, p: Pool) -> After
-    requires { Fits s }
-    ensures { Fits result.state × ((s : Parts) → Housed p s → Housed result.pool s) }
-{
-    let told = frames::head(buf, s.out, b"unknown ", k);
-    leaves(frames::answered(s, told), p)
+    pool::empty()
 }
 
 // A newcomer's body is read, and the newcomer comes.
-fn admit(
-    stdin: Stdin,
-    block: &mut [u8; SIZE],
-    buf: &mut [u8; SIZE],
-    s: State,
-    p: Pool,
+fn newcomer(
+    s: &mut State,
+    p: &mut Pool,
     h: Header,
     k: u64,
     jobs: &mut [u8; JOBS],
@@ -163,43 +77,38 @@ fn admit(
     words: &mut [u32; WORDS],
     values: &mut [i32; VALUES],
     marks: &mut [u16; MARKS],
-) -> After
-    requires { Fits s × (h.lines < 65536) × Open p (parts jobs.old plans.old levels.old words.old values.old [] marks.old) }
-    ensures { Fits result.state
-        × ((lines : List ℕ) → Housed p (parts jobs.old plans.old levels.old words.old values.old lines marks.old)
-        → Housed result.pool (parts jobs.new plans.new levels.new words.new values.new lines marks.new)) }
+) -> Result<(), Ended>
+    requires { (h.lines < 65536) × Open p.old (parts jobs.old plans.old levels.old words.old values.old [] marks.old) }
+    ensures { (lines : List ℕ) → Housed p.old (parts jobs.old plans.old levels.old words.old values.old lines marks.old)
+        → Housed p.new (parts jobs.new plans.new levels.new words.new values.new lines marks.new) }
 {
-    let mut body = [0u8; BODY];
-    let b = frames::read_body(stdin, block, &mut body, buf, s, h.size);
-    let read = b.state;
-    if read.over {
-        return leaves(read, p);
-    }
-    let count = b.count;
-    newcomer(
-        &body[..count],
-        h,
+    let mut body = [0u8; LARGEST];
+    let count = s.read_body(&mut body, h.size)?;
+    s.head(b"newcomer ", k);
+    let a = pool::arrive(
+        *p,
         k,
-        buf,
-        read,
-        p,
+        &body[..count],
+        h.budget,
+        h.places,
+        h.lines,
         jobs,
         plans,
         levels,
         words,
         values,
         marks,
-    )
+    );
+    let reply = a.reply;
+    *p = a.pool;
+    show::put_admission(&mut s.out, reply);
+    Ok(())
 }
 
-// A turn, or an event of no kind. Of its body nothing is read.
-fn act(
-    stdin: Stdin,
-    block: &mut [u8; SIZE],
-    buf: &mut [u8; SIZE],
-    s: State,
-    p: Pool,
-    kind: u32,
+// The turn of the next run in the circle. Of the event's body nothing is read.
+fn turn(
+    s: &mut State,
+    p: &mut Pool,
     size: usize,
     k: u64,
     jobs: &[u8; JOBS],
@@ -209,28 +118,30 @@ fn act(
     values: &mut [i32; VALUES],
     lines: &mut [u8; LINES],
     marks: &mut [u16; MARKS],
-) -> After
-    requires { Fits s × Housed p (parts jobs.now plans.now levels.now words.old values.old lines.old marks.old) }
-    ensures { Fits result.state × Housed result.pool (parts jobs.now plans.now levels.now words.new values.new lines.new marks.new) }
+) -> Result<(), Ended>
+    requires { Housed p.old (parts jobs.now plans.now levels.now words.old values.old lines.old marks.old) }
+    ensures { Housed p.new (parts jobs.now plans.now levels.now words.new values.new lines.new marks.new) }
 {
-    let passed = frames::pass(stdin, block, buf, s, size);
-    if passed.over {
-        return leaves(passed, p);
-    }
-    if kind == 1 {
-        return turn(
-            k, buf, passed, p, jobs, plans, levels, words, values, lines, marks,
-        );
-    }
-    unknown(k, buf, passed, p)
+    s.pass(size)?;
+    s.head(b"turn ", k);
+    let a = pool::turn(*p, jobs, plans, levels, words, values, lines, marks);
+    let reply = a.reply;
+    *p = a.pool;
+    show::put_turn(&mut s.out, reply, a.pool, words, levels, values, lines);
+    Ok(())
+}
+
+// An event of no kind. Of its body nothing is read.
+fn unknown(s: &mut State, size: usize, k: u64) -> Result<(), Ended> {
+    s.pass(size)?;
+    s.head(b"unknown ", k);
+    Ok(())
 }
 
 // The next event, which is number k.
 pub fn next(
-    stdin: Stdin,
-    block: &mut [u8; SIZE],
-    buf: &mut [u8; SIZE],
-    a: After,
+    s: &mut State,
+    p: &mut Pool,
     k: u64,
     jobs: &mut [u8; JOBS],
     plans: &mut [u32; PLANS],
@@ -239,35 +150,17 @@ pub fn next(
     values: &mut [i32; VALUES],
     lines: &mut [u8; LINES],
     marks: &mut [u16; MARKS],
-) -> After
-    requires { Fits a.state × Housed a.pool (parts jobs.old plans.old levels.old words.old values.old lines.old marks.old) }
-    ensures { Fits result.state × Housed result.pool (parts jobs.new plans.new levels.new words.new values.new lines.new marks.new) }
+) -> Result<(), Ended>
+    requires { Housed p.old (parts jobs.old plans.old levels.old words.old values.old lines.old marks.old) }
+    ensures { Housed p.new (parts jobs.new plans.new levels.new words.new values.new lines.new marks.new) }
 {
-    let e = frames::next_event(stdin, block, buf, a.state);
-    if e.state.over {
-        return leaves(e.state, a.pool);
+    let e = s.next_event()?;
+    let h = e.header;
+    match Kind::try_from(e.kind) {
+        Ok(Kind::Newcomer) => newcomer(s, p, h, k, jobs, plans, levels, words, values, marks),
+        Ok(Kind::Turn) => turn(
+            s, p, h.size, k, jobs, plans, levels, words, values, lines, marks,
+        ),
+        Err(_) => unknown(s, h.size, k),
     }
-    if e.kind == 0 {
-        return admit(
-            stdin, block, buf, e.state, a.pool, e.header, k, jobs, plans, levels, words, values,
-            marks,
-        );
-    }
-    act(
-        stdin,
-        block,
-        buf,
-        e.state,
-        a.pool,
-        e.kind,
-        e.header.size,
-        k,
-        jobs,
-        plans,
-        levels,
-        words,
-        values,
-        lines,
-        marks,
-    )
 }

@@ -6,14 +6,12 @@ mod event;
 mod show;
 
 use event::{JOBS, LEVELS, LINES, MARKS, PLANS, VALUES, WORDS};
-use print::SIZE;
+use frames::State;
 use std::io::Stdin;
 
 // A proved loop has to end, and nothing says that the input does: so this one ends too where the events can be counted no further.
 fn rounds(
     stdin: Stdin,
-    block: &mut [u8; SIZE],
-    buf: &mut [u8; SIZE],
     jobs: &mut [u8; JOBS],
     plans: &mut [u32; PLANS],
     levels: &mut [u8; LEVELS],
@@ -22,22 +20,19 @@ fn rounds(
     lines: &mut [u8; LINES],
     marks: &mut [u16; MARKS],
 ) {
-    let mut a = event::start(jobs, plans, levels, words, values, lines, marks);
-    let mut k: u64 = 0;
-    while k < u64::MAX {
-        a = event::next(
-            stdin, block, buf, a, k, jobs, plans, levels, words, values, lines, marks,
+    let mut s = State::start(stdin);
+    let mut p = event::start(jobs, plans, levels, words, values, lines, marks);
+    for k in 0..u64::MAX {
+        let went = event::next(
+            &mut s, &mut p, k, jobs, plans, levels, words, values, lines, marks,
         );
-        if a.state.over {
+        if went.is_err() {
             return;
         }
-        k += 1;
     }
 }
 
 fn main(rt: HostRuntime) {
-    let mut block = io::large_buffer();
-    let mut buf = io::large_buffer();
     let mut jobs = [0u8; JOBS];
     let mut plans = [0u32; PLANS];
     let mut levels = [0u8; LEVELS];
@@ -47,8 +42,6 @@ fn main(rt: HostRuntime) {
     let mut marks = [0u16; MARKS];
     rounds(
         rt.stdin(),
-        &mut block,
-        &mut buf,
         &mut jobs,
         &mut plans,
         &mut levels,

@@ -6,42 +6,35 @@ ghost use Rattle.turns.specs.Pool.{table_size, area_size, Sized, Shows};
 use super::event::{LEVELS, LINES, VALUES, WORDS};
 use frames::outcome;
 use monitor::Outcome;
-use print::{Out, SIZE, answer};
+use print::{Out, answer};
 use rules::limits::MAX_VARIABLES;
 use turns::pool;
 use turns::pool::{Place, Pool, Reply};
 
 // A newcomer is taken in, or turned back with its answer.
-pub fn put_admission(buf: &mut [u8; SIZE], out: Out, reply: Reply) -> Out
-    requires { out.used ≤ 65536 }
-    ensures { result.used ≤ 65536 }
-{
+pub fn put_admission(out: &mut Out, reply: Reply) {
     match reply {
-        Reply::Idle => out,
-        Reply::Joins => print::text(buf, out, b"taken\n"),
+        Reply::Idle => (),
+        Reply::Joins => out.text(b"taken\n"),
         Reply::Answers {
             name,
             took,
             outcome,
-        } => outcome::put_answer(buf, out, answer::of(outcome)),
-        Reply::GoesOn { name, took } => out,
+        } => outcome::put_answer(out, answer::of(outcome)),
+        Reply::GoesOn { name, took } => (),
     }
 }
 
 // Which run had the turn, and how many steps it took.
-fn put_took(buf: &mut [u8; SIZE], out: Out, name: u64, took: usize) -> Out
-    requires { out.used ≤ 65536 }
-    ensures { result.used ≤ 65536 }
-{
-    let r = print::item(buf, out, b"run ", name);
-    let t = print::item(buf, r, b" took ", took as u64);
-    print::byte(buf, t, b'\n')
+fn put_took(out: &mut Out, name: u64, took: usize) {
+    out.item(b"run ", name);
+    out.item(b" took ", took as u64);
+    out.byte(b'\n');
 }
 
 // What a run that has ended leaves in the parts of its place.
 fn put_ended(
-    buf: &mut [u8; SIZE],
-    out: Out,
+    out: &mut Out,
     o: Outcome,
     i: usize,
     place: Place,
@@ -49,10 +42,9 @@ fn put_ended(
     levels: &[u8],
     values: &[i32],
     lines: &[u8],
-) -> Out
-    requires { (out.used ≤ 65536) × (i < max_runs) × Sized place × (length words.now ≡ table_size * max_runs)
+)
+    requires { (i < max_runs) × Sized place × (length words.now ≡ table_size * max_runs)
         × (length levels.now ≡ max_variables * max_runs) × (length values.now ≡ max_variables * max_runs) × (length lines.now ≡ area_size * max_runs) }
-    ensures { result.used ≤ 65536 }
 {
     let w0 = table::WORDS * i;
     let w1 = w0 + table::WORDS;
@@ -61,7 +53,6 @@ fn put_ended(
     let b0 = pool::AREA * i;
     let b1 = b0 + 5 * place.capacity;
     outcome::put_run(
-        buf,
         out,
         o,
         place.frame.vars,
@@ -70,36 +61,34 @@ fn put_ended(
         &levels[v0..v1],
         &values[v0..v1],
         &lines[b0..b1],
-    )
+    );
 }
 
 // What became of a turn.
 pub fn put_turn(
-    buf: &mut [u8; SIZE],
-    out: Out,
+    out: &mut Out,
     reply: Reply,
     p: Pool,
     words: &[u32; WORDS],
     levels: &[u8; LEVELS],
     values: &[i32; VALUES],
     lines: &[u8; LINES],
-) -> Out
-    requires { (out.used ≤ 65536) × Shows p reply }
-    ensures { result.used ≤ 65536 }
+)
+    requires { Shows p reply }
 {
     match reply {
-        Reply::Idle => print::text(buf, out, b"idle\n"),
-        Reply::Joins => out,
+        Reply::Idle => out.text(b"idle\n"),
+        Reply::Joins => (),
         Reply::Answers {
             name,
             took,
             outcome,
         } => {
-            let r = put_took(buf, out, name, took);
+            put_took(out, name, took);
             let i = pool::ended(p);
             let place = p.places[i];
-            put_ended(buf, r, outcome, i, place, words, levels, values, lines)
+            put_ended(out, outcome, i, place, words, levels, values, lines);
         }
-        Reply::GoesOn { name, took } => put_took(buf, out, name, took),
+        Reply::GoesOn { name, took } => put_took(out, name, took),
     }
 }

@@ -1,5 +1,4 @@
 -- `digit` meets its contract, below ten and from there on. Assumes nothing.
-use borrow.Author.Rules.{rules}
 use borrow.Author.Tests.{lt-ltb, le-ltb}
 use Rattle.frames.specs.Answers.{digit}
 use Rattle.frames.proofs.outcome.digit.Goals as goal
