@@ -2,58 +2,47 @@
 // ended to standard error.
 #![tactic(auto)]
 
-ghost use Rattle.std.specs.Prelude.{◌≤◌};
-
 use monitor::{Outcome, run_words};
 use print::runner::{AREA, BUDGET, VARIABLES, WORDS};
-use print::{Out, SIZE, answer};
+use print::{Out, answer};
 
 // The file descriptor of standard input.
 const STDIN_FILENO: i32 = 0;
 
-// What became of a job, where, and in how many steps.
-fn ended(buf: &mut [u8; SIZE], out: Out, o: Outcome) -> Out
-    requires { out.used ≤ 65536 }
-    ensures { result.used ≤ 65536 }
-{
+// What became of a job, where, and in how many steps: a line of standard error.
+fn verdict(o: Outcome) {
+    let mut out = Out::to(print::ERRORS);
     match o {
         Outcome::Refused { number, index } => {
-            let r = print::item(buf, out, b"refused ", number as u64);
-            return print::item(buf, r, b" at ", index as u64);
+            out.item(b"refused ", u64::from(number));
+            out.item(b" at ", index as u64);
         }
-        Outcome::Finished { steps, lines } => {
-            return print::item(buf, out, b"finished steps ", steps as u64);
+        Outcome::Finished { steps, .. } => {
+            out.item(b"finished steps ", u64::from(steps));
         }
         Outcome::Stopped {
             number,
             index,
             steps,
-            lines,
+            ..
         } => {
-            let r = print::item(buf, out, b"stopped ", number as u64);
-            let s = print::item(buf, r, b" at ", index as u64);
-            return print::item(buf, s, b" steps ", steps as u64);
+            out.item(b"stopped ", u64::from(number));
+            out.item(b" at ", index as u64);
+            out.item(b" steps ", u64::from(steps));
         }
     }
-}
-
-// A line of standard error.
-fn verdict(o: Outcome) {
-    let mut buf = io::large_buffer();
-    let mut out = ended(&mut buf, print::to(print::ERRORS), o);
-    out = print::byte(&mut buf, out, b'\n');
-    print::flush(&buf, out);
+    out.byte(b'\n');
+    out.flush();
 }
 
 // The board of a run, with the number of its lines.
 fn board(lines: &[u8], n: usize) {
-    let mut buf = io::large_buffer();
-    let mut out = print::to(print::OUTPUT);
-    out = print::text(&mut buf, out, b"board\n");
-    out = print::lines(&mut buf, out, b"", lines, n);
-    out = print::item(&mut buf, out, b"end ", n as u64);
-    out = print::byte(&mut buf, out, b'\n');
-    print::flush(&buf, out);
+    let mut out = Out::to(print::OUTPUT);
+    out.text(b"board\n");
+    out.lines(b"", lines, n);
+    out.item(b"end ", n as u64);
+    out.byte(b'\n');
+    out.flush();
 }
 
 fn run(job: &[u8]) {
@@ -69,9 +58,8 @@ fn run(job: &[u8]) {
         &mut values,
         &mut lines,
     );
-    let a = answer::of(o);
     if answer::was_run(o) {
-        board(&lines, a.lines);
+        board(&lines, answer::of(o).lines);
     }
     verdict(o);
 }
