@@ -197,10 +197,6 @@ pub exact_mean : (a b : ℤ) → Fits a × Fits b → Exactly Operator.mean mean
 unfolding apply
 exact_mean a b h = sym (fitting_in (mean a b) (mean_fits (record { sfits = h.0 }) (record { sfits = h.1 })))
 
--- two numbers that were passed by their bits
-pub passed : {a b : ℤ} → SFits w64 a → SFits w64 b → Fits a × Fits b → Fits (kept w64 a) × Fits (kept w64 b)
-passed h g f = (subst Fits (sym (to_z-of_z h)) f.0, subst Fits (sym (to_z-of_z g)) f.1)
-
 -- what a function makes of them, and gives back by its bits
 pub applies : {k : ℕ} {a b x : ℤ} (o : Operator) (f : ℤ → ℤ → ℤ) → Numbers k o → SFits w64 a → SFits w64 b → SFits w64 x → Exactly o f a b
     → x ≡ f (kept w64 a) (kept w64 b) → Applies k a b (kept w64 x)

@@ -3,17 +3,8 @@ use native.Mathlib.Omega.{arith}
 use lib.IntN.{◌+ℤ◌, ◌-ℤ◌}
 use Rattle.rules.specs.Number.{equal, less, mean}
 use Rattle.rules.specs.Script.{Operator}
-use Rattle.actions.proofs.Evaluation.{is_sum, is_difference, is_equal, is_less, is_mean, exact_sum, exact_difference, exact_equal, exact_less, exact_mean, passed, applies}
+use Rattle.actions.proofs.Evaluation.{is_sum, is_difference, is_equal, is_less, is_mean, exact_sum, exact_difference, exact_equal, exact_less, exact_mean, applies}
 use Rattle.actions.proofs.evaluate.apply.Goals as goal
-
-pub sum-requires : goal.sum-requires
-sum-requires c = passed c.ranges.a c.ranges.b c.requires.1
-
-pub difference-requires : goal.difference-requires
-difference-requires c = passed c.ranges.a c.ranges.b c.requires.1
-
-pub mean-requires : goal.mean-requires
-mean-requires c = passed c.ranges.a c.ranges.b c.requires.1
 
 pub returns-in-1 : goal.returns-in-1
 returns-in-1 c = applies Operator.sum ◌+ℤ◌ (is_sum c.args.operator c.in-1.is) c.ranges.a c.ranges.b (record { sfits = c.sum.type_inv })

@@ -5,14 +5,6 @@ use Rattle.rules.specs.Level.{join}
 use Rattle.actions.proofs.Evaluation.{kind_constant, kind_variable, operates_as, constant, variable, node_read}
 use Rattle.actions.proofs.evaluate.operand.Goals as goal
 
--- the variable is there
-pub bounds-values-i : goal.bounds-values-i
-bounds-values-i c = omega (arith, c.requires.1.variable c.in-1.is)
-
-pub bounds-levels-i : goal.bounds-levels-i
-bounds-levels-i c = let k = c.in-1.is in
-    omega (arith, c.requires.1.variable k)
-
 pub returns-in-0 : goal.returns-in-0
 returns-in-0 c = let a = c.args in
     operates_as (kind_constant a.kind a.number c.in-0.is) (constant c.signed.type_inv c.signed.ensures)
@@ -20,11 +12,6 @@ returns-in-0 c = let a = c.args in
 pub returns-in-1 : goal.returns-in-1
 returns-in-1 c = let k = c.in-1.is in
     operates_as (kind_variable c.args.kind c.args.number k) (variable refl (c.requires.1.variable k) (omega arith))
-
--- the node is read by a kind that is there
-pub read-requires : goal.read-requires
-read-requires c = let p = c.requires in
-    (record { long = p.0.long; few = p.0.few; inside = p.0.cursor }, (omega (arith, c.from-k.ensures), omega (arith, c.from-k.ensures, p.1.known)))
 
 pub returns-in_default : goal.returns-in_default
 returns-in_default c = let v = c.read in

@@ -10,9 +10,6 @@ use Rattle.actions.proofs.Remembered.{recalls_none, recalls_one}
 use Rattle.actions.proofs.marks.recall.Goals as goal
 use Rattle.actions.proofs.marks.recall.Goals.{then-place-places-via-then-place-places, then-place-places-via-else-place-places+then-not-stands}
 
-pub returns-then-k-ge-MAX_DEPTH : goal.returns-then-k-ge-MAX_DEPTH
-returns-then-k-ge-MAX_DEPTH c = recalls_none _ _ (λ d. absurd (omega (arith, c.from-k.ensures, c.saturating_sub-last.ensures, c.if-k-ge-MAX_DEPTH.true)))
-
 pub returns-then-place-places : goal.returns-then-place-places
 returns-then-place-places c = let ks = c.args.marks.now in
     let i : c.from-k.result ≡ number ks count_at - 1 = c.from-k.ensures ∙ c.saturating_sub-last.ensures in

@@ -1,16 +1,8 @@
 -- What is kept, the place, the level and the count, each stored once; with sixteen blocks open nothing. Assumes nothing.
-use native.Mathlib.Omega.{arith}
-use lib.ListN.{length-set}
 use borrow.Author.Tests.{lt-ltb, le-ltb}
 use Rattle.table.specs.Since.{number}
 use Rattle.actions.specs.Marks.{count_at, saving}
 use Rattle.actions.proofs.marks.save.Goals as goal
-
-pub bounds-marks-k-then-k-lt-MAX_DEPTH : goal.bounds-marks-k-then-k-lt-MAX_DEPTH
-bounds-marks-k-then-k-lt-MAX_DEPTH c = simp length-set (omega (arith, c.keep.auto.since, c.requires.0, c.if-k-lt-MAX_DEPTH.true))
-
-pub bounds-marks-512-then-k-lt-MAX_DEPTH : goal.bounds-marks-512-then-k-lt-MAX_DEPTH
-bounds-marks-512-then-k-lt-MAX_DEPTH c = simp length-set (omega (arith, c.keep.auto.since, c.requires.0))
 
 pub returns-then-k-lt-MAX_DEPTH : goal.returns-then-k-lt-MAX_DEPTH
 unfolding saving

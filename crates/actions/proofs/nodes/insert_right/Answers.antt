@@ -37,9 +37,6 @@ returns-in_default c = λ l b v vars x e.
     let s = c.args in
     insert_over _ s.pc sibling s.content s.list x (asked (goal.at.returns-in_default c).After-may_add) (allowed refl c.if-not-may_add.false) e c.in_default.is c.halt-in_default.ensures
 
-pub placed-requires : goal.placed-requires
-placed-requires c = c.requires.0
-
 pub returns : goal.returns
 returns c = λ l b v vars x e.
     let s = c.args in
