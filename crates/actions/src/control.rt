@@ -94,7 +94,7 @@ pub fn leave(r: Running, to: usize) -> Stepped
     }
 }
 
-// Command 2, if: one block more; with a zero guard past its else, or to its end.
+// Command 2, if: one block more; with a zero guard past its else, or to its end. The three that open a block share calls, and differ in when they push.
 pub fn enter_if(r: Running, e: Valued, to: usize) -> Stepped
     requires { Timely r }
     ensures { Enters enter_if r e to result }

@@ -26,7 +26,7 @@ struct Found {
     level: u8,
 }
 
-// An operand, by its kind and its number.
+// An operand, by its kind and its number, which are the bytes of the record.
 fn operand(
     kind: u8,
     number: u32,

@@ -45,7 +45,7 @@ pub fn raise(set: u8, places: usize, pc: u8, r: Running) -> Stepped
     move_to(pc, r, m.cursor, join(level_of(m), set))
 }
 
-// To where a move leads, if that is a place.
+// To where a move leads, if that is a place. A walk gives no place where there is no node: the test against `places` bounds the reads that follow, too.
 fn go_to(words: &[u32], places: usize, pc: u8, r: Running, place: usize) -> Stepped
     requires { Timely r × Within words.now places r.memory.cursor }
     ensures { (l : List ℕ) (v : List ℤ) (b : List ℕ) (vars : ℕ) (o : Forest → Place → Option Place) → Target words.now places r.memory place o

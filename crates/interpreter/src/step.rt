@@ -65,7 +65,7 @@ fn target(job: &[u8], base: usize, i: usize) -> u8
     f.target
 }
 
-// What the content of a new node joins, by record i.
+// What the content of a new node joins, by record i. What is read here of a record again is read once after inlining.
 fn content_at(job: &[u8], base: usize, i: usize) -> u8
     requires { record_place base i + record_size ≤ length job.now }
     ensures { result ≡ content_set (fields_of job.now (record_place base i)).target ((fields_of job.now (record_place base i)).fifth % 256) }
