@@ -9,7 +9,8 @@ use lib.Dec.{ltb}
 use lib.ListN.{length, take, drop, set, length-append, take-append-drop}
 use Rattle.std.proofs.Common.{length-take-le}
 use borrow.Author.Tests.{ltb-true, ltb-false}
-use Rattle.frames.specs.Input.{Ready, same, anew, Comes, none, more, Gives, all, fewer, onto, Takes}
+use Rattle.frames.specs.Block.{Block, block}
+use Rattle.frames.specs.Input.{Ready, same, anew, Handed, Comes, none, more, Gives, all, fewer, onto, Takes}
 
 -- of no bytes
 pub empty : {w : List ℕ} → length w ≡ 0 → w ≡ []
@@ -17,54 +18,56 @@ empty {w = []} e = refl
 empty {w = x ∷ w} e = absurd (omega (arith, e))
 
 -- made ready twice
-again : {w v u : List ℕ} → Ready w v → Ready v u → Ready w u
+again : {w v u : Block} → Ready w v → Ready v u → Ready w u
 again (same some e) (same some' e') = same some (e' ∙ e)
-again (same some e) (anew z) = absurd (omega (arith, ap length e, ap length z))
-again (anew z) y = anew z
+again (same some e) (anew z g) = absurd (omega (arith, ap (λ (b : Block). length b.left) e, ap length z))
+again (anew z g) (same some e) = anew z (ap (λ (b : Block). b.gone) e ∙ g)
+again (anew z g) (anew z' g') = anew z g'
 
 -- made ready, and still nothing is left
-pub dry : {w v : List ℕ} → Ready w v → v ≡ [] → w ≡ []
-dry (same some e) z = sym e ∙ z
-dry (anew z) z' = z
-
-ended : {w v l : List ℕ} → Comes w l v → v ≡ [] → Comes w l []
-ended {w} {l = l} h z = subst (λ (v : List ℕ). Comes w l v) z h
+pub dry : {w v : Block} → Ready w v → v.left ≡ [] → w.left ≡ []
+dry (same some e) z = sym (ap (λ (b : Block). b.left) e) ∙ z
+dry (anew z g) z' = z
 
 -- bytes, and bytes behind them
-join : {w v u l k : List ℕ} → Comes w l v → Comes v k u → Comes w (l ++ k) u
+join : {w v u : Block} {l k : List ℕ} → Comes w l v → Comes v k u → Comes w (l ++ k) u
 join none h = h
 join (more y g) h = more y (join g h)
 
 -- made ready before the first byte
-first : {w v u l : List ℕ} → Ready w v → 0 < length l → Comes v l u → Comes w l u
+first : {w v u : Block} {l : List ℕ} → Ready w v → 0 < length l → Comes v l u → Comes w l u
 first y pos none = absurd (omega arith)
-first y pos (more z h) = more (again y z) h
+first y pos (more z h) = more (record { before = z.before; ready = again y z.ready; next = z.next }) h
 
--- nothing came, since nothing was there
-nothing : {w : List ℕ} → w ≡ [] → Comes w [] []
-nothing z = ended none z
+-- made ready, and nothing came
+still : {w v u t : Block} → Ready w v → Comes v [] u → u.left ≡ [] → Ready u t → (w.left ≡ []) × Ready w t
+still y none z r = (dry y z, again y r)
 
-primed : {w v u l : List ℕ} {n : ℕ} → Ready w v → 0 < n → Gives v n l u → Gives w n l u
+primed : {w v u : Block} {l : List ℕ} {n : ℕ} → Ready w v → 0 < n → Gives v n l u → Gives w n l u
 primed y pos (all e h) = all e (first y (omega arith) h)
-primed {l = []} y pos (fewer less h z) = fewer less (nothing (dry y (spent h))) z
-  where
-    spent : {v : List ℕ} → Comes v [] [] → v ≡ []
-    spent none = refl
-primed {l = x ∷ l} y pos (fewer less h z) = fewer less (first y (omega arith) h) z
+primed {l = []} y pos (fewer less h z r e) = let s = still y h z r in fewer less none s.0 s.1 e
+primed {l = x ∷ l} y pos (fewer less h z r e) = fewer less (first y (omega arith) h) z r e
 
-pub readied : {w v u old new : List ℕ} {n count : ℕ} → Ready w v → 0 < n → Takes v n old new u count → Takes w n old new u count
+pub readied : {w v u : Block} {old new : List ℕ} {n count : ℕ} → Ready w v → 0 < n → Takes v n old new u count → Takes w n old new u count
 readied y pos h = record { came = h.came; gives = primed y pos h.gives; counted = h.counted; put = h.put }
 
 -- bytes of one block
-ahead : (l u : List ℕ) → Comes (l ++ u) l u
-ahead [] u = none
-ahead (x ∷ l) u = more (same (omega arith) refl) (ahead l u)
+ahead : (g h : ℕ) (l u : List ℕ) → h ≡ g + length l → Comes (block g (l ++ u)) l (block h u)
+ahead g h [] u e = let q : g ≡ h = omega (arith, e) in subst (λ (k : ℕ). Comes (block g u) [] (block k u)) q none
+ahead g h (x ∷ l) u e = more {u = block (suc g) (l ++ u)} (record { before = g; ready = same (omega arith) refl; next = refl }) (ahead (suc g) h l u (omega (arith, e)))
+
+-- of a block of which something is left the first byte is taken
+lessened : {w v : Block} {x : ℕ} → Handed w x v → 0 < length w.left → length v.left + 1 ≡ length w.left
+lessened {w} {v} {x} h pos = pick h.ready
+  where
+    pick : Ready w (block h.before (x ∷ v.left)) → length v.left + 1 ≡ length w.left
+    pick (same some e) = omega (arith, ap (λ (b : Block). length b.left) e)
+    pick (anew z g) = absurd (omega (arith, ap length z))
 
 -- of a block that has all the bytes that came, the others are left
-drawn : {w v l : List ℕ} → Comes w l v → length l ≤ length w → length v + length l ≡ length w
+drawn : {w v : Block} {l : List ℕ} → Comes w l v → length l ≤ length w.left → length v.left + length l ≡ length w.left
 drawn none h = omega arith
-drawn (more (same some e) g) h = omega (arith, ap length e, drawn g (omega (arith, ap length e)))
-drawn (more (anew z) g) h = absurd (omega (arith, ap length z))
+drawn (more y g) h = let d = lessened y (omega arith) in omega (arith, d, drawn g (omega (arith, d)))
 
 -- nothing is put where there is no place
 onto_nil : (l : List ℕ) → onto l [] ≡ []
@@ -97,27 +100,27 @@ onto_full (x ∷ l) k [] h = refl
 onto_full (x ∷ l) k (y ∷ t) h = ap (λ (j : List ℕ). x ∷ j) (onto_full l k t (omega arith))
 
 -- so many bytes came, and were put over `old`
-pub record Came (w old new v : List ℕ) (count : ℕ) : Type 0 where
+pub record Came (w : Block) (old new : List ℕ) (v : Block) (count : ℕ) : Type 0 where
   pub bytes : List ℕ
   pub comes : Comes w bytes v
   pub many : count ≡ length bytes
   pub put : new ≡ onto bytes old
 
-pub begun : (w old : List ℕ) → Came w old old w 0
+pub begun : (w : Block) (old : List ℕ) → Came w old old w 0
 unfolding onto
 begun w old = record { bytes = []; comes = none; many = refl; put = refl }
 
-module _ {w old new v : List ℕ} {count : ℕ} (h : Came w old new v count) where
+module _ {w : Block} {old new : List ℕ} {v : Block} {count : ℕ} (h : Came w old new v count) where
   -- all that were wanted
   pub whole : (n k : ℕ) → k ≡ count → count ≡ n → Takes w n old new v k
   whole n k f e = record { came = h.bytes; gives = all (sym h.many ∙ e) h.comes; counted = f ∙ h.many; put = h.put }
 
   -- the input has ended
-  pub short : {u : List ℕ} (n : ℕ) → count < n → v ≡ [] → u ≡ [] → Takes w n old new u count
-  short n less z e = record { came = h.bytes; gives = fewer (omega (arith, h.many)) (ended h.comes z) e; counted = h.many; put = h.put }
+  pub short : {u : Block} (n : ℕ) → count < n → v.left ≡ [] → Ready v u → u.left ≡ [] → Takes w n old new u count
+  short n less z r e = record { came = h.bytes; gives = fewer (omega (arith, h.many)) h.comes z r e; counted = h.many; put = h.put }
 
   -- one byte more, at its place
-  pub byte : {x : ℕ} {u : List ℕ} → Ready v (x ∷ u) → Came w old (set new count x) u (count + 1)
+  pub byte : {x : ℕ} {u : Block} → Handed v x u → Came w old (set new count x) u (count + 1)
   byte {x = x} y = record {
     bytes = h.bytes ++ (x ∷ []);
     comes = join h.comes (more y none);
@@ -126,34 +129,37 @@ module _ {w old new v : List ℕ} {count : ℕ} (h : Came w old new v count) whe
   }
 
 -- k bytes more of a block, which are put nowhere
-pub leap : {w v u : List ℕ} {count : ℕ} → Came w [] [] v count → Ready v u → (k : ℕ) → 0 < k → k ≤ length u → Came w [] [] (drop k u) (count + k)
+pub leap : {w v u : Block} {count : ℕ} → Came w [] [] v count → Ready v u → (k : ℕ) → 0 < k → k ≤ length u.left
+    → Came w [] [] (block (u.gone + k) (drop k u.left)) (count + k)
 leap {u = u} h y k pos le =
-    let some : length (take k u) ≡ k = length-take-le k u le in
-    let here : Comes u (take k u) (drop k u) = subst (λ (l : List ℕ). Comes l (take k u) (drop k u)) (take-append-drop k u) (ahead (take k u) (drop k u)) in record {
-      bytes = h.bytes ++ take k u;
+    let some : length (take k u.left) ≡ k = length-take-le k u.left le in
+    let here : Comes u (take k u.left) (block (u.gone + k) (drop k u.left)) =
+    subst (λ (l : List ℕ). Comes (block u.gone l) (take k u.left) (block (u.gone + k) (drop k u.left))) (take-append-drop k u.left)
+    (ahead u.gone (u.gone + k) (take k u.left) (drop k u.left) (omega (arith, some))) in record {
+      bytes = h.bytes ++ take k u.left;
       comes = join h.comes (first y (omega (arith, some)) here);
-      many = omega (arith, h.many, some, length-append h.bytes (take k u));
-      put = sym (onto_nil (h.bytes ++ take k u));
+      many = omega (arith, h.many, some, length-append h.bytes (take k u.left));
+      put = sym (onto_nil (h.bytes ++ take k u.left));
     }
 
 -- fewer than n bytes are fewer than m
-fewer_still : {w l v : List ℕ} {n : ℕ} (m : ℕ) → n ≤ m → length l < n → Gives w n l v → Gives w m l v
+fewer_still : {w v : Block} {l : List ℕ} {n : ℕ} (m : ℕ) → n ≤ m → length l < n → Gives w n l v → Gives w m l v
 fewer_still m le less (all e h) = absurd (omega arith)
-fewer_still m le less (fewer less' h e) = fewer (omega arith) h e
+fewer_still m le less (fewer less' h z r e) = fewer (omega arith) h z r e
 
-most : {w l v : List ℕ} {n : ℕ} → Gives w n l v → length l ≤ n
+most : {w v : Block} {l : List ℕ} {n : ℕ} → Gives w n l v → length l ≤ n
 most (all e h) = omega arith
-most (fewer less h e) = omega arith
+most (fewer less h z r e) = omega arith
 
 -- all n bytes came
-came_all : {w l v : List ℕ} {n : ℕ} → n ≤ length l → Gives w n l v → Comes w l v
+came_all : {w v : Block} {l : List ℕ} {n : ℕ} → n ≤ length l → Gives w n l v → Comes w l v
 came_all le (all e h) = h
-came_all le (fewer less h e) = absurd (omega arith)
+came_all le (fewer less h z r e) = absurd (omega arith)
 
 -- bytes that came, and others that are wanted behind them
-behind : {w v u l k : List ℕ} {m i : ℕ} → length l + m ≡ i → Comes w l v → Gives v m k u → Gives w i (l ++ k) u
+behind : {w v u : Block} {l k : List ℕ} {m i : ℕ} → length l + m ≡ i → Comes w l v → Gives v m k u → Gives w i (l ++ k) u
 behind {l = l} {k} e h (all f g) = all (omega (arith, length-append l k)) (join h g)
-behind {l = l} {k} e h (fewer less g f) = fewer (omega (arith, length-append l k)) (join h g) f
+behind {l = l} {k} e h (fewer less g z r f) = fewer (omega (arith, length-append l k)) (join h g) z r f
 
 -- bytes that have no place, since they are none or all places are filled
 onto_more : (l k t : List ℕ) → (length l < length t → length k ≡ 0) → onto (l ++ k) t ≡ onto l t
@@ -165,7 +171,7 @@ onto_more l (x ∷ k) t h = onto_full l (x ∷ k) t (pick (ltb (length l) (lengt
     pick false e = ltb-false (length l) (length t) e
 
 -- m bytes were wanted: the first n, as many as have places, were put, and the others passed over
-module _ {w : List ℕ} (n m : ℕ) (old : List ℕ) {new v : List ℕ} {count : ℕ} (e : n ≡ min m (length old)) (h : Takes w n (take n old) new v count) where
+module _ {w : Block} (n m : ℕ) (old : List ℕ) {new : List ℕ} {v : Block} {count : ℕ} (e : n ≡ min m (length old)) (h : Takes w n (take n old) new v count) where
   placed : new ++ drop n old ≡ onto h.came old
   placed = ap (λ (l : List ℕ). l ++ drop n old) h.put ∙ onto_part n h.came old (most h.gives)
 
@@ -184,10 +190,10 @@ module _ {w : List ℕ} (n m : ℕ) (old : List ℕ) {new v : List ℕ} {count :
     comes : Comes w h.came v
     comes = came_all (omega (arith, long)) h.gives
 
-    pub remain : n ≤ length w → length v + n ≡ length w
+    pub remain : n ≤ length w.left → length v.left + n ≡ length w.left
     remain some = omega (arith, long, drawn comes (omega (arith, long)))
 
-    pub on : {u : List ℕ} {k : ℕ} → Takes v (m - n) [] [] u k → Takes w m old (new ++ drop n old) u (n + k)
+    pub on : {u : Block} {k : ℕ} → Takes v (m - n) [] [] u k → Takes w m old (new ++ drop n old) u (n + k)
     on g = record {
       came = h.came ++ g.came;
       gives = behind (omega (arith, long)) comes g.gives;

@@ -13,6 +13,7 @@ use Rattle.std.specs.Prelude.{Result, Ok, Err}
 use Rattle.print.specs.Waiting.{Output}
 use Rattle.frames.specs.declared.Ended.{Ended}
 use Rattle.frames.specs.declared.State.{State}
+use Rattle.frames.specs.Block.{Block}
 use Rattle.frames.specs.Input.{Ready, same, anew, written, settled, finished, Takes, Reads, goes, ends, Keeps}
 use Rattle.frames.proofs.Coming.{begun, short, dry, empty, readied}
 use Rattle.frames.proofs.Coming as Coming
@@ -22,18 +23,18 @@ pub outs : {o p : Output} → o.fd ≡ p.fd → o.waits ≡ p.waits → o ≡ p
 outs e f = λ i. record { fd = e i; waits = f i }
 
 module _ (s : State) (n : ℕ) where
-  pub settles : length s.input < n → settled s n ≡ written s.out.fd
+  pub settles : length s.input.left < n → settled s n ≡ written s.out.fd
   unfolding settled
-  settles h = rw (lt-ltb (length s.input) n h)
+  settles h = rw (lt-ltb (length s.input.left) n h)
 
-  pub stays : n ≤ length s.input → settled s n ≡ s.out
+  pub stays : n ≤ length s.input.left → settled s n ≡ s.out
   unfolding settled
-  stays h = rw (le-ltb (length s.input) n h)
+  stays h = rw (le-ltb (length s.input.left) n h)
 
   -- it goes where it went
   settled_fd : (settled s n).fd ≡ s.out.fd
   unfolding settled
-  settled_fd = pick (ltb (length s.input) n)
+  settled_fd = pick (ltb (length s.input.left) n)
     where
       pick : (t : Bool) → (cond t (written s.out.fd) s.out).fd ≡ s.out.fd
       pick true = refl
@@ -45,7 +46,7 @@ module _ (s : State) (n : ℕ) where
   -- no more waits than before
   settled_keeps : Keeps s.out (settled s n)
   unfolding settled
-  settled_keeps = pick (ltb (length s.input) n)
+  settled_keeps = pick (ltb (length s.input.left) n)
     where
       pick : (t : Bool) → Keeps s.out (cond t (written s.out.fd) s.out)
       pick true = refl
@@ -67,41 +68,42 @@ choice o true false r a b = absurd (true≢false (sym (a refl)))
 choice o false q r a b = rw (b refl)
 
 -- settled for n bytes and then, where w is left, for m: as for k at once
-module _ (s : State) (w : List ℕ) (n m k : ℕ) (less : length s.input < n → length s.input < k) (even : n ≤ length s.input → length w + k ≡ length s.input + m) where
+module _ (s : State) (w : Block) (n m k : ℕ) (less : length s.input.left < n → length s.input.left < k) (even : n ≤ length s.input.left → length w.left + k ≡ length s.input.left + m) where
   twice : settled (record { input = w; out = settled s n }) m ≡ settled s k
   unfolding settled
   twice =
-      let x = length s.input in
-      choice s.out (ltb x n) (ltb x k) (ltb (length w) m) (λ p. lt-ltb x k (less (ltb-true x n p)))
-      (λ p. moved x (length w) m k (even (ltb-false x n p)))
+      let x = length s.input.left in
+      choice s.out (ltb x n) (ltb x k) (ltb (length w.left) m) (λ p. lt-ltb x k (less (ltb-true x n p)))
+      (λ p. moved x (length w.left) m k (even (ltb-false x n p)))
 
 -- of a block of which something is left nothing is read
-kept : {w v : List ℕ} → Ready w v → 0 < length w → length v ≡ length w
-kept (same some e) pos = ap length e
-kept (anew z) pos = absurd (omega (arith, ap length z))
+kept : {w v : Block} → Ready w v → 0 < length w.left → length v.left ≡ length w.left
+kept (same some e) pos = ap (λ (b : Block). length b.left) e
+kept (anew z g) pos = absurd (omega (arith, ap length z))
 
 -- made ready before n bytes are wanted, where what waits is settled for one
-once : {v : List ℕ} (s : State) {n : ℕ} {o : Output} → Ready s.input v → 0 < n → o ≡ settled s 1 → settled (record { input = v; out = o }) n ≡ settled s n
+once : {v : Block} (s : State) {n : ℕ} {o : Output} → Ready s.input v → 0 < n → o ≡ settled s 1 → settled (record { input = v; out = o }) n ≡ settled s n
 once {v} s {n} y pos e =
     ap (λ (x : Output). settled (record { input = v; out = x }) n) e ∙ twice s v 1 n n (λ p. omega arith) (λ p. ap (λ (k : ℕ). k + n) (kept y p))
 
-pub begins : {X : Type 0} {v old new : List ℕ} {s t u : State} {n : ℕ} {r : Result X Ended} → u.input ≡ s.input → u.out ≡ settled s 1 → Ready u.input v → 0 < n
+pub begins : {X : Type 0} {v : Block} {old new : List ℕ} {s t u : State} {n : ℕ} {r : Result X Ended} → u.input ≡ s.input → u.out ≡ settled s 1 → Ready u.input v → 0 < n
     → Reads (record { input = v; out = u.out }) n old new t r → Reads s n old new t r
 begins {X} {v} {old} {new} {s} {t} {u} {n} {r} unread e y pos h = pick h
   where
     here : Ready s.input v
-    here = subst (λ (w : List ℕ). Ready w v) unread y
+    here = subst (λ (w : Block). Ready w v) unread y
 
     pick : Reads (record { input = v; out = u.out }) n old new t r → Reads s n old new t r
     pick (goes h le f i) = goes (readied here pos h) le (f ∙ once s here pos e) i
     pick (ends h less f i) = ends (readied here pos h) less (closed s 1 e f) i
 
 -- made ready, and nothing came
-pub nothing_comes : {X : Type 0} {v old : List ℕ} {s t u : State} {n : ℕ} (k : ℕ) {r : Result X Ended} {f : Ended} → u.input ≡ s.input → u.out ≡ settled s k → Ready u.input v → 0 < n
-    → length v ≡ 0 → t ≡ finished (record { input = v; out = u.out }) → r ≡ Err f → Reads s n old old t r
+pub nothing_comes : {X : Type 0} {v : Block} {old : List ℕ} {s t u : State} {n : ℕ} (k : ℕ) {r : Result X Ended} {f : Ended} → u.input ≡ s.input → u.out ≡ settled s k → Ready u.input v → 0 < n
+    → length v.left ≡ 0 → t ≡ finished (record { input = v; out = u.out }) → r ≡ Err f → Reads s n old old t r
 nothing_comes {v = v} {old} {s} {t} {u} {n} k {r} unread e y pos none i f =
-    let z : v ≡ [] = empty none in
-    subst (λ (x : State). Reads s n old old x r) (sym i) (ends (short (begun s.input old) n pos (sym unread ∙ dry y z) z) pos (closed s k e refl) f)
+    let z : v.left ≡ [] = empty none in
+    let here : Ready s.input v = subst (λ (w : Block). Ready w v) unread y in
+    subst (λ (x : State). Reads s n old old x r) (sym i) (ends (short (begun s.input old) n pos (dry here z) here z) pos (closed s k e refl) f)
 
 -- what was read, as another says
 pub failed : {X Y : Type 0} {s t : State} {n : ℕ} {old new : List ℕ} {r : Result X Ended} {q : Result Y Ended} {e f : Ended} → Reads s n old new t r → r ≡ Err e → q ≡ Err f → Reads s n old new t q
@@ -142,10 +144,10 @@ module _ {X : Type 0} {s t : State} {n : ℕ} (m : ℕ) (old : List ℕ) (e : n 
           rest (ends k less a b) = ends (Coming.on n m old e h le k) (omega arith) (closed s n i a) b
 
 -- settled, and then as many bytes taken as came
-here : {i j : List ℕ} {n count : ℕ} {old new v : List ℕ} → i ≡ j → Takes i n old new v count → Takes j n old new v count
-here {n = n} {count} {old} {new} {v} unread h = subst (λ (w : List ℕ). Takes w n old new v count) unread h
+here : {i j : Block} {n count : ℕ} {old new : List ℕ} {v : Block} → i ≡ j → Takes i n old new v count → Takes j n old new v count
+here {n = n} {count} {old} {new} {v} unread h = subst (λ (w : Block). Takes w n old new v count) unread h
 
-module _ {s u : State} {n : ℕ} (unread : u.input ≡ s.input) (out : u.out ≡ settled s n) {old new v : List ℕ} {count : ℕ} (h : Takes u.input n old new v count) where
+module _ {s u : State} {n : ℕ} (unread : u.input ≡ s.input) (out : u.out ≡ settled s n) {old new : List ℕ} {v : Block} {count : ℕ} (h : Takes u.input n old new v count) where
   pub filled : {X : Type 0} {x : X} → n ≤ count → Reads s n old new (record { input = v; out = u.out }) (Ok x)
   filled le = goes (here unread h) le out refl
 

@@ -1,27 +1,34 @@
 -- What comes of the input, and the state that this leaves. What the system puts into a block is not known: any bytes, and any number of them. Assumes
 -- nothing.
-use Rattle.std.specs.Prelude.{cond, List, [], ◌∷◌, ◌≡◌, ℕ, ◌≤◌, ◌<◌, ltb, length, replicate, take, Result, Ok, Err, IfOk}
+use Rattle.std.specs.Prelude.{cond, List, [], ◌∷◌, ◌≡◌, ℕ, suc, ◌≤◌, ◌<◌, ltb, length, replicate, take, Result, Ok, Err, IfOk}
 use Rattle.print.specs.Waiting.{Output}
 use Rattle.rules.specs.Bytes.{full}
+use Rattle.frames.specs.Block.{Block, block}
 use Rattle.frames.specs.Header.{header_at}
 use Rattle.frames.specs.declared.Ended.{Ended}
 use Rattle.frames.specs.declared.Event.{Event}
 use Rattle.frames.specs.declared.State.{State}
 
--- a byte is wanted, and w is left of a block: where that is nothing, another block is read
-pub data Ready (w v : List ℕ) : Type 0 where
-  same : 0 < length w → v ≡ w → Ready w v
-  anew : w ≡ [] → Ready w v
+-- a byte is wanted: where nothing is left of the block w, another is read, of which nothing is handed out yet
+pub data Ready (w v : Block) : Type 0 where
+  same : 0 < length w.left → v ≡ w → Ready w v
+  anew : w.left ≡ [] → v.gone ≡ 0 → Ready w v
 
--- bytes that came one by one, from what was left of a block to what is left
-pub data Comes : List ℕ → List ℕ → List ℕ → Type 0 where
-  none : {w : List ℕ} → Comes w [] w
-  more : {x : ℕ} {w u v l : List ℕ} → Ready w (x ∷ u) → Comes u l v → Comes w (x ∷ l) v
+-- a byte is handed out: the first that is left
+pub record Handed (w : Block) (x : ℕ) (v : Block) : Type 0 where
+  pub before : ℕ
+  pub ready : Ready w (block before (x ∷ v.left))
+  pub next : v.gone ≡ suc before
+
+-- bytes that came one by one
+pub data Comes : Block → List ℕ → Block → Type 0 where
+  none : {w : Block} → Comes w [] w
+  more : {x : ℕ} {w u v : Block} {l : List ℕ} → Handed w x u → Comes u l v → Comes w (x ∷ l) v
 
 -- n bytes were wanted and came; or fewer, since the input has ended: the block that was read then is empty
-pub data Gives (w : List ℕ) (n : ℕ) (l v : List ℕ) : Type 0 where
+pub data Gives (w : Block) (n : ℕ) (l : List ℕ) (v : Block) : Type 0 where
   all : length l ≡ n → Comes w l v → Gives w n l v
-  fewer : length l < n → Comes w l [] → v ≡ [] → Gives w n l v
+  fewer : {u : Block} → length l < n → Comes w l u → u.left ≡ [] → Ready u v → v.left ≡ [] → Gives w n l v
 
 -- bytes over the first of others, as far as there are so many
 unfoldable pub onto : List ℕ → List ℕ → List ℕ
@@ -30,7 +37,7 @@ onto (x ∷ l) [] = []
 onto (x ∷ l) (y ∷ t) = x ∷ onto l t
 
 -- n bytes were wanted, and those that came, so many, were put over `old`
-pub record Takes (w : List ℕ) (n : ℕ) (old new v : List ℕ) (count : ℕ) : Type 0 where
+pub record Takes (w : Block) (n : ℕ) (old new : List ℕ) (v : Block) (count : ℕ) : Type 0 where
   pub came : List ℕ
   pub gives : Gives w n came v
   pub counted : count ≡ length came
@@ -42,11 +49,11 @@ written fd = record { fd = fd; waits = [] }
 
 -- before n bytes are read: what waits is written out where the block does not have so many
 unfoldable pub settled : State → ℕ → Output
-settled s n = cond (ltb (length s.input) n) (written s.out.fd) s.out
+settled s n = cond (ltb (length s.input.left) n) (written s.out.fd) s.out
 
 -- before the first frame: answers go to standard output
 abbrev pub started : State
-started = record { input = []; out = written 1 }
+started = record { input = block 0 []; out = written 1 }
 
 -- nothing waits
 abbrev pub finished : State → State

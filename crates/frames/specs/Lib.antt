@@ -1,4 +1,5 @@
 pub mod Answers
+pub mod Block
 pub mod Header
 pub mod Input
 pub mod Pieces

@@ -1,6 +1,7 @@
 // Standard input, read in blocks and handed out in parts of any length.
-ghost use Rattle.std.specs.Prelude.{◌≡◌, [], ◌∷◌, ◌≤◌, length, MatchOption};
-ghost use Rattle.frames.specs.Input.{Ready, Takes};
+ghost use Rattle.std.specs.Prelude.{◌≡◌, [], ◌≤◌, length, MatchOption};
+ghost use Rattle.frames.specs.Block.{block};
+ghost use Rattle.frames.specs.Input.{Ready, Handed, Takes};
 
 use print::SIZE;
 use std::io::{Read, Stdin};
@@ -15,13 +16,14 @@ pub struct Input {
     end: usize,
 }
 
-// Clauses see the bytes that are left of the block.
+// Clauses see how many bytes of the block are handed out, and those that are left.
 impl Model for Input {
-    ghost use Rattle.std.specs.Prelude.{ℕ, List, ◌≤◌, take, drop};
+    ghost use Rattle.std.specs.Prelude.{◌≤◌, take, drop};
+    ghost use Rattle.frames.specs.Block.{Block};
 
-    ghost Value = { List ℕ };
+    ghost Value = { Block };
 
-    ghost view = { λ i. drop i.from (take i.end i.block) };
+    ghost view = { λ i. record { gone = i.from; left = drop i.from (take i.end i.block) } };
 
     ghost invariant = { λ i. (i.from ≤ i.end) × (i.end ≤ 65536) };
 }
@@ -37,7 +39,7 @@ fn refill(stdin: Stdin, block: &mut [u8]) -> usize
 impl Input {
     // Before the first byte: no block has been read.
     pub fn of(stdin: Stdin) -> Self
-        ensures { result ≡ [] }
+        ensures { result ≡ block 0 [] }
     {
         Input {
             stdin,
@@ -49,7 +51,7 @@ impl Input {
 
     // How many bytes are left of the block.
     pub(crate) fn left(&self) -> usize
-        ensures { result ≡ length self.now }
+        ensures { result ≡ length self.now.left }
     {
         self.end - self.from
     }
@@ -67,7 +69,7 @@ impl Input {
 
     // The next byte; none where the input has ended.
     fn byte(&mut self) -> Option<u8>
-        ensures { MatchOption result ((self.old ≡ []) × (self.new ≡ [])) (λ x. Ready self.old (x ∷ self.new)) }
+        ensures { MatchOption result (Ready self.old self.new × (self.new.left ≡ [])) (λ x. Handed self.old x self.new) }
     {
         self.ready();
         if self.from == self.end {
