@@ -157,7 +157,9 @@ pub fn soak(path: &str, set: Set, jobs: u64, limit: Duration) -> bool {
         }
         done += 1;
         bytes += got.len() as u64;
-        if done % SAMPLE_EVERY == 0 {
+        // Behind the last part the process ends, and what it does then is no growth.
+        let more = done < rounds * set.count && !stop.load(Ordering::Relaxed);
+        if done % SAMPLE_EVERY == 0 && more {
             samples.push((done, resident_kib(&child)));
             progress.show(|| format!("{done} {}", set.parts));
         }
