@@ -69,6 +69,14 @@ unfolding placed
 placed_full b n [] h = refl
 placed_full b n (x ∷ l) h = ap (λ a. placed a (suc n) l) (set_out b n x h) ∙ placed_full b (suc n) l (omega arith)
 
+-- a full buffer takes nothing more
+pub full : {b : List ℕ} {n : ℕ} → n ≡ length b → (l k : List ℕ) → Leaves b n l b n k
+full {b} {n} e l k =
+    let le : length b ≤ n = omega arith in record {
+      same = placed_full b n l le ∙ sym (placed_full b n k le);
+      count = omega arith;
+    }
+
 -- one digit more
 module _ (b : List ℕ) (n x d : ℕ) (ds k : List ℕ) where
   pub byte_lost : n ≡ length b → Leaves b n (bytes_of (x ∷ d ∷ ds) ++ k) b n (bytes_of ds ++ k)

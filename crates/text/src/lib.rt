@@ -100,6 +100,10 @@ fn append(text: &[u8], bytes: &mut [u8], n: usize) -> usize
     ensures upper_bound { result ≤ length bytes.new }
     ensures by_index { (k : List ℕ) → Leaves bytes.old n (plain text.now ++ k) bytes.new result k }
 {
+    // In a full area nothing is put, however often a text is repeated.
+    if n == bytes.len() {
+        return n;
+    }
     let mut s = Spot {
         count: n,
         high: None,

@@ -21,9 +21,15 @@ fn line(out: &mut Out, entry: &[u8])
 }
 
 // The name, the answer, the board lines, of five bytes each, and the values of the variables.
-pub fn show(name: &[u8], o: Outcome, lines: &[u8], values: &[i32], variables: usize) {
+pub fn show(
+    out: &mut Out,
+    name: &[u8],
+    o: Outcome,
+    lines: &[u8],
+    values: &[i32],
+    variables: usize,
+) {
     let a = answer::of(o);
-    let mut out = Out::to(print::OUTPUT);
     out.text(name);
     out.item(b": ending ", u64::from(a.ending));
     out.item(b" at ", a.index as u64);
@@ -31,11 +37,11 @@ pub fn show(name: &[u8], o: Outcome, lines: &[u8], values: &[i32], variables: us
     out.item(b", lines ", a.lines as u64);
     out.text(b", board");
     for entry in lines.chunks_exact(5).take(a.lines) {
-        line(&mut out, entry);
+        line(out, entry);
     }
     out.text(b", values");
     for v in values.iter().take(variables) {
-        signed(&mut out, bits(*v));
+        signed(out, bits(*v));
     }
     out.byte(b'\n');
     out.flush();

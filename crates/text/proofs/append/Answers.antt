@@ -1,9 +1,12 @@
--- `append` meets its contract: what is left to be stored is what the rest of the text spells. Assumes nothing.
+-- `append` meets its contract: a full area stays, else what is left to be stored is what the rest of the text spells. Assumes nothing.
 use Rattle.std.proofs.Common.{ap, ◌+◌, ◌++◌, drop, arith, rules, option_to_list}
 use Rattle.text.specs.Hex.{digits, bytes_of, plain}
-use Rattle.text.proofs.Spelling.{then, nothing_yet, instead, digits_past, digits_pass, bytes_end}
+use Rattle.text.proofs.Spelling.{full, then, nothing_yet, instead, digits_past, digits_pass, bytes_end}
 use Rattle.text.proofs.append.Goals as goal
 use Rattle.text.proofs.append.Goals.{in-Some, in_default}
+
+pub returns-then-n-bytes-clause-by_index : goal.returns-then-n-bytes-clause-by_index
+returns-then-n-bytes-clause-by_index c = λ k. full c.if-n-bytes.true (plain c.args.text.now ++ k) k
 
 pub loop-c-init : goal.loop-c-init
 unfolding plain
