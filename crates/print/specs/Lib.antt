@@ -1,3 +1,4 @@
 pub mod Answers
 pub mod Preorder
 pub mod Waiting
+pub mod Zeros

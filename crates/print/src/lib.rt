@@ -20,22 +20,28 @@ pub const OUTPUT: u8 = 1;
 pub const ERRORS: u8 = 2;
 
 // Where the output goes, and the buffer, in which the first bytes wait.
-#[derive(Drop)]
+#[derive(Clone, Copy)]
 pub struct Out {
     fd: u8,
     used: usize,
     buf: [u8; SIZE],
 }
 
+// Clauses see where it goes and what waits. Behind that the buffer holds zeros alone: so a value gives its fields back, and an output may be copied.
 impl Model for Out {
-    ghost use Rattle.std.specs.Prelude.{◌≤◌, take};
+    ghost use Rattle.std.specs.Prelude.{◌-◌, ◌++◌, length, take, replicate};
     ghost use Rattle.print.specs.Waiting.{Output};
+    ghost use Rattle.print.specs.Zeros.{Padded, count, whole};
 
     ghost Value = { Output };
 
     ghost view = { λ o. record { fd = o.fd; waits = take o.used o.buf } };
 
-    ghost invariant = { λ o. o.used ≤ 65536 };
+    ghost invariant = { λ o. Padded o.used o.buf };
+
+    ghost inverse = { λ v. record { fd = v.fd; used = length v.waits; buf = v.waits ++ replicate (65536 - length v.waits) 0 } };
+
+    ghost inverse_ok = { λ o h i. record { fd = o.fd; used = count h i; buf = whole h i } };
 }
 
 impl Out {
@@ -50,11 +56,12 @@ impl Out {
         }
     }
 
-    // Writes out what waits.
+    // Writes out what waits, and leaves zeros in its place.
     pub fn flush(&mut self)
         ensures { (self.new.fd ≡ self.old.fd) × (self.new.waits ≡ []) }
     {
         io::write_all(i32::from(self.fd), &self.buf[..self.used]);
+        self.buf[..self.used].fill(0);
         self.used = 0;
     }
 
