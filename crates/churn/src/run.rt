@@ -6,7 +6,7 @@ use table::{NIL, Side, Taken, WORDS, node, shape, walk};
 const PLACES: usize = 512;
 
 // The table, the cursor, the free places, and what was counted so far.
-#[derive(Drop)]
+#[derive(Clone, Copy)]
 pub struct Run {
     words: [u32; WORDS],
     pub at: usize,
