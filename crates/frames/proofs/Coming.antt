@@ -9,7 +9,7 @@ use lib.Dec.{ltb}
 use lib.ListN.{length, take, drop, set, length-append, take-append-drop}
 use Rattle.std.proofs.Common.{length-take-le}
 use borrow.Author.Tests.{ltb-true, ltb-false}
-use Rattle.frames.specs.Block.{Block, block}
+use Rattle.frames.specs.Block.{Block, at}
 use Rattle.frames.specs.Input.{Ready, same, anew, Handed, Comes, none, more, Gives, all, fewer, onto, Takes}
 
 -- of no bytes
@@ -52,15 +52,15 @@ pub readied : {w v u : Block} {old new : List ℕ} {n count : ℕ} → Ready w v
 readied y pos h = record { came = h.came; gives = primed y pos h.gives; counted = h.counted; put = h.put }
 
 -- bytes of one block
-ahead : (g h : ℕ) (l u : List ℕ) → h ≡ g + length l → Comes (block g (l ++ u)) l (block h u)
-ahead g h [] u e = let q : g ≡ h = omega (arith, e) in subst (λ (k : ℕ). Comes (block g u) [] (block k u)) q none
-ahead g h (x ∷ l) u e = more {u = block (suc g) (l ++ u)} (record { before = g; ready = same (omega arith) refl; next = refl }) (ahead (suc g) h l u (omega (arith, e)))
+ahead : (b : Block) (g h : ℕ) (l u : List ℕ) → h ≡ g + length l → Comes (at b g (l ++ u)) l (at b h u)
+ahead b g h [] u e = let q : g ≡ h = omega (arith, e) in subst (λ (k : ℕ). Comes (at b g u) [] (at b k u)) q none
+ahead b g h (x ∷ l) u e = more {u = at b (suc g) (l ++ u)} (record { before = g; ready = same (omega arith) refl; next = refl }) (ahead b (suc g) h l u (omega (arith, e)))
 
 -- of a block of which something is left the first byte is taken
 lessened : {w v : Block} {x : ℕ} → Handed w x v → 0 < length w.left → length v.left + 1 ≡ length w.left
 lessened {w} {v} {x} h pos = pick h.ready
   where
-    pick : Ready w (block h.before (x ∷ v.left)) → length v.left + 1 ≡ length w.left
+    pick : Ready w (at v h.before (x ∷ v.left)) → length v.left + 1 ≡ length w.left
     pick (same some e) = omega (arith, ap (λ (b : Block). length b.left) e)
     pick (anew z g) = absurd (omega (arith, ap length z))
 
@@ -130,12 +130,12 @@ module _ {w : Block} {old new : List ℕ} {v : Block} {count : ℕ} (h : Came w 
 
 -- k bytes more of a block, which are put nowhere
 pub leap : {w v u : Block} {count : ℕ} → Came w [] [] v count → Ready v u → (k : ℕ) → 0 < k → k ≤ length u.left
-    → Came w [] [] (block (u.gone + k) (drop k u.left)) (count + k)
+    → Came w [] [] (at u (u.gone + k) (drop k u.left)) (count + k)
 leap {u = u} h y k pos le =
     let some : length (take k u.left) ≡ k = length-take-le k u.left le in
-    let here : Comes u (take k u.left) (block (u.gone + k) (drop k u.left)) =
-    subst (λ (l : List ℕ). Comes (block u.gone l) (take k u.left) (block (u.gone + k) (drop k u.left))) (take-append-drop k u.left)
-    (ahead u.gone (u.gone + k) (take k u.left) (drop k u.left) (omega (arith, some))) in record {
+    let here : Comes u (take k u.left) (at u (u.gone + k) (drop k u.left)) =
+    subst (λ (l : List ℕ). Comes (at u u.gone l) (take k u.left) (at u (u.gone + k) (drop k u.left))) (take-append-drop k u.left)
+    (ahead u u.gone (u.gone + k) (take k u.left) (drop k u.left) (omega (arith, some))) in record {
       bytes = h.bytes ++ take k u.left;
       comes = join h.comes (first y (omega (arith, some)) here);
       many = omega (arith, h.many, some, length-append h.bytes (take k u.left));

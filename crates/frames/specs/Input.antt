@@ -1,9 +1,10 @@
 -- What comes of the input, and the state that this leaves. What the system puts into a block is not known: any bytes, and any number of them. Assumes
 -- nothing.
 use Rattle.std.specs.Prelude.{cond, List, [], ◌∷◌, ◌≡◌, ℕ, suc, ◌≤◌, ◌<◌, ltb, length, replicate, take, Result, Ok, Err, IfOk}
+use Rattle.std.specs.declared.io.Stdin.{Stdin}
 use Rattle.print.specs.Waiting.{Output}
 use Rattle.rules.specs.Bytes.{full}
-use Rattle.frames.specs.Block.{Block, block}
+use Rattle.frames.specs.Block.{Block, at, unread}
 use Rattle.frames.specs.Header.{header_at}
 use Rattle.frames.specs.declared.Ended.{Ended}
 use Rattle.frames.specs.declared.Event.{Event}
@@ -17,7 +18,7 @@ pub data Ready (w v : Block) : Type 0 where
 -- a byte is handed out: the first that is left
 pub record Handed (w : Block) (x : ℕ) (v : Block) : Type 0 where
   pub before : ℕ
-  pub ready : Ready w (block before (x ∷ v.left))
+  pub ready : Ready w (at v before (x ∷ v.left))
   pub next : v.gone ≡ suc before
 
 -- bytes that came one by one
@@ -52,8 +53,8 @@ unfoldable pub settled : State → ℕ → Output
 settled s n = cond (ltb (length s.input.left) n) (written s.out.fd) s.out
 
 -- before the first frame: answers go to standard output
-abbrev pub started : State
-started = record { input = block 0 []; out = written 1 }
+abbrev pub started : Stdin → State
+started stdin = record { input = unread stdin; out = written 1 }
 
 -- nothing waits
 abbrev pub finished : State → State

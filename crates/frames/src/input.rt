@@ -1,6 +1,6 @@
 // Standard input, read in blocks and handed out in parts of any length.
 ghost use Rattle.std.specs.Prelude.{◌≡◌, [], ◌≤◌, length, MatchOption};
-ghost use Rattle.frames.specs.Block.{block};
+ghost use Rattle.frames.specs.Block.{unread};
 ghost use Rattle.frames.specs.Input.{Ready, Handed, Takes};
 
 use print::SIZE;
@@ -8,7 +8,7 @@ use std::io::{Read, Stdin};
 use std::marker::Model;
 
 // The block that was read last, of which the bytes between two places are not yet handed out.
-#[derive(Drop)]
+#[derive(Clone, Copy)]
 pub struct Input {
     stdin: Stdin,
     block: [u8; SIZE],
@@ -16,16 +16,20 @@ pub struct Input {
     end: usize,
 }
 
-// Clauses see how many bytes of the block are handed out, and those that are left.
+// Clauses see how many bytes of the block are handed out, those that are left, and all of it: so a value gives its fields back, and an input may be copied.
 impl Model for Input {
-    ghost use Rattle.std.specs.Prelude.{◌≤◌, take, drop};
-    ghost use Rattle.frames.specs.Block.{Block};
+    ghost use Rattle.std.specs.Prelude.{◌≡◌, ◌≤◌, ◌+◌, length, take, drop};
+    ghost use Rattle.frames.specs.Block.{Block, ends};
 
     ghost Value = { Block };
 
-    ghost view = { λ i. record { gone = i.from; left = drop i.from (take i.end i.block) } };
+    ghost view = { λ i. record { gone = i.from; left = drop i.from (take i.end i.block); bytes = i.block; stdin = i.stdin } };
 
-    ghost invariant = { λ i. (i.from ≤ i.end) × (i.end ≤ 65536) };
+    ghost invariant = { λ i. (i.from ≤ i.end) × (i.end ≤ 65536) × (length i.block ≡ 65536) };
+
+    ghost inverse = { λ b. record { stdin = b.stdin; block = b.bytes; from = b.gone; end = b.gone + length b.left } };
+
+    ghost inverse_ok = { λ i h j. record { stdin = i.stdin; block = i.block; from = i.from; end = ends i.block h.0 h.1 h.2 j } };
 }
 
 // Reads once, and says how many bytes came: none where the input has ended or the read fails.
@@ -39,7 +43,7 @@ fn refill(stdin: Stdin, block: &mut [u8]) -> usize
 impl Input {
     // Before the first byte: no block has been read.
     pub fn of(stdin: Stdin) -> Self
-        ensures { result ≡ block 0 [] }
+        ensures { result ≡ unread stdin }
     {
         Input {
             stdin,

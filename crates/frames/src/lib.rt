@@ -20,7 +20,7 @@ use std::io::Stdin;
 pub struct Ended;
 
 // What is read and what is to be written, from one frame to the next.
-#[derive(Drop)]
+#[derive(Clone, Copy)]
 pub struct State {
     pub input: Input,
     pub out: Out,
@@ -28,7 +28,7 @@ pub struct State {
 
 impl State {
     pub fn start(stdin: Stdin) -> Self
-        ensures { result ≡ started }
+        ensures { result ≡ started stdin }
     {
         State {
             input: Input::of(stdin),

@@ -1,6 +1,6 @@
 -- `skip` meets its contract: each turn drops what is left of the block, the last one as much as is wanted. Assumes nothing.
 use Rattle.std.proofs.Common.{◌≡◌, [], ◌+◌, arith, rules, drop-drop, ap, sym, refl, ◌∙◌, take, drop, subst}
-use Rattle.frames.specs.Block.{Block, block}
+use Rattle.frames.specs.Block.{Block}
 use Rattle.frames.proofs.Coming.{Came, begun, whole, short, leap, empty, dry}
 use Rattle.frames.proofs.input.Input.skip.Goals as goal
 
@@ -14,7 +14,8 @@ loop-count-preserved c = (
       let there : c.ready.new.self.gone + c.min-k.result ≡ i.from + c.min-k.result = ap (λ (b : Block). b.gone + c.min-k.result) (sym c.self.view_is) in
       let rest : drop c.min-k.result c.ready.new.self.left ≡ drop (i.from + c.min-k.result) (take i.end i.block) =
       ap (λ (b : Block). drop c.min-k.result b.left) (sym c.self.view_is) ∙ drop-drop c.min-k.result i.from (take i.end i.block) in
-      subst (λ (u : Block). Came c.args.self.now [] [] u (c.loop-count.count + c.min-k.result)) (λ j. block (there j) (rest j))
+      subst (λ (u : Block). Came c.args.self.now [] [] u (c.loop-count.count + c.min-k.result))
+      (λ j. record { gone = there j; left = rest j; bytes = ap (λ (b : Block). b.bytes) (sym c.self.view_is) j; stdin = ap (λ (b : Block). b.stdin) (sym c.self.view_is) j })
       (leap c.loop-count.invariant.1 c.ready.ensures c.min-k.result (omega arith) (omega arith)),
 )
 
