@@ -4,12 +4,12 @@ use mathlib.Core.Path.{◌≡◌, refl, sym, ap, subst, ◌∙◌}
 use mathlib.Core.Bool.{Bool, true, false, cond}
 use Rattle.std.specs.Prelude.{None, Some}
 use Rattle.std.proofs.lemmas.Option.{none-some, same_Some}
-use Prim.Native.Nat.{ℕ, suc, ◌+◌, ◌-◌, ◌<◌, ◌≤◌}
+use Prim.Native.Nat.{ℕ, zero, suc, ◌+◌, ◌-◌, ◌<◌, ◌≤◌}
 use native.Mathlib.Omega.{arith}
 use borrow.Author.Tests.{ltb-true, ltb-false, lt-ltb, le-ltb, eq-eqb, ne_eqb}
 use lib.Dec.{ltb}
-use lib.IntN.{ℤ, pos, negsuc, sub_ℕ, ◌+ℤ◌}
-use lib.Signed.{mag, lt_z, shr_z}
+use lib.IntN.{ℤ, pos, negsuc, neg_ℤ, nat_abs, sub_ℕ, ◌+ℤ◌, ◌-ℤ◌}
+use lib.Signed.{mag, nat_abs-le, lt_z, shr_z}
 use mir.Syntax.{w32}
 use mir.Val.{SFits, sel, to_z, of_z, bool_byte}
 use mir.Facts.{sfits_to_z, to_z-of_z, of_z-to_z}
@@ -56,7 +56,15 @@ signed_bits {v} h = signed_to_z (bits v) ∙ ap (to_z w32) (bits_of_z h) ∙ to_
 pub bits_signed : (w : ℕ) → w < range → bits (signed w) ≡ w
 bits_signed w h = bits_of_z (signed_fits w h) ∙ ap (of_z w32) (signed_to_z w) ∙ of_z-to_z {w = w32} (record { fits = h })
 
--- ---- what fits, and what does not
+-- ---- sums and differences
+
+pub sub_less : (a b : ℕ) → a < b → sub_ℕ a b ≡ negsuc (b - suc a)
+sub_less a b h = rw (lt-ltb a b h)
+
+pub sub_more : (a b : ℕ) → b ≤ a → sub_ℕ a b ≡ pos (a - b)
+sub_more a b h = rw (le-ltb a b h)
+
+-- what fits, and what does not
 
 pub fitting_in : (z : ℤ) → SFits w32 z → fitting z ≡ Some z
 unfolding fitting
@@ -81,15 +89,24 @@ mag_sub a b k h g = by (ltb a b)
     by true = omega arith
     by false = omega arith
 
-mag_add : (x y : ℤ) (k : ℕ) → mag x < k → mag y < k → mag (x +ℤ y) < k + k
+-- y may be -k or k, so that this serves differences too
+mag_add : (x y : ℤ) (k : ℕ) → mag x < k → nat_abs y ≤ k → mag (x +ℤ y) < k + k
 mag_add (pos a) (pos b) k h g = omega arith
-mag_add (pos a) (negsuc b) k h g = omega (arith, mag_sub a (suc b) k h (omega arith))
-mag_add (negsuc a) (pos b) k h g = omega (arith, mag_sub b (suc a) k g (omega arith))
+mag_add (pos a) (negsuc b) k h g = omega (arith, mag_sub a (suc b) k h g)
+mag_add (negsuc a) (pos b) k h g = omega (arith, mag_sub b (suc a) (suc k) (omega arith) (omega arith))
 mag_add (negsuc a) (negsuc b) k h g = omega arith
 
--- an exact sum is less than one turn from zero
+nat_abs_neg : (y : ℤ) → nat_abs (neg_ℤ y) ≡ nat_abs y
+nat_abs_neg (pos zero) = refl
+nat_abs_neg (pos (suc n)) = refl
+nat_abs_neg (negsuc n) = refl
+
+-- exact results are less than one turn from zero
 pub mag_sum : {a b : ℤ} → SFits w32 a → SFits w32 b → mag (a +ℤ b) < range
-mag_sum {a} {b} ha hb = mag_add a b half_range ha.sfits hb.sfits
+mag_sum {a} {b} ha hb = mag_add a b half_range ha.sfits (nat_abs-le b hb.sfits)
+
+pub mag_difference : {a b : ℤ} → SFits w32 a → SFits w32 b → mag (a -ℤ b) < range
+mag_difference {a} {b} ha hb = mag_add a (neg_ℤ b) half_range ha.sfits (rw nat_abs_neg (nat_abs-le b hb.sfits))
 
 -- ---- tests
 
